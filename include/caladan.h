@@ -10,13 +10,21 @@
  * and [not proved] that nothing does. docs/PROMISES.md has them all. Nothing checks what a caller in C
  * owes:
  *  - A handle begins as CALADAN_CLOSED and is only changed by these calls. It is not copied to be used
- *    twice, and nobody reads or writes what it points to. One call at a time on a handle, on the thread
- *    that opened it: what is proved is proved of one thread.
+ *    twice, and nobody reads or writes what it points to. One call at a time on a handle. It may move from
+ *    one thread to another, as from the one that reads a table to the one that polls, where they give it to
+ *    each other in order: each call ends before the next begins, as a mutex, a join or a release store and
+ *    an acquire load of it make sure. What is proved is proved of one thread, and calls in such an order are
+ *    those of one thread: the library keeps nothing but what the handle points to, in no thread's own
+ *    storage and no static one [tested: neither is in the archive], and what one thread allocated another
+ *    may free (malloc, below). Calls on different handles may be made at the same time.
+ *  - The three kinds of handles have types of their own. A call that is given one of another kind all the
+ *    same, by a cast, answers as of a closed one [closed, already] and changes nothing [same, refused,
+ *    unchanged, other]; to open in it is IS_OPEN [already].
  *  - Pointers are aligned, and have room for as many elements as the number after them says. They are not
  *    null, but where that number is 0. No two arguments overlap, but for those that are only read (const).
- *  - malloc, realloc and free are of one allocator, and blocks are aligned to each power of two up to 16
- *    that divides their size. No call comes from a signal handler, nor from the forked child of a
- *    process with threads.
+ *  - malloc, realloc and free are of one allocator, which threads may share where a handle moves or several
+ *    are used, and blocks are aligned to each power of two up to 16 that divides their size. No call comes
+ *    from a signal handler, nor from the forked child of a process with threads.
  *
  * To serve processes that you do not trust, make passes by caladan_pass_each: whatever one of them shows,
  * the others are served. What lies in a process's own memory (its page, its ring) is what that process
@@ -27,6 +35,10 @@
  * change are the words of the texts and how fast a call answers. A higher version may have more calls,
  * numbers and fields, and says so here; the soname of libcaladan_c.so has the version.
  *
+ * Since version 3: a handle may move from one thread to another, and one of another kind is taken for a closed
+ * one. New are tables of rows (caladan_open_rows, and the same of a guard and an audit), what a policy of your
+ * own chooses by (caladan_guard_judge, caladan_guard_kept, caladan_guard_ban, caladan_guard_last), caladan_kept
+ * and caladan_next_clock.
  * Since version 2: no pass answers CALADAN_NO_MEMORY any more, and a core may be given as any number, also
  * one above 255. New are the words of a look as one run (CALADAN_WORDS, caladan_look_words,
  * caladan_look_set_words) and CALADAN_IS_THIS_VERSION.
@@ -48,7 +60,7 @@ extern "C" {
 
 /* The version of this interface, which caladan_version answers. Whether the library that a program is linked
  * with has it, so that what this header says is said of that library: */
-#define CALADAN_VERSION 3
+#define CALADAN_VERSION 4
 #define CALADAN_IS_THIS_VERSION() (caladan_version() == CALADAN_VERSION)
 
 /* What the library takes each struct to be, in bytes: its size, and the place of each field. A compiler for
@@ -232,7 +244,7 @@ CALADAN_PLACE(caladan_counts, held, 0);
 CALADAN_PLACE(caladan_counts, booked, 1);
 CALADAN_PLACE(caladan_counts, cap, 2);
 
-/* The version: 3 [proved]. */
+/* The version: 4 [proved]. */
 uint32_t caladan_version(void);
 
 /* Opens the task table that a text spells (docs/POLICY.md), in a closed handle: DONE, or the table's
@@ -330,6 +342,12 @@ CALADAN_PLACE(caladan_thread_state, sent, 8);
 CALADAN_PLACE(caladan_thread_state, taken, 16);
 uint8_t caladan_thread(caladan *handle, size_t thread, caladan_thread_state *state);
 
+/* The kept record of a thread after the passes so far, by which the next pass decides unless its look is
+ * kept: as a look with these words, in which all else is 0; before any the words are 0 too [told]. DONE
+ * exactly of a thread that the table has [there], else NO_SUCH [no_thread]; IS_CLOSED [closed]. Unless DONE
+ * *look is as before [refused]. Nothing changes [same]. */
+uint8_t caladan_kept(caladan *handle, size_t thread, caladan_look *look);
+
 /* What the page of a thread must show once the thread is gone, as a look without room: it has taken what
  * was sent, is on no core and has no request; misses and stamp are those that it showed last; its place is the
  * one after the last [told]. The host publishes it on the page, or gives the look itself to the next pass.
@@ -379,9 +397,157 @@ static inline caladan_look caladan_taken(const caladan_look *look, uint8_t judge
     return taken;
 }
 
-/* Lets go of what the handle keeps: DONE [closed], or IS_CLOSED [already]. The handle is closed then
- * [after]. */
+/* Lets go of what the handle keeps: DONE [closed], and the handle is closed then [after]; or IS_CLOSED
+ * [already], and nothing changes [other]. */
 uint8_t caladan_close(caladan *handle);
+
+/* A table from rows instead of a text. Each row is as caladan_table_task tells it; first_thread is not read.
+ * What is here writes the text of the rows and opens that: none of it is proved, tools/c_library tests it. */
+enum { CALADAN_ROWS_ROOM = 2048, CALADAN_TOO_MANY_ROWS = 17 };
+
+/* Where a table of rows is refused. */
+typedef struct caladan_wrong {
+    size_t row;        /* the row, from 0; the number of rows where it is none of theirs */
+    const char *field; /* the field's name in caladan_table_row, or "cores", "bandwidth_limit" or "count"; null
+                          where none is at fault, as without memory */
+} caladan_wrong;
+
+static inline char *caladan_add_text(char *at, const char *text) {
+    size_t length = strlen(text);
+    memcpy(at, text, length);
+    return at + length;
+}
+
+/* A line of a key and its number. One above INT64_MAX is in no text, and is written as that: no key has as much. */
+static inline char *caladan_add_number(char *at, const char *key, uint64_t number) {
+    char digits[20];
+    size_t count = 0;
+    at = caladan_add_text(caladan_add_text(at, key), " = ");
+    if (number > INT64_MAX) number = INT64_MAX;
+    do digits[count++] = (char)('0' + number % 10);
+    while (number /= 10);
+    while (count) *at++ = digits[--count];
+    *at++ = '\n';
+    return at;
+}
+
+/* Writes the text of a table, and answers its length. Of more rows than CALADAN_TOO_MANY_ROWS it writes as many,
+ * which are too many. */
+static inline size_t caladan_rows_text(size_t cores, uint64_t bandwidth_limit, const caladan_table_row *rows, size_t count,
+                                       char text[CALADAN_ROWS_ROOM]) {
+    char *at = caladan_add_number(text, "cores", cores);
+    at = caladan_add_number(at, "bandwidth_limit", bandwidth_limit);
+    if (!count) at = caladan_add_text(at, "task = []\n");
+    for (size_t k = 0; k < count && k < CALADAN_TOO_MANY_ROWS; k++) {
+        const char *kind = rows[k].kind == CALADAN_LATENCY_CRITICAL ? "lc" : rows[k].kind == CALADAN_BEST_EFFORT ? "be" : "none";
+        at = caladan_add_text(at, "[[task]]\nkind = \"");
+        at = caladan_add_text(caladan_add_text(at, kind), "\"\n");
+        at = caladan_add_number(at, "guaranteed", rows[k].guaranteed);
+        at = caladan_add_number(at, "limit", rows[k].limit);
+        at = caladan_add_number(at, "delay", rows[k].delay);
+        at = caladan_add_number(at, "request", rows[k].request);
+    }
+    return (size_t)(at - text);
+}
+
+/* Whether a table of these rows is refused so. */
+static inline bool caladan_is_refused(uint8_t fault, size_t cores, uint64_t bandwidth_limit, const caladan_table_row *rows, size_t count) {
+    char text[CALADAN_ROWS_ROOM];
+    caladan handle = CALADAN_CLOSED;
+    uint8_t answer = caladan_open((const uint8_t *)text, caladan_rows_text(cores, bandwidth_limit, rows, count, text), &handle);
+    if (answer == CALADAN_DONE) caladan_close(&handle);
+    return answer == fault;
+}
+
+/* Which field of a row is refused so by itself: the fields are given their values in the order of the checks. */
+static inline const char *caladan_wrong_field(uint8_t fault, size_t cores, const caladan_table_row *row) {
+    caladan_table_row so_far = {CALADAN_LATENCY_CRITICAL, 0, 1, 0, 0, 0};
+    if (fault == CALADAN_GUARANTEES_EXCEED_CORES) return "guaranteed";
+    if (fault == CALADAN_TOO_MANY_THREADS) return "limit";
+    so_far.kind = row->kind;
+    if (caladan_is_refused(fault, cores, 0, &so_far, 1)) return "kind";
+    so_far.limit = row->limit;
+    if (caladan_is_refused(fault, cores, 0, &so_far, 1)) return "limit";
+    so_far.guaranteed = row->guaranteed;
+    if (caladan_is_refused(fault, cores, 0, &so_far, 1)) return "guaranteed";
+    so_far.delay = row->delay;
+    if (caladan_is_refused(fault, cores, 0, &so_far, 1)) return "delay";
+    so_far.request = row->request;
+    return caladan_is_refused(fault, cores, 0, &so_far, 1) ? "request" : NULL;
+}
+
+/* Where a table of rows has the fault that it is refused for. A sum is at fault in the row with which it is too great. */
+static inline caladan_wrong caladan_find_wrong(uint8_t fault, size_t cores, uint64_t bandwidth_limit, const caladan_table_row *rows,
+                                               size_t count) {
+    caladan_table_row plain[CALADAN_TOO_MANY_ROWS];
+    caladan_wrong wrong = {count, NULL};
+    const size_t most = CALADAN_TOO_MANY_ROWS, few = count < most ? count : most;
+    for (size_t k = 0; k < CALADAN_TOO_MANY_ROWS; k++) {
+        caladan_table_row row = {CALADAN_LATENCY_CRITICAL, 0, 1, 0, 0, 0};
+        plain[k] = row;
+    }
+    if (caladan_is_refused(fault, cores, 0, plain, 1)) wrong.field = "cores";
+    else if (caladan_is_refused(fault, 2, bandwidth_limit, plain, 1)) wrong.field = "bandwidth_limit";
+    else if (caladan_is_refused(fault, 2, 0, plain, few)) wrong.field = "count";
+    for (size_t k = 0; k < few && !wrong.field && wrong.row == count; k++)
+        if (caladan_is_refused(fault, cores, bandwidth_limit, rows, k + 1)) wrong.row = k;
+    if (wrong.row < count) wrong.field = caladan_wrong_field(fault, cores, &rows[wrong.row]);
+    return wrong;
+}
+
+/* The answer of a call that opened the table of these rows; where it is a fault of the table, *wrong says
+ * where. wrong may be null. */
+static inline uint8_t caladan_rows_answer(uint8_t answer, size_t cores, uint64_t bandwidth_limit,
+                                          const caladan_table_row *rows, size_t count, caladan_wrong *wrong) {
+    if (wrong && answer && answer < CALADAN_NO_MEMORY)
+        *wrong = caladan_find_wrong(answer, cores, bandwidth_limit, rows, count);
+    return answer;
+}
+
+/* Opens the table of these rows in a closed handle: what caladan_open answers to their text. Of the faults of
+ * a table there remain OUT_OF_RANGE, BEST_EFFORT_GUARANTEE, GUARANTEES_EXCEED_CORES and TOO_MANY_THREADS; each
+ * is said of the place at which the checks of docs/POLICY.md find it first, in *wrong, which no other answer
+ * writes [tested]. wrong may be null. */
+static inline uint8_t caladan_open_rows(size_t cores, uint64_t bandwidth_limit, const caladan_table_row *rows, size_t count,
+                                        caladan *handle, caladan_wrong *wrong) {
+    char text[CALADAN_ROWS_ROOM];
+    uint8_t answer = caladan_open((const uint8_t *)text, caladan_rows_text(cores, bandwidth_limit, rows, count, text), handle);
+    return caladan_rows_answer(answer, cores, bandwidth_limit, rows, count, wrong);
+}
+
+/* The first clock at which something that came at `came` is more than `ticks` ago, where that is after now and
+ * before `next`; else next. */
+static inline uint64_t caladan_first_clock(uint64_t came, uint64_t ticks, uint64_t now, uint64_t next) {
+    if (came >= UINT64_MAX - ticks) return next;
+    return came + ticks + 1 > now && came + ticks + 1 < next ? came + ticks + 1 : next;
+}
+
+/* When to make the next pass, if no page changes until then. A pass at now has made no action: then no pass
+ * makes one at a clock from now on and below *clock, as long as the looks say the same, no ring gets or loses
+ * room, and the bandwidth figure stays on its side of the limit. At *clock a request has waited, or run, longer
+ * than its task's row says, which may change what a pass does; UINT64_MAX: at no clock. DONE or IS_CLOSED,
+ * which writes nothing. It goes by the kept records and the table alone, and is not proved; tools/c_library
+ * tests it against the passes of each example of decide, and on made ones. */
+static inline uint8_t caladan_next_clock(caladan *handle, uint64_t now, uint64_t *clock) {
+    caladan_machine machine;
+    uint64_t next = UINT64_MAX;
+    uint8_t answer = caladan_table(handle, &machine);
+    if (answer != CALADAN_DONE) return answer;
+    for (size_t task = 0; task < machine.tasks; task++) {
+        caladan_table_row row;
+        caladan_look kept;
+        caladan_table_task(handle, task, &row);
+        for (size_t k = row.first_thread; k < (size_t)row.first_thread + row.limit; k++) {
+            caladan_kept(handle, k, &kept);
+            if (kept.queued) next = caladan_first_clock(kept.oldest, row.delay, now, next);
+            if (kept.paused) next = caladan_first_clock(kept.since, row.delay, now, next);
+            if (row.kind == CALADAN_LATENCY_CRITICAL && kept.running && kept.started)
+                next = caladan_first_clock(kept.started, row.request, now, next);
+        }
+    }
+    *clock = next;
+    return CALADAN_DONE;
+}
 
 /* An audit of passes that were recorded, by this scheduler or by another that says it keeps the policy.
  * It is handed one pass after the other, from the first, and says at any time whether all of them are
@@ -404,6 +570,14 @@ CALADAN_PLACE(caladan_audit, at, 8);
  * already, refused]. */
 uint8_t caladan_audit_open(const uint8_t *table, size_t length, caladan_audit *audit);
 
+/* Opens the table of these rows, as caladan_open_rows does [tested]. */
+static inline uint8_t caladan_audit_open_rows(size_t cores, uint64_t bandwidth_limit, const caladan_table_row *rows, size_t count,
+                                              caladan_audit *audit, caladan_wrong *wrong) {
+    char text[CALADAN_ROWS_ROOM];
+    uint8_t answer = caladan_audit_open((const uint8_t *)text, caladan_rows_text(cores, bandwidth_limit, rows, count, text), audit);
+    return caladan_rows_answer(answer, cores, bandwidth_limit, rows, count, wrong);
+}
+
 /* The next recorded pass: its looks, what was judged of each (the same count), and its actions, as
  * caladan_pass takes and answers them. DONE where it was taken, legal or not [taken]; else IS_CLOSED
  * [closed], WRONG_COUNT (not one judgement for each look) [wrong_count], NO_ACTION [no_action],
@@ -419,8 +593,8 @@ uint8_t caladan_audit_pass(caladan_audit *audit, uint64_t now, uint64_t bandwidt
  * IS_CLOSED [closed]. Only ILLEGAL writes *pass [other]. Nothing changes [same]. */
 uint8_t caladan_audit_verdict(caladan_audit *audit, uint64_t *pass);
 
-/* Lets go of what the audit keeps: DONE [closed], or IS_CLOSED [already]. The handle is closed then
- * [after]. */
+/* Lets go of what the audit keeps: DONE [closed], and the handle is closed then [after]; or IS_CLOSED
+ * [already], and nothing changes [other]. */
 uint8_t caladan_audit_close(caladan_audit *audit);
 
 /* A guard, for a policy of your own that chooses the actions. It is handed one pass after the other,
@@ -479,6 +653,14 @@ CALADAN_PLACE(caladan_refused, names, 9);
  * proved]. */
 uint8_t caladan_guard_open(const uint8_t *table, size_t length, caladan_guard *guard);
 
+/* Opens the table of these rows, as caladan_open_rows does [tested]. */
+static inline uint8_t caladan_guard_open_rows(size_t cores, uint64_t bandwidth_limit, const caladan_table_row *rows, size_t count,
+                                              caladan_guard *guard, caladan_wrong *wrong) {
+    char text[CALADAN_ROWS_ROOM];
+    uint8_t answer = caladan_guard_open((const uint8_t *)text, caladan_rows_text(cores, bandwidth_limit, rows, count, text), guard);
+    return caladan_rows_answer(answer, cores, bandwidth_limit, rows, count, wrong);
+}
+
 /* The next pass: one look for each thread, in thread order, room for as many judgements, and the
  * actions that were chosen, as caladan_pass answers them (what a kind does not name is 0). DONE: each is
  * permitted at its place and the pass went through [through], and what was judged of each look is written
@@ -529,6 +711,44 @@ uint8_t caladan_guard_holder(caladan_guard *guard, uint8_t core, caladan_holder_
 /* What a task has after them, as caladan_task says it [told, there, no_task, closed, refused, same]. */
 uint8_t caladan_guard_task(caladan_guard *guard, size_t task, caladan_counts *counts);
 
+/* What a policy of your own chooses by. Nothing changes by any of them [same]; each answers IS_CLOSED of a
+ * closed handle [closed], and writes only where it answers DONE [refused].
+ *
+ * caladan_guard_judge: what caladan_guard_pass_each would judge of each look, were it given them now [judged],
+ * so that a policy knows which looks count before it chooses. WRONG_COUNT exactly where there is not one look
+ * for each thread [wrong_count], else NO_ROOM exactly where there is too little room [no_room], else DONE
+ * [answers]; no other number [own].
+ * caladan_guard_kept: the kept record of a thread, as caladan_kept tells it [told, there, no_thread]. In the
+ * next pass it stands for each look that is not judged KEPT.
+ * caladan_guard_ban: whether a core is banned, and for whom [told]. DONE exactly of a core that the table has
+ * [there], else NO_SUCH [no_core].
+ * caladan_guard_last: to which thread a core was granted last, and its task [told]. DONE exactly of a core that
+ * the table has [there], else NO_SUCH [no_core]. */
+typedef struct caladan_core_ban {
+    uint8_t banned;   /* 1; else 0, and all is 0 */
+    uint8_t thread;   /* on its sibling */
+    uint64_t started; /* when that thread's request was begun */
+} caladan_core_ban;
+CALADAN_SIZE(caladan_core_ban, 16);
+CALADAN_PLACE(caladan_core_ban, banned, 0);
+CALADAN_PLACE(caladan_core_ban, thread, 1);
+CALADAN_PLACE(caladan_core_ban, started, 8);
+typedef struct caladan_core_last {
+    uint8_t granted; /* 1; else 0, it was granted to nobody so far, and all is 0 */
+    uint8_t thread;
+    uint8_t task;
+} caladan_core_last;
+CALADAN_SIZE(caladan_core_last, 3);
+CALADAN_PLACE(caladan_core_last, granted, 0);
+CALADAN_PLACE(caladan_core_last, thread, 1);
+CALADAN_PLACE(caladan_core_last, task, 2);
+uint8_t caladan_guard_judge(caladan_guard *guard, const caladan_look *looks, size_t count, uint8_t *judged, size_t judged_room);
+uint8_t caladan_guard_kept(caladan_guard *guard, size_t thread, caladan_look *look);
+uint8_t caladan_guard_ban(caladan_guard *guard, uint8_t core, caladan_core_ban *ban);
+#define caladan_guard_ban(guard, core, ban) caladan_guard_ban(guard, caladan_core(core), ban)
+uint8_t caladan_guard_last(caladan_guard *guard, uint8_t core, caladan_core_last *last);
+#define caladan_guard_last(guard, core, last) caladan_guard_last(guard, caladan_core(core), last)
+
 /* The thread that is to be sent Park, of a core that the last pass revokes: DONE, IS_CLOSED, or NO_SUCH
  * where nobody is told to leave the core [tested]. */
 static inline uint8_t caladan_guard_revoked(caladan_guard *guard, size_t core, uint8_t *thread) {
@@ -540,8 +760,8 @@ static inline uint8_t caladan_guard_revoked(caladan_guard *guard, size_t core, u
     return CALADAN_DONE;
 }
 
-/* Lets go of what the guard keeps: DONE [closed], or IS_CLOSED [already]. The handle is closed then
- * [after]. */
+/* Lets go of what the guard keeps: DONE [closed], and the handle is closed then [after]; or IS_CLOSED
+ * [already], and nothing changes [other]. */
 uint8_t caladan_guard_close(caladan_guard *guard);
 
 /* Texts. Each has one for every number; of a number that is none it says so. */

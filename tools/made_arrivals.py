@@ -42,7 +42,7 @@ def runs():
 
 def numbers(table, key):
     """What each task's line with this key says."""
-    return [int(it) for it in re.findall(rf"^{key}\s*=\s*(\d+)", table, re.M)]
+    return [int(it) for it in re.findall(rf"(?<!\w){key}\s*=\s*(\d+)", table)]
 
 
 def owners(table):

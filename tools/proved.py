@@ -32,7 +32,7 @@ PROOF = """\
 What was proved of Doranjei {version}
 =================================
 
-`make dist` made this page from what `rt ci` printed over this very tree, and from README.md and docs/PROMISES.md: no
+`make dist` made this page from what `rt ci` printed over this very tree, and from docs/PROMISES.md: no
 number, sum or promise in it was written by hand.
 
 Version    {version}
@@ -62,8 +62,8 @@ of the sources has each.
 {rows}
 
 
-What is promised, in README's words, with the clauses that carry it
--------------------------------------------------------------------
+What is promised, with the clauses that carry it
+------------------------------------------------
 
 {promises}
 
@@ -330,6 +330,6 @@ def text(version, commit, kept, said, proved, lines):
     built = "\n".join(f"{kept['sums'][name]}  {file}" for name, file in BUILT.items())
     built += f"\n{kept['heap']}  liblibc_c.a"
     told = {"version": version, "commit": commit, "tree": kept["tree"], "kit": kit, "logic": logic, "said": said}
-    promises, trusted = marked("README.md", "proof: promises"), marked("docs/PROMISES.md", "proof: trusted")
+    promises, trusted = marked("docs/PROMISES.md", "proof: promises"), marked("docs/PROMISES.md", "proof: trusted")
     return PROOF.format(**told, rows="\n".join(rows_of(proved)), promises=promises, trusted=trusted, built=built,
                         files="\n".join(lines))

@@ -11,7 +11,7 @@ use Rattle.clap.specs.declared.parser.matches.ArgMatches.{ArgMatches}
 use Rattle.clap.specs.declared.parser.matches.ArgMatches.TheViews.{out-ArgMatches}
 use Rattle.clap.proofs.OnLiterals.{clap_on_literals}
 use Rattle.clap.proofs.WalkLemmas.{one_text-rows}
-use Rattle.cal_engine.specs.CommandWords.{answer_of, asking, AsksFor, FlagSays, FlagsAsk, job_of, Names, program}
+use Rattle.cal_engine.specs.CommandWords.{answer_of, asking, AsksFor, Explains, FlagSays, FlagsAsk, job_of, Names, program, with_one_more}
 use Rattle.cal_engine.specs.declared.command_words.command_line.Job.{Job}
 use Rattle.cal_engine.specs.declared.command_words.command_line.Job.TheVariants as job
 use Rattle.cal_engine.specs.declared.jobs.running.RunAnswer.{RunAnswer}
@@ -38,15 +38,28 @@ abbrev named_by : Option (Text × List Row) → Option (Option Job)
 named_by None = Some (Some job.Decide)
 named_by (Some p) = named_with p.0 (said (one_of (codes "summary") p.1)) (said (one_of (codes "report") p.1)) (said (one_of (codes "table") p.1))
 
+-- whether a subcommand is explained; nothing where its flag has another value
+abbrev explained_by : Option (Text × List Row) → Option Bool
+explained_by None = Some false
+explained_by (Some p) = said (one_of (codes "explain") p.1)
+
 -- the program takes each way to ask
-each_is_taken : map (λ (way : Way). takes program way.0) asking ≡ map (λ (way : Way). true) asking
-unfolding clap_on_literals
-each_is_taken = refl
+each_is_taken : (explained : Bool) → map (λ (way : Way). takes program way.0) (asking explained) ≡ map (λ (way : Way). true) (asking explained)
+unfolding clap_on_literals with_one_more
+each_is_taken false = refl
+each_is_taken true = refl
 
 -- the program makes of each way what is asked for
-each_is_named : map (λ (way : Way). named_by (subcommand_of program way.0)) asking ≡ map (λ (way : Way). Some way.1) asking
-unfolding clap_on_literals
-each_is_named = refl
+each_is_named : (explained : Bool) → map (λ (way : Way). named_by (subcommand_of program way.0)) (asking explained) ≡ map (λ (way : Way). Some way.1) (asking explained)
+unfolding clap_on_literals with_one_more
+each_is_named false = refl
+each_is_named true = refl
+
+-- the program finds in each way whether it is explained
+each_is_explained : (explained : Bool) → map (λ (way : Way). explained_by (subcommand_of program way.0)) (asking explained) ≡ map (λ (way : Way). Some explained) (asking explained)
+unfolding clap_on_literals with_one_more
+each_is_explained false = refl
+each_is_explained true = refl
 
 -- what two functions make of an element, where they make the same of the list
 at_element : {A B : Type 0} (f g : A → B) (xs : List A) → map f xs ≡ map g xs → (x : A) → Contains xs x → f x ≡ g x
@@ -93,14 +106,24 @@ named_by_names : (found : Option (Text × List Row)) (named : Option Job) → na
 named_by_names None named e = cc
 named_by_names (Some p) named e = named_with_names p named _ _ _ refl refl refl e
 
-pub asked_is_named : (words : List Text) (named : Option Job) → AsksFor words named → Names (subcommand_of program words) named
+pub asked_is_named : (explained : Bool) (words : List Text) (named : Option Job) → AsksFor explained words named → Names (subcommand_of program words) named
 unfolding AsksFor
-asked_is_named words named asks =
-    named_by_names _ named (at_element (λ (way : Way). named_by (subcommand_of program way.0)) (λ (way : Way). Some way.1) asking each_is_named (words, named) asks)
+asked_is_named explained words named asks =
+    named_by_names _ named (at_element (λ (way : Way). named_by (subcommand_of program way.0)) (λ (way : Way). Some way.1) (asking explained) (each_is_named explained) (words, named) asks)
 
-pub asked_is_taken : (words : List Text) (named : Option Job) → AsksFor words named → takes program words ≡ true
+pub asked_is_taken : (explained : Bool) (words : List Text) (named : Option Job) → AsksFor explained words named → takes program words ≡ true
 unfolding AsksFor
-asked_is_taken words named asks = at_element (λ (way : Way). takes program way.0) (λ (way : Way). true) asking each_is_taken (words, named) asks
+asked_is_taken explained words named asks =
+    at_element (λ (way : Way). takes program way.0) (λ (way : Way). true) (asking explained) (each_is_taken explained) (words, named) asks
+
+explained_by_explains : (found : Option (Text × List Row)) (explained : Bool) → explained_by found ≡ Some explained → Explains found explained
+explained_by_explains None explained e = cc
+explained_by_explains (Some p) explained e = said_is _ explained e
+
+pub asked_is_explained : (explained : Bool) (words : List Text) (named : Option Job) → AsksFor explained words named → Explains (subcommand_of program words) explained
+unfolding AsksFor
+asked_is_explained explained words named asks =
+    explained_by_explains _ explained (at_element (λ (way : Way). explained_by (subcommand_of program way.0)) (λ (way : Way). Some explained) (asking explained) (each_is_explained explained) (words, named) asks)
 
 -- the flag that is read is the one that the arguments say
 pub flag_read : (run : ArgMatches) (name : Text) (flag : Bool) → (one_text (found_of run) name ≡ None → flag ≡ false) →
@@ -133,3 +156,17 @@ pub named_job : (m run : ArgMatches) (word : Text) (answer : Option RunAnswer) �
     ((asked : Option RunAnswer) → FlagsAsk (rows_of (found_of run)) asked → answer ≡ asked) →
     (named : Option Job) → Names (subcommand_rows_of m) named → job_of word answer ≡ named
 named_job m run word answer is_word is_rows read named names = named_found (subcommand_rows_of m) word (rows_of (found_of run)) answer (is_word ∙ name_of_rows m) is_rows read named names
+
+explained_found : (found : Option (Text × List Row)) (rows : List Row) (flag : Bool) → Some rows ≡ option_map (λ (p : Text × List Row). p.1) found →
+    ((explained : Bool) → FlagSays (one_of (codes "explain") rows) explained → flag ≡ explained) → (explained : Bool) → Explains found explained → flag ≡ explained
+explained_found None rows flag is_rows read explained says = absurd (cc)
+explained_found (Some p) rows flag is_rows read explained says =
+    let same_rows : rows ≡ p.1 = cc in
+    read explained (rw same_rows says)
+
+-- the flag that is read says whether the subcommand is explained
+pub is_explained : (m run : ArgMatches) (flag : Bool) →
+    Some (rows_of (found_of run)) ≡ option_map (λ (p : Text × List Row). p.1) (subcommand_rows_of m) →
+    ((explained : Bool) → FlagSays (one_of (codes "explain") (rows_of (found_of run))) explained → flag ≡ explained) →
+    (explained : Bool) → Explains (subcommand_rows_of m) explained → flag ≡ explained
+is_explained m run flag is_rows read explained says = explained_found (subcommand_rows_of m) (rows_of (found_of run)) flag is_rows read explained says

@@ -8,6 +8,7 @@ use Rattle.clap.specs.Walk.{Row, Rule, Text, one_of}
 use Rattle.clap.specs.declared.builder.action.ArgAction.TheVariants.{SetTrue}
 use Rattle.clap.specs.declared.error.Error.{Error}
 use Rattle.clap.specs.declared.error.kind.ErrorKind.TheVariants as kind
+use Rattle.cal_engine.specs.declared.command_words.command_line.Asked.{Asked}
 use Rattle.cal_engine.specs.declared.command_words.command_line.Job.{Job}
 use Rattle.cal_engine.specs.declared.command_words.command_line.Job.TheVariants as job
 use Rattle.cal_engine.specs.declared.jobs.running.RunAnswer.{RunAnswer}
@@ -60,26 +61,48 @@ flag_ways =
     ∷ map (λ flag. (flag.0 ∷ [], Some flag.1)) run_flags
     ++ map (λ flags. (flags, None)) flags_of_more
 
--- each way to ask by a word, and the job; nothing where more than one answer is asked for
-abbrev pub ways : Word → List (List Text × Option Job)
-ways (alone name asked) = (name ∷ [], Some asked) ∷ []
-ways (for_run name asked) = map (λ way. (name ∷ way.0, option_map asked way.1)) flag_ways
+-- what may stand behind a word, and the job; nothing where more than one answer is asked for
+abbrev pub ways_behind : Word → List (List Text × Option Job)
+ways_behind (alone name asked) = ([], Some asked) ∷ []
+ways_behind (for_run name asked) = map (λ way. (way.0, option_map asked way.1)) flag_ways
 
--- each way to ask: no words ask for the job of `decide`
-abbrev pub asking : List (List Text × Option Job)
-asking = ([], Some job.Decide) ∷ flat_map ways all_words
+-- these words with one more among them, at each place
+unfoldable pub with_one_more : Text → List Text → List (List Text)
+with_one_more word [] = (word ∷ []) ∷ []
+with_one_more word (first ∷ rest) =
+    (word ∷ first ∷ rest) ∷ map (λ words. first ∷ words) (with_one_more word rest)
+
+-- each way to ask by a word
+abbrev pub ways : Word → List (List Text × Option Job)
+ways word = map (λ way. (name_of word ∷ way.0, way.1)) (ways_behind word)
+
+-- each way to ask by a word, with `--explain` behind it
+abbrev pub explained_ways : Word → List (List Text × Option Job)
+explained_ways word = flat_map
+    (λ way. map (λ words. (name_of word ∷ words, way.1)) (with_one_more (codes "--explain") way.0))
+    (ways_behind word)
+
+-- each way to ask, with `--explain` or without it: no words ask for the job of `decide`
+abbrev pub asking : Bool → List (List Text × Option Job)
+asking false = ([], Some job.Decide) ∷ flat_map ways all_words
+asking true = flat_map explained_ways all_words
 
 -- the words after the program's name stand in that list, with this job or with nothing
-unfoldable pub AsksFor : List (List ℕ) → Option Job → Type 0
-AsksFor words named = Contains asking (words, named)
+unfoldable pub AsksFor : Bool → List (List ℕ) → Option Job → Type 0
+AsksFor explained words named = Contains (asking explained) (words, named)
 
--- the words after the program's name ask for this job
+-- the words after the program's name ask for this job, and for nothing else
 abbrev pub Asks : List (List ℕ) → Job → Type 0
-Asks words asked = AsksFor words (Some asked)
+Asks words asked = AsksFor false words (Some asked)
 
 -- the words ask for more than one of a run's summary, its report, and its history with its table
-abbrev pub AsksTwo : List (List ℕ) → Type 0
-AsksTwo words = AsksFor words None
+abbrev pub AsksTwo : Bool → List (List ℕ) → Type 0
+AsksTwo explained words = AsksFor explained words None
+
+-- the answer is this job and whether it is explained, or memory was refused
+abbrev pub IsAsked : Job → Bool → Result Asked Error → Type 0
+IsAsked job explained (Ok asked) = (asked.job ≡ job) × (asked.explained ≡ explained)
+IsAsked job explained (Err e) = kind_of e ≡ kind.OutOfMemory
 
 -- the answer is this job, or memory was refused
 abbrev pub IsJob : Job → Result Job Error → Type 0
@@ -87,7 +110,7 @@ IsJob asked (Ok found) = found ≡ asked
 IsJob asked (Err e) = kind_of e ≡ kind.OutOfMemory
 
 -- the words are refused since their flags conflict, or memory was refused
-abbrev pub IsConflict : Result Job Error → Type 0
+abbrev pub IsConflict : {A : Type 0} → Result A Error → Type 0
 IsConflict result = IsErrAnd result (λ e. (kind_of e ≡ kind.ArgumentConflict)
     ⊎ (kind_of e ≡ kind.OutOfMemory))
 
@@ -97,27 +120,22 @@ abbrev pub bare_program : App
 bare_program = on_top (λ s. record s { has_version = true; no_binary_name = true })
     (new_app (codes "caladan_sim"))
 
--- the flag that asks for the summary of a run
-abbrev pub summary_flag : Rule
-summary_flag =
-    record (new_rule (codes "summary")) { long = Some (codes "summary"); action = Some SetTrue }
+-- a flag of this name
+abbrev pub flag : Text → Rule
+flag name = record (new_rule name) { long = Some name; action = Some SetTrue }
 
--- the flag that asks for the report of a run
-abbrev pub report_flag : Rule
-report_flag =
-    record (new_rule (codes "report")) { long = Some (codes "report"); action = Some SetTrue }
+-- the subcommand of a word that asks for its job alone, after which `--explain` may stand
+abbrev pub lone_word : Text → App
+lone_word name = with_rule (new_app name) (flag (codes "explain"))
 
--- the flag that asks for the history of a run with its table
-abbrev pub table_flag : Rule
-table_flag = record (new_rule (codes "table")) { long = Some (codes "table"); action = Some SetTrue }
-
--- the subcommand for a run, after which one of the flags may stand
+-- the subcommand for a run, after which one of its flags may stand too
 abbrev pub run_word : Text → App
-run_word name = with_rule (with_rule (with_rule (new_app name) summary_flag) report_flag) table_flag
+run_word name = with_rule (with_rule (with_rule (with_rule (new_app name) (flag (codes "summary")))
+    (flag (codes "report"))) (flag (codes "table"))) (flag (codes "explain"))
 
 -- the subcommand of a word
 abbrev pub app_for : Word → App
-app_for (alone name asked) = new_app name
+app_for (alone name asked) = lone_word name
 app_for (for_run name asked) = run_word name
 
 -- the program, with a subcommand for each word
@@ -164,3 +182,8 @@ abbrev pub Names : Option (Text × List Row) → Option Job → Type 0
 Names None named = named ≡ Some job.Decide
 Names (Some p) named =
     (answer : Option RunAnswer) × FlagsAsk p.1 answer × (named ≡ job_of p.0 answer)
+
+-- whether `--explain` is among the arguments of a subcommand; it is not where there is none
+abbrev pub Explains : Option (Text × List Row) → Bool → Type 0
+Explains None explained = explained ≡ false
+Explains (Some p) explained = FlagSays (one_of (codes "explain") p.1) explained

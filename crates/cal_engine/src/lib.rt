@@ -3,7 +3,7 @@
 //!
 //! An engine takes any reader and any writer. It reads one input to its end, and writes its answer
 //! and nothing else, once the whole input was read and accepted. What the words of a command line
-//! ask for is `words`. `caladan_view` refuses words by the same shell (shell.rt).
+//! ask for is `asked_by`. `caladan_view` refuses words by the same shell (shell.rt).
 //!
 //! How an input is read, and what the program says and exits with after a fault, is cal_input's; its
 //! names are given out here too.
@@ -20,7 +20,7 @@ pub use cal_input::{
     run_input, split_input, status,
 };
 pub use cal_policy::Verdict;
-pub use command_words::command_line::{Job, VERSION, words};
+pub use command_words::command_line::{Asked, Job, VERSION, asked_by, words};
 pub use command_words::words_given::given_words;
 pub use jobs::answer::write_after_front;
 pub use jobs::auditing::run_audit;

@@ -4,6 +4,7 @@ ghost use Rattle.std.specs.Prelude.{◌<◌, length};
 ghost use Rattle.cal_policy.specs.Explain.Walks.{IsWalk};
 
 use crate::scope::Scope;
+use crate::telling::above_word;
 use cal_policy::explain::PassWalk;
 use std::io;
 use std::io::Write;
@@ -14,11 +15,8 @@ pub fn tell_bandwidth<W: Write>(walk: &PassWalk<'_>, scope: Scope, writer: &mut 
 {
     let figure = walk.bandwidth();
     let limit = walk.config().bandwidth_limit();
-    if limit < figure {
-        writeln!(writer, "  figure {figure}, above the limit {limit}")?;
-    } else {
-        writeln!(writer, "  figure {figure}, not above the limit {limit}")?;
-    }
+    let above = above_word(limit < figure);
+    writeln!(writer, "  figure {figure}, {above} the limit {limit}")?;
     for task in 0..walk.config().tasks() {
         if !walk.config().is_latency_critical(task) && scope.has_task(task) {
             tell_task(walk, task, limit < figure, writer)?;

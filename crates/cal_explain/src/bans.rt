@@ -4,7 +4,7 @@ ghost use Rattle.std.specs.Prelude.{◌<◌};
 ghost use Rattle.cal_machine.specs.TableTasks.{threads_of_table};
 ghost use Rattle.cal_policy.specs.Explain.Walks.{IsWalk};
 
-use crate::telling::write_holder;
+use crate::telling::{above_word, write_holder};
 use cal_policy::Holder;
 use cal_policy::explain::{BanReason, PassWalk};
 use std::io;
@@ -68,17 +68,11 @@ fn write_long<W: Write>(walk: &PassWalk<'_>, thread: u8, core: u8, writer: &mut 
         return write!(writer, "thread {thread} is at no request");
     }
     let ran = walk.now().saturating_sub(kept.started);
-    if limit < ran {
-        write!(
-            writer,
-            "thread {thread} is at its request for {ran}, above {limit}"
-        )
-    } else {
-        write!(
-            writer,
-            "thread {thread} is at its request for {ran}, not above {limit}"
-        )
-    }
+    let above = above_word(limit < ran);
+    write!(
+        writer,
+        "thread {thread} is at its request for {ran}, {above} {limit}"
+    )
 }
 
 /// Writes why the request of the thread that holds a core has not run too long.

@@ -7,10 +7,11 @@ ghost use Rattle.cal_policy.specs.Explain.Walks.{IsWalk};
 use crate::explaining::{TURN_BOUND, name_of, tell_turn};
 use crate::fault::ExplainFault;
 use crate::recorded::Explainer;
-use crate::telling::{tell_made, write_action};
+use crate::telling::tell_made;
 use cal_machine::Config;
 use cal_policy::explain::{PassWalk, Turn, part_of};
 use cal_policy::{Action, Cause, is_input, orderly};
+use cal_trace::write_action;
 use std::io;
 use std::io::Write;
 

@@ -6,7 +6,7 @@ ghost use Rattle.cal_policy.specs.Explain.Walks.{IsWalk};
 
 use crate::candidates::write_candidate;
 use crate::scope::Scope;
-use crate::telling::kind_word;
+use crate::telling::{above_word, kind_word};
 use cal_policy::Holder;
 use cal_policy::explain::{PassWalk, TaskState};
 use std::io;
@@ -44,11 +44,7 @@ fn tell_task<W: Write>(
 {
     let own = walk.config().task(task);
     let kind = kind_word(own.kind);
-    let above = if state.is_congested {
-        "above"
-    } else {
-        "not above"
-    };
+    let above = above_word(state.is_congested);
     let (delay, threshold) = (state.delay, own.delay);
     write!(
         writer,

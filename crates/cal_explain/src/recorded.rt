@@ -8,10 +8,10 @@ use crate::difference::tell_illegal;
 use crate::explaining::tell_pass;
 use crate::fault::ExplainFault;
 use crate::scope::Scope;
-use crate::telling::tell_looks;
 use cal_machine::Config;
 use cal_policy::explain::PassWalk;
 use cal_policy::{Auditor, PassEntry, Verdict, is_input, orderly};
+use cal_trace::write_kept;
 use std::alloc::{AllocError, Global};
 use std::io::Write;
 
@@ -72,7 +72,7 @@ impl Explainer<'_> {
         }
         let (now, bandwidth) = (entry.input.now, entry.input.bandwidth);
         writeln!(writer, "pass {pass} now {now} bandwidth {bandwidth}")?;
-        tell_looks(entry.input.seen.as_slice(), writer)?;
+        write_kept(entry.input.seen.as_slice(), writer)?;
         let walk = PassWalk::begin(self.alloc, self.config, before, &entry.input)?;
         tell_pass(walk, self.scope, writer)?;
         Ok(Explained::Done)

@@ -1,4 +1,4 @@
-//! Actions, holders and kinds in words.
+//! Lines of actions, and holders and kinds in words.
 
 ghost use Rattle.std.specs.Prelude.{◌<◌};
 ghost use Rattle.std.specs.Option.{IfSome};
@@ -6,22 +6,10 @@ ghost use Rattle.cal_machine.specs.TableTasks.{threads_of_table};
 ghost use Rattle.cal_policy.specs.Board.{placement_of};
 
 use cal_machine::{Config, Kind};
-use cal_policy::{Action, Cause, Holder, Placement, Seen};
+use cal_policy::{Action, Holder, Placement};
+use cal_trace::{write_action, write_cause};
 use std::io;
 use std::io::Write;
-
-/// Writes which looks left the kept record as it was, as the report does.
-pub fn tell_looks<W: Write>(seen: &[Seen], writer: &mut W) -> io::Result<()> {
-    for (thread, look) in seen.iter().enumerate() {
-        match look {
-            Seen::Whole { .. } => {}
-            Seen::Busy { .. } => writeln!(writer, "  kept {thread} busy")?,
-            Seen::Ahead { .. } => writeln!(writer, "  kept {thread} ahead")?,
-            Seen::Foreign { .. } => writeln!(writer, "  kept {thread} foreign")?,
-        }
-    }
-    Ok(())
-}
 
 /// Writes actions, each in a line as the report has it.
 pub fn tell_made<W: Write>(made: &[Action], writer: &mut W) -> io::Result<()> {
@@ -36,41 +24,6 @@ pub fn tell_action<W: Write>(action: Action, writer: &mut W) -> io::Result<()> {
     write!(writer, "    -> ")?;
     write_action(action, writer)?;
     writeln!(writer)
-}
-
-/// Writes an action as the report has it, without the line's end.
-pub fn write_action<W: Write>(action: Action, writer: &mut W) -> io::Result<()> {
-    match action {
-        Action::Free { core } => write!(writer, "free core {core}"),
-        Action::Unban { core } => write!(writer, "unban core {core}"),
-        Action::Ban {
-            core,
-            thread,
-            started,
-        } => write!(
-            writer,
-            "ban core {core} for thread {thread} started {started}"
-        ),
-        Action::Revoke { core, cause } => {
-            write!(writer, "revoke core {core} ")?;
-            write_cause(cause, writer)
-        }
-        Action::Cap { task, cap } => write!(writer, "cap task {task} at {cap}"),
-        Action::Grant {
-            core,
-            thread,
-            class,
-        } => write!(writer, "grant core {core} to thread {thread} class {class}"),
-    }
-}
-
-/// Writes why a core was revoked.
-fn write_cause<W: Write>(cause: Cause, writer: &mut W) -> io::Result<()> {
-    match cause {
-        Cause::Ban { by } => write!(writer, "for ban by core {by}"),
-        Cause::Bandwidth => write!(writer, "for bandwidth"),
-        Cause::Preempt { task } => write!(writer, "for task {task}"),
-    }
 }
 
 /// Writes who has a core, and since which command.
@@ -116,4 +69,9 @@ pub fn kind_word(kind: Kind) -> &'static str {
         Kind::LatencyCritical => "lc",
         Kind::BestEffort => "be",
     }
+}
+
+/// How a figure stands to what it is compared with.
+pub fn above_word(is_above: bool) -> &'static str {
+    if is_above { "above" } else { "not above" }
 }

@@ -55,9 +55,5 @@ pub(crate) fn clocks_of(alloc: Global, history: &[PassEntry]) -> Result<Vec<u64>
 pub(crate) fn clocks_given(alloc: Global, passes: &[GivenPass]) -> Result<Vec<u64>, AllocError>
     ensures { IfOk result (λ clocks. clocks.items ≡ map (λ pass. pass.now) passes.now) }
 {
-    let mut clocks = Vec::new(alloc);
-    for pass in passes {
-        clocks.push(pass.now)?;
-    }
-    Ok(clocks)
+    passes.iter().map(|pass| pass.now).collect(alloc)
 }

@@ -12,5 +12,4 @@ pub mod Paired
 pub mod AtMostOne
 pub mod ThreadTurns
 pub mod TotalsOfEach
-pub mod Held
 pub mod WorksOfEach

@@ -1,6 +1,6 @@
 -- What came of the cores of a task, and of the machine's, over a whole history.
-use Rattle.std.specs.Prelude.{◌≡◌, ℕ, ◌+◌, ◌-◌, ◌*◌, ◌<◌, Bool, nat_lt, List, length, take}
-use Rattle.std.specs.Prelude.{slice_get, slice_index, Option, Some, None, if◌then◌else◌}
+use Rattle.std.specs.Prelude.{◌≡◌, ℕ, ◌+◌, ◌-◌, ◌*◌, Bool, nat_lt, List, length, take}
+use Rattle.std.specs.Prelude.{slice_get, Option, Some, None, if◌then◌else◌}
 use Rattle.cal_machine.specs.Table.{Table}
 use Rattle.cal_policy.specs.Board.Counts.{booked_by, held_by}
 use Rattle.cal_policy.specs.History.{actions_of}
@@ -16,13 +16,6 @@ use Rattle.cal_measure.specs.declared.states.CoreState.TheVariants as states
 -- how many cores the threads of task t hold after pass p
 abbrev pub held_after : Table → List PassEntry → ℕ → ℕ → ℕ
 held_after table history t p = held_by table (actions_of (take (p + 1) history)) t
-
--- so many cores the threads of task t hold after each pass
-pub record IsHeldCourse (table : Table) (history : List PassEntry) (t : ℕ)
-    (course : List ℕ) : Type 0 where
-  pub many : length course ≡ length history
-  pub each : (p : ℕ) → p < length history →
-      slice_index course p ≡ held_after table history t p
 
 -- how many cores are in this state after pass p
 abbrev pub in_state_after : Table → List PassEntry → CoreState → ℕ → ℕ

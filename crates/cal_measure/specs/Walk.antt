@@ -1,8 +1,6 @@
 -- What a walk over the passes of a history holds after those so far.
 use Rattle.std.specs.Prelude.{◌≡◌, ℕ, ◌+◌, ◌-◌, ◌*◌, ◌^◌, ◌≤◌, List, [], ◌∷◌, ◌++◌, length}
 use Rattle.std.specs.Prelude.{Option, Some, None, slice_get}
-use Rattle.std.specs.declared.alloc.Global.{Global}
-use Rattle.std.specs.declared.vec.Vec.{Vec}
 use Rattle.cal_machine.specs.Table.{Table}
 use Rattle.cal_policy.specs.History.{actions_of}
 use Rattle.cal_policy.specs.Pass.Choice.{greatest_below}
@@ -11,7 +9,7 @@ use Rattle.cal_policy.specs.declared.history.action.Action.{Action}
 use Rattle.cal_policy.specs.declared.history.action_list.TheConstants.{MOST_ACTIONS}
 use Rattle.cal_policy.specs.declared.history.entry.PassEntry.{PassEntry}
 use Rattle.cal_measure.specs.Actions.{AreActionsOf}
-use Rattle.cal_measure.specs.Cores.{AreMachineCores, IsHeldCourse, congested_for, core_time}
+use Rattle.cal_measure.specs.Cores.{AreMachineCores, congested_for, core_time}
 use Rattle.cal_measure.specs.Cores.{held_after, in_state_after, is_over_limit, left_after}
 use Rattle.cal_measure.specs.States.{is_congested_at, lasts_at}
 use Rattle.cal_measure.specs.declared.cores.MachineCores.{MachineCores}
@@ -47,11 +45,6 @@ EachTask {X} P rows = (t : ℕ) (row : X) → slice_get rows t ≡ Some row → 
 -- at each task's place, the numbers of what these actions did to its cores
 abbrev pub AreActionsOfEach : Table → List Action → List TaskActions → Type 0
 AreActionsOfEach table x = EachTask (λ t of_task. AreActionsOf table t x of_task)
-
--- at each task's place, how many cores its threads hold after each pass
-abbrev pub AreHeldCourses : Table → List PassEntry → List (Vec ℕ Global) → Type 0
-AreHeldCourses table history courses =
-    EachTask (λ t (course : Vec ℕ Global). IsHeldCourse table history t course.items) courses
 
 -- the core time of task t over the passes of a history, and how the last of them left it
 pub record IsTimeOf (table : Table) (history : List PassEntry) (t : ℕ)

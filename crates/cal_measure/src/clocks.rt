@@ -15,8 +15,9 @@ pub struct ArrivalClocks {
     clocks: HashMap<u64, u64>,
 }
 
-/// When the request of an arrival came.
-fn clock_of(turns: &[u64], arrival: &Arrival) -> u64
+/// When the request of an arrival came, in clock ticks: the clock of its turn; 0 where there is no
+/// such turn.
+pub fn clock_of(turns: &[u64], arrival: &Arrival) -> u64
     ensures { result ≡ clock_of turns.now arrival.now }
 {
     match turns.get(arrival.turn as usize) {

@@ -1,12 +1,11 @@
 //! A run that has ended: what came of the requests of its tasks, from what the turns of its threads
 //! came to.
 
-ghost use Rattle.std.specs.Prelude.{◌≡◌, ◌+◌, ◌<◌, ◌++◌, ℕ, List, IfOk, length, map};
+ghost use Rattle.std.specs.Prelude.{◌≡◌, ◌+◌, ◌<◌, ◌++◌, ℕ, List, IfOk, length};
 ghost use Rattle.std.specs.List.{AllZip};
 ghost use Rattle.cal_kthread.specs.declared.journal.entry.Entry.{Entry as EntryOf};
 ghost use Rattle.cal_measure.specs.Clocks.{AreClocksOf, run_end};
-ghost use Rattle.cal_measure.specs.Requests.{AreRequestsOf, response_of, services_at};
-ghost use Rattle.cal_measure.specs.Requests.{services_of_task};
+ghost use Rattle.cal_measure.specs.Requests.{AreRequestsOf, services_at, services_of_task};
 ghost use Rattle.cal_measure.specs.ThreadWork.{AreTotalsOfEach, IsThreadWorkOf, IsWithin};
 ghost use Rattle.cal_measure.specs.ThreadWork.{IsWorkOf};
 ghost use Rattle.cal_machine.specs.declared.numbering.TheConstants.{MOST_THREADS};
@@ -14,7 +13,7 @@ ghost use Rattle.cal_measure.specs.Work.{AreWorkOf, stolen_at, suspensions_at, w
 ghost use Rattle.cal_trace.specs.Arrivals.FitsTable.{FitsTable};
 
 use crate::clocks::{ArrivalClocks, run_end};
-use crate::requests::{TaskRequests, TaskShare, given_to, requests_of_share, responses, task_left};
+use crate::requests::{TaskRequests, TaskShare, given_to, requests_of_share, task_left};
 use crate::services::Service;
 use crate::thread_work::ThreadWork;
 use crate::thread_work::each::end_works;
@@ -162,26 +161,5 @@ impl EndedRun {
             work: work_of_threads(config, threads, task),
         };
         requests_of_share(alloc, arrivals, &self.clocks, &share)
-    }
-
-    /// How long each request took that the threads of a task served, from its arrival to its
-    /// answer, thread by thread. Fails only when out of memory.
-    pub fn responses_of(
-        &self,
-        alloc: Global,
-        config: &Config,
-        arrivals: &Arrivals,
-        task: usize,
-    ) -> Result<Vec<u64>, AllocError>
-        requires clocks { AreClocksOf arrivals.now.turns arrivals.now.requests self.now.clocks }
-        requires task { task < length config.now.tasks }
-        ensures { IfOk result (λ times. (journals : List (List EntryOf)) →
-            AreTotalsOfEach (run_end arrivals.now) journals self.now.threads.items →
-            times.items ≡ map (response_of arrivals.now.turns arrivals.now.requests)
-            (services_of_task config.now (run_end arrivals.now) journals task)) }
-    {
-        let threads = self.threads.as_slice();
-        let services = services_of_threads(alloc, config, threads, task)?;
-        responses(alloc, &self.clocks, services.as_slice())
     }
 }

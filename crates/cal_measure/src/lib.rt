@@ -9,7 +9,6 @@
 mod actions;
 mod clocks;
 mod cores;
-mod course;
 mod ended_run;
 mod ends;
 mod requests;
@@ -25,9 +24,8 @@ mod walk;
 mod work;
 
 pub use actions::LossKind;
-pub use clocks::{ArrivalClocks, last_clock, run_end, turns_last};
+pub use clocks::{ArrivalClocks, clock_of, last_clock, run_end, turns_last};
 pub use cores::{MachineCores, TaskActions, TaskCores};
-pub use course::{no_courses, put_held};
 pub use ended_run::EndedRun;
 pub use ends::{TimedTurn, timed_of};
 pub use requests::TaskRequests;
@@ -41,9 +39,9 @@ pub use spans::laws::{
 pub use spans::span::{Left, Span};
 pub use spans::tracking::{Tracker, spans_of};
 pub use spread::{Spread, Time, spread_of};
-pub use states::{CoreState, is_congested};
+pub use states::{CoreState, is_congested, task_delay};
 pub use thread_work::ThreadWork;
-pub use thread_work::each::open_works;
+pub use thread_work::each::{end_works, open_works};
 pub use thread_work::totals::ThreadTotals;
 pub use turns::{Turn, turns_of};
 pub use walk::{Walk, walked};

@@ -54,7 +54,7 @@ pub struct TaskRequests {
 
 /// How long each of these requests took, from its arrival to its answer. Fails only when out of
 /// memory.
-pub(crate) fn responses(
+fn responses(
     alloc: Global,
     clocks: &ArrivalClocks,
     services: &[Service],

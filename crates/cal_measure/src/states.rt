@@ -108,8 +108,9 @@ fn thread_delay(board: &Board, clock: u64, thread: usize) -> u64
     record_delay(clock, &board.keeping.kept[thread])
 }
 
-/// The delay of a task: the greatest of its threads'.
-fn task_delay(config: &Config, board: &Board, clock: u64, task: usize) -> u64
+/// The delay of a task by this clock, in ticks: the greatest of its threads', as the kept records
+/// show them.
+pub fn task_delay(config: &Config, board: &Board, clock: u64, task: usize) -> u64
     requires { task < length config.now.tasks }
     ensures { (looks : List (List Seen)) → KeepingAgrees board.now.keeping looks →
         result ≡ delay_after config.now looks clock task }

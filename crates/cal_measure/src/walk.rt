@@ -4,11 +4,10 @@ pub mod each_task;
 pub mod machine_time;
 pub mod task_time;
 
-ghost use Rattle.std.specs.Prelude.{◌≡◌, ◌<◌, ◌≤◌, ◌+◌, ◌++◌, ◌∷◌, [], ℕ, List, IfOk, length};
+ghost use Rattle.std.specs.Prelude.{◌≡◌, ◌<◌, ◌≤◌, ◌+◌, ◌++◌, ◌∷◌, [], List, IfOk, length};
 ghost use Rattle.std.specs.List.{All};
 ghost use Rattle.cal_machine.specs.Table.{Table};
 ghost use Rattle.cal_measure.specs.Cores.{AreCoresOfTasks, AreMachineCores, MakeTheWhole};
-ghost use Rattle.cal_measure.specs.Cores.{held_after};
 ghost use Rattle.cal_measure.specs.Walk.{AreActionsOfEach, EachTask, IsOpenFor, IsTimeOf};
 ghost use Rattle.cal_measure.specs.Walk.{IsWalkOf};
 ghost use Rattle.cal_measure.specs.Walk.{since};
@@ -24,8 +23,9 @@ use crate::walk::each_task::{count_actions_of_each, time_each};
 use crate::walk::machine_time::MachineTime;
 use crate::walk::task_time::{PassTiming, TaskTime};
 use cal_machine::Config;
+use cal_policy::laws::{legal_is_orderly, legal_is_short};
 use cal_policy::state::{Board, replay};
-use cal_policy::{Action, PassEntry, legal_is_orderly, legal_is_short};
+use cal_policy::{Action, PassEntry};
 use cal_trace::GivenPass;
 use std::alloc::{AllocError, Global};
 
@@ -126,15 +126,6 @@ impl Walk {
             .machine
             .with_pass(config, after, given.bandwidth, lasts);
         self.clock = Some(given.now);
-    }
-
-    /// How many cores the threads of a task hold since the last pass.
-    pub fn holds(&self, task: usize) -> u8
-        requires { task < length self.now.times.items }
-        ensures { (table : Table) (h : List PassEntry) (p : ℕ) → IsWalkOf table h self.now →
-            length h ≡ p + 1 → result ≡ held_after table h task p }
-    {
-        self.times[task].holds
     }
 
     /// The numbers of each task's cores, in task order. Fails only when out of memory.

@@ -3,7 +3,6 @@ pub mod Recording
 pub mod Asked
 pub mod Moved
 pub mod Compared
-pub mod Courses
 pub mod TableText
 pub mod Varied
 pub mod Faulty

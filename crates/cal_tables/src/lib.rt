@@ -7,7 +7,6 @@
 mod collecting;
 mod comparing;
 mod core_rows;
-mod courses;
 mod figures;
 mod joining;
 mod labels;
@@ -28,7 +27,6 @@ pub use comparing::{
     write_input,
 };
 pub use core_rows::{CoreLine, core_figure};
-pub use courses::{RunCourse, run_course};
 pub use figures::{Figure, Rank, Unit, count, number, share, time_in};
 pub use joining::{front_of_table, table_part};
 pub use labels::{Labels, letters};

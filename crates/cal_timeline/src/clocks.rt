@@ -1,6 +1,9 @@
 //! The clocks of spans and bans, kept beside them, since no pass is kept that could be asked for
 //! its clock.
 
+ghost use Rattle.std.specs.Prelude.{◌≡◌};
+ghost use Rattle.cal_timeline.specs.Walking.{ban_in, span_in};
+
 use cal_measure::{BanSpan, Span};
 use cal_policy::Action;
 
@@ -51,7 +54,9 @@ impl Clocks {
     }
 
     /// A span that a core is in, or that the next action ends.
-    pub fn span(&self, span: Option<Span>) -> Option<ClockedSpan> {
+    pub fn span(&self, span: Option<Span>) -> Option<ClockedSpan>
+        ensures { span_in result ≡ span }
+    {
         match span {
             None => None,
             Some(span) => Some(ClockedSpan {
@@ -63,7 +68,9 @@ impl Clocks {
     }
 
     /// A ban that a core is under, or that the next action ends.
-    pub fn ban(&self, ban: Option<BanSpan>) -> Option<ClockedBan> {
+    pub fn ban(&self, ban: Option<BanSpan>) -> Option<ClockedBan>
+        ensures { ban_in result ≡ ban }
+    {
         match ban {
             None => None,
             Some(ban) => Some(ClockedBan {

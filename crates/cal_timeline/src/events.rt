@@ -20,6 +20,9 @@ pub const ARRIVALS: u64 = 4;
 /// The group of requests at work.
 pub const WORK: u64 = 5;
 
+/// The group of responses.
+pub const RESPONSES: u64 = 6;
+
 /// Where a group or a track stands among its like.
 #[derive(Drop, Serialize)]
 pub struct Sorted<'a> {
@@ -54,44 +57,95 @@ pub struct Name<'a> {
 
 /// Something that takes its time on a track.
 #[derive(Drop, Serialize)]
-pub struct Slice<'a> {
+pub struct Slice<'a, A> {
     pub name: &'a str,
-    pub cat: &'a str,
-    pub ph: &'a str,
+    pub cat: &'static str,
+    pub ph: &'static str,
     /// The name of a colour, which chrome://tracing knows.
-    pub cname: Option<&'a str>,
+    #[serde(skip_serializing_if = "Option::is_none")]
+    pub cname: Option<&'static str>,
     pub pid: u64,
     pub tid: u64,
-    pub args: Story<'a>,
+    pub args: A,
 }
 
-/// What the report says of it.
+/// What is said of a core that a thread holds, is leaving or is banned for, from one pass to
+/// another. Clocks are those of the history.
 #[derive(Drop, Serialize)]
-pub struct Story<'a> {
-    pub told: &'a str,
+pub struct CoreArgs {
     pub thread: u8,
+    /// The task of the thread.
+    #[serde(skip_serializing_if = "Option::is_none")]
+    pub task: Option<usize>,
+    /// The class of the grant; none of a ban.
+    #[serde(skip_serializing_if = "Option::is_none")]
+    pub class: Option<u8>,
+    /// Why it is being left: `ban`, `bandwidth` or `preempt`.
+    #[serde(skip_serializing_if = "Option::is_none")]
+    pub cause: Option<&'static str>,
+    /// The core whose request bans it.
+    #[serde(skip_serializing_if = "Option::is_none")]
+    pub by_core: Option<u8>,
+    /// The task that is to get it.
+    #[serde(skip_serializing_if = "Option::is_none")]
+    pub for_task: Option<u8>,
+    /// Of a ban, when the request was begun that it is for.
+    #[serde(skip_serializing_if = "Option::is_none")]
+    pub started: Option<u64>,
     pub from_pass: usize,
+    /// None where it goes on at the end.
+    #[serde(skip_serializing_if = "Option::is_none")]
     pub to_pass: Option<usize>,
+    pub from_clock: u64,
+    #[serde(skip_serializing_if = "Option::is_none")]
+    pub to_clock: Option<u64>,
 }
 
-/// A request on a track of a kernel thread.
+/// What is said of a turn in which a request comes or is worked at. Its clock is that of the run.
 #[derive(Drop, Serialize)]
-pub struct RequestSlice<'a> {
+pub struct TurnArgs {
+    pub request: u64,
+    pub from_clock: u64,
+}
+
+/// The beginning or the end of a response, which has an id in place of a track: viewers find it a
+/// free one among those of its name.
+#[derive(Drop, Serialize)]
+pub struct ResponseEnd<'a> {
     pub name: &'a str,
     pub cat: &'a str,
+    /// `b` at its beginning, `e` at its end.
     pub ph: &'a str,
-    /// The name of a colour, which chrome://tracing knows.
-    pub cname: Option<&'a str>,
+    /// What both have in common.
+    pub id: u64,
     pub pid: u64,
-    pub tid: u64,
-    pub args: RequestStory<'a>,
+    /// What came of the request; at the beginning alone.
+    #[serde(skip_serializing_if = "Option::is_none")]
+    pub args: Option<ResponseArgs>,
 }
 
-/// What is told of a request.
+/// What came of a request. Clocks are those of the run.
 #[derive(Drop, Serialize)]
-pub struct RequestStory<'a> {
-    pub told: &'a str,
+pub struct ResponseArgs {
     pub request: u64,
+    /// The thread to which it comes.
+    pub thread: u8,
+    /// The task of the thread.
+    #[serde(skip_serializing_if = "Option::is_none")]
+    pub task: Option<usize>,
+    /// How many turns of work it takes.
+    pub work: u64,
+    pub arrived: u64,
+    #[serde(skip_serializing_if = "Option::is_none")]
+    pub begun: Option<u64>,
+    #[serde(skip_serializing_if = "Option::is_none")]
+    pub answered: Option<u64>,
+    /// From arrival to answer, in ticks.
+    #[serde(skip_serializing_if = "Option::is_none")]
+    pub response: Option<u64>,
+    /// Of one that was not answered, from arrival to the run's last clock.
+    #[serde(skip_serializing_if = "Option::is_none")]
+    pub pending: Option<u64>,
 }
 
 /// A part of a flow: an arrow from slice to slice.
@@ -107,13 +161,6 @@ pub struct Flow<'a> {
     pub bp: &'a str,
     pub pid: u64,
     pub tid: u64,
-    pub args: OfRequest,
-}
-
-/// The request that a part of a flow is of.
-#[derive(Drop, Serialize)]
-pub struct OfRequest {
-    pub request: u64,
 }
 
 /// What a task has, from this clock on.

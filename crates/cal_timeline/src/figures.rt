@@ -1,10 +1,9 @@
 //! The counters of the tasks and of the bandwidth.
 
 use crate::events::{COUNTERS, Counter, Events, Figure, TaskCounter, TaskFigures};
-use crate::numbers::is_critical;
+use crate::numbers::{is_critical, kind_word};
 use crate::page::Page;
 use crate::standing::{Figures, Row};
-use crate::telling::kind_word;
 use cal_machine::Config;
 
 /// What the tasks have after a pass.

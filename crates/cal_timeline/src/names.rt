@@ -1,7 +1,7 @@
 //! The names of the groups and of their tracks, and where these stand.
 
 use crate::events::{
-    ARRIVALS, BANS, CORES, COUNTERS, Events, Name, Named, SortIndex, Sorted, WORK,
+    ARRIVALS, BANS, CORES, COUNTERS, Events, Name, Named, RESPONSES, SortIndex, Sorted, WORK,
 };
 use crate::page::Page;
 use cal_machine::Config;
@@ -56,6 +56,7 @@ fn put_core_name(core: u64, events: &mut Events<'_>) {
 pub fn put_request_names(config: &Config, events: &mut Events<'_>) {
     put_group(ARRIVALS, "requests that come", events);
     put_group(WORK, "requests at work", events);
+    put_group(RESPONSES, "responses", events);
     for thread in 0..config.threads() {
         put_thread_name(config, thread, events);
     }

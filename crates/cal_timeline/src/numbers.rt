@@ -11,6 +11,15 @@ pub fn task_of(config: &Config, thread: u8) -> Option<usize> {
     }
 }
 
+/// `lc` or `be`.
+pub fn kind_word(config: &Config, task: usize) -> &'static str {
+    if is_critical(config, task) {
+        "lc"
+    } else {
+        "be"
+    }
+}
+
 /// Whether the table has such a task and it is latency-critical.
 pub fn is_critical(config: &Config, task: usize) -> bool {
     task < config.tasks() && config.is_latency_critical(task)

@@ -1,17 +1,19 @@
-//! The requests of a run: as they come to the kernel threads, at work, and for each one that was
-//! begun a flow, from its arrival over each turn that worked at it to the one that served it.
+//! The requests of a run: how long each took from its arrival to its answer; and as they come to the
+//! kernel threads, at work, and for each one that was begun a flow, from its arrival over each turn
+//! that worked at it to the one that served it.
 
-use crate::events::{ARRIVALS, Events, Flow, OfRequest, RequestSlice, RequestStory, WORK};
+use crate::events::{ARRIVALS, Events, Flow, Slice, TurnArgs, WORK};
 use crate::numbers::task_of;
 use crate::page::Page;
+use crate::responses::{Response, put_response};
 use crate::slices::colour_of;
-use crate::work::{WorkTurn, begun_of, work_turns};
+use crate::work::{BegunAt, WorkTurn, begun_of, work_turns};
 use cal_input::RunFault;
 use cal_machine::Config;
 use cal_measure::run_end;
 use cal_run::RunEnd;
 use cal_trace::{Arrival, Arrivals};
-use std::collections::HashSet;
+use std::collections::HashMap;
 use std::io::Write;
 
 /// A run of a task table and arrivals.
@@ -39,9 +41,14 @@ impl ToldRun<'_> {
         self.put_work(events, writer)
     }
 
-    /// A request that comes: a slice for the turn before which it does, and where it was begun the
-    /// start of its flow.
-    fn put_arrival(self, arrival: &Arrival, begun: &HashSet<u64>, events: &mut Events<'_>) {
+    /// A request that comes: its response, a slice for the turn before which it does, and where it
+    /// was begun the start of its flow.
+    fn put_arrival(
+        self,
+        arrival: &Arrival,
+        begun: &HashMap<u64, BegunAt>,
+        events: &mut Events<'_>,
+    ) {
         let request = arrival.request;
         let (start, end) = turn_at(self.arrivals, arrival.turn);
         let place = Place {
@@ -52,15 +59,15 @@ impl ToldRun<'_> {
             start,
             end,
         };
-        let mut told = Page::new(events.alloc);
-        told.fill(
-            "request {}: comes at {}, for {} turn",
-            &[request.id, start, request.work],
-        );
-        told.put(if request.work == 1 { "" } else { "s" });
-        told.put(" of work");
-        put_slice(self.config, place, &told, events);
-        if begun.contains(&request.id) {
+        let response = Response {
+            request,
+            thread: arrival.thread,
+            arrived: start,
+            begun: begun.get(&request.id).copied(),
+        };
+        put_response(self.config, response, run_end(self.arrivals), events);
+        put_slice(self.config, place, events);
+        if response.begun.is_some() {
             put_flow("s", place, events);
         }
     }
@@ -123,17 +130,12 @@ fn put_work_turn(config: &Config, thread: u8, turn: &WorkTurn, events: &mut Even
         start: turn.stamp,
         end: turn.ends,
     };
-    let mut told = Page::new(events.alloc);
-    told.fill("request {}: a turn of work", &[turn.request]);
-    if turn.serves {
-        told.fill(", the last: answered at {}", &[turn.ends]);
-    }
-    put_slice(config, place, &told, events);
+    put_slice(config, place, events);
     put_flow(if turn.serves { "f" } else { "t" }, place, events);
 }
 
-/// Puts the slice of a request, with what is told of it.
-fn put_slice(config: &Config, place: Place, told: &Page, events: &mut Events<'_>) {
+/// Puts the slice of a request.
+fn put_slice(config: &Config, place: Place, events: &mut Events<'_>) {
     let task = task_of(config, place.thread);
     let mut name = Page::new(events.alloc);
     // The task first, as in the names of spans.
@@ -142,24 +144,24 @@ fn put_slice(config: &Config, place: Place, told: &Page, events: &mut Events<'_>
         name.put(", ");
     }
     name.fill("request {}", &[place.request]);
-    match (name.whole(), told.whole()) {
-        (Ok(name), Ok(told)) => {
-            let slice = RequestSlice {
+    match name.whole() {
+        Ok(name) => {
+            let slice = Slice {
                 name,
                 cat: place.cat,
                 ph: "X",
                 cname: task.map(colour_of),
                 pid: place.pid,
                 tid: u64::from(place.thread),
-                args: RequestStory {
-                    told,
+                args: TurnArgs {
                     request: place.request,
+                    from_clock: place.start,
                 },
             };
             let lasts = place.end.saturating_sub(place.start);
             events.put_at(place.start, Some(lasts), &slice)
         }
-        _ => events.page.refuse(),
+        Err(_) => events.page.refuse(),
     }
 }
 
@@ -173,9 +175,6 @@ fn put_flow(phase: &str, place: Place, events: &mut Events<'_>) {
         bp: "e",
         pid: place.pid,
         tid: u64::from(place.thread),
-        args: OfRequest {
-            request: place.request,
-        },
     };
     events.put_at(place.start, None, &flow)
 }

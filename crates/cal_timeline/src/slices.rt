@@ -1,12 +1,12 @@
 //! The slices of spans and of bans.
 
 use crate::clocks::{ClockedBan, ClockedSpan};
-use crate::events::{BANS, CORES, Events, Slice, Story};
+use crate::events::{BANS, CORES, CoreArgs, Events, Slice};
 use crate::numbers::task_of;
 use crate::page::Page;
-use crate::telling::{tell_ban, tell_span};
 use crate::walk::SpanAndBan;
 use cal_machine::Config;
+use cal_measure::{Left, Span};
 use cal_policy::Cause;
 use cal_tables::Labels;
 
@@ -14,32 +14,31 @@ use cal_tables::Labels;
 pub fn put_ended(config: &Config, end: u64, ended: SpanAndBan, events: &mut Events<'_>) {
     if let Some(clocked) = ended.span {
         put_span(config, end, &clocked, events);
-        put_leaving(end, &clocked, events);
+        if let Some(left) = clocked.span.left {
+            put_leaving(config, end, &clocked, left, events);
+        }
     }
     if let Some(clocked) = ended.ban {
         put_ban(config, end, &clocked, events);
     }
 }
 
-/// Where and when a slice stands.
+/// Where a slice stands, and what kind it is.
 #[derive(Clone, Copy)]
 struct Place {
     cat: &'static str,
     pid: u64,
     core: u8,
-    thread: u8,
     cname: Option<&'static str>,
-    from: usize,
-    to: Option<usize>,
-    /// The clocks at which it begins and ends.
-    start: u64,
+    /// The clock at which it ends.
     end: u64,
 }
 
-/// Puts a slice, under a name and with what is told of it.
-fn put_slice<'a>(place: Place, name: &'a Page, told: &'a Page, events: &mut Events<'_>) {
-    match (name.whole(), told.whole()) {
-        (Ok(name), Ok(told)) => {
+/// Puts a slice, under a name.
+fn put_slice(place: Place, name: &Page, args: CoreArgs, events: &mut Events<'_>) {
+    match name.whole() {
+        Ok(name) => {
+            let start = args.from_clock;
             let slice = Slice {
                 name,
                 cat: place.cat,
@@ -47,17 +46,11 @@ fn put_slice<'a>(place: Place, name: &'a Page, told: &'a Page, events: &mut Even
                 cname: place.cname,
                 pid: place.pid,
                 tid: u64::from(place.core),
-                args: Story {
-                    told,
-                    thread: place.thread,
-                    from_pass: place.from,
-                    to_pass: place.to,
-                },
+                args,
             };
-            let lasts = place.end.saturating_sub(place.start);
-            events.put_at(place.start, Some(lasts), &slice)
+            events.put_at(start, Some(place.end.saturating_sub(start)), &slice)
         }
-        _ => events.page.refuse(),
+        Err(_) => events.page.refuse(),
     }
 }
 
@@ -76,11 +69,34 @@ pub fn colour_of(task: usize) -> &'static str {
     }
 }
 
+/// This clock, where there is such a pass.
+fn clock_at(pass: Option<usize>, clock: u64) -> Option<u64> {
+    match pass {
+        Some(_) => Some(clock),
+        None => None,
+    }
+}
+
+/// What is said of a span that ends by this clock.
+fn span_args(config: &Config, end: u64, span: Span, granted: u64) -> CoreArgs {
+    CoreArgs {
+        thread: span.thread,
+        task: task_of(config, span.thread),
+        class: Some(span.class),
+        cause: None,
+        by_core: None,
+        for_task: None,
+        started: None,
+        from_pass: span.from,
+        to_pass: span.to,
+        from_clock: granted,
+        to_clock: clock_at(span.to, end),
+    }
+}
+
 /// A span: a slice of its core.
 fn put_span(config: &Config, end: u64, clocked: &ClockedSpan, events: &mut Events<'_>) {
     let span = clocked.span;
-    let mut told = Page::new(events.alloc);
-    tell_span(config, events.labels, clocked, &mut told);
     let mut name = Page::new(events.alloc);
     // The task first: Perfetto colours slices by their names, without the numbers in them.
     let task = task_of(config, span.thread);
@@ -93,36 +109,60 @@ fn put_span(config: &Config, end: u64, clocked: &ClockedSpan, events: &mut Event
         cat: "span",
         pid: CORES,
         core: span.core,
-        thread: span.thread,
         cname: task.map(colour_of),
-        from: span.from,
-        to: span.to,
-        start: clocked.granted,
         end,
     };
-    put_slice(place, &name, &told, events);
+    let args = span_args(config, end, span, clocked.granted);
+    put_slice(place, &name, args, events);
 }
 
 /// The time in which a span's core is being left, by its cause: a slice within that of the span.
-fn put_leaving(end: u64, clocked: &ClockedSpan, events: &mut Events<'_>) {
+fn put_leaving(
+    config: &Config,
+    end: u64,
+    clocked: &ClockedSpan,
+    left: Left,
+    events: &mut Events<'_>,
+) {
     let span = clocked.span;
-    let Some(left) = span.left else {
-        return;
-    };
     let mut name = Page::new(events.alloc);
     name_cause(events.labels, left.cause, &mut name);
     let place = Place {
         cat: "leaving",
         pid: CORES,
         core: span.core,
-        thread: span.thread,
         cname: None,
-        from: left.pass,
-        to: span.to,
-        start: clocked.revoked,
         end,
     };
-    put_slice(place, &name, &name, events);
+    let args = with_cause(
+        CoreArgs {
+            from_pass: left.pass,
+            from_clock: clocked.revoked,
+            ..span_args(config, end, span, clocked.granted)
+        },
+        left.cause,
+    );
+    put_slice(place, &name, args, events);
+}
+
+/// The same with a cause, and by whom or for whom.
+fn with_cause(args: CoreArgs, cause: Cause) -> CoreArgs {
+    match cause {
+        Cause::Ban { by } => CoreArgs {
+            cause: Some("ban"),
+            by_core: Some(by),
+            ..args
+        },
+        Cause::Bandwidth => CoreArgs {
+            cause: Some("bandwidth"),
+            ..args
+        },
+        Cause::Preempt { task } => CoreArgs {
+            cause: Some("preempt"),
+            for_task: Some(task),
+            ..args
+        },
+    }
 }
 
 fn name_cause(labels: Labels<'_>, cause: Cause, page: &mut Page) {
@@ -139,20 +179,27 @@ fn name_cause(labels: Labels<'_>, cause: Cause, page: &mut Page) {
 /// A ban: a slice of its core, in the group of bans.
 fn put_ban(config: &Config, end: u64, clocked: &ClockedBan, events: &mut Events<'_>) {
     let ban = clocked.ban;
-    let mut told = Page::new(events.alloc);
-    tell_ban(config, events.labels, clocked, &mut told);
     let mut name = Page::new(events.alloc);
     name.fill("banned for thread {}", &[u64::from(ban.thread)]);
     let place = Place {
         cat: "ban",
         pid: BANS,
         core: ban.core,
-        thread: ban.thread,
         cname: None,
-        from: ban.from,
-        to: ban.to,
-        start: clocked.banned,
         end,
     };
-    put_slice(place, &name, &told, events);
+    let args = CoreArgs {
+        thread: ban.thread,
+        task: task_of(config, ban.thread),
+        class: None,
+        cause: None,
+        by_core: None,
+        for_task: None,
+        started: Some(ban.started),
+        from_pass: ban.from,
+        to_pass: ban.to,
+        from_clock: clocked.banned,
+        to_clock: clock_at(ban.to, end),
+    };
+    put_slice(place, &name, args, events);
 }

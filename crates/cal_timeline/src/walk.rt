@@ -1,13 +1,14 @@
 //! What is known after the actions so far, while a history is walked: who has which core, which
 //! cores are banned, and what the tasks have. It does not grow.
 
-ghost use Rattle.std.specs.Prelude.{◌++◌, ◌∷◌, [], List};
+ghost use Rattle.std.specs.Prelude.{◌≡◌, ◌++◌, ◌∷◌, [], List};
 ghost use Rattle.cal_machine.specs.Table.{Table};
+ghost use Rattle.cal_measure.specs.Spans.{Move, made_in};
 ghost use Rattle.cal_policy.specs.Board.{NamesTable};
 ghost use Rattle.cal_policy.specs.State.{Agrees};
 ghost use Rattle.cal_policy.specs.declared.history.action.Action.{Action};
 ghost use Rattle.cal_timeline.specs.Standing.{AreFigures};
-ghost use Rattle.cal_timeline.specs.Walking.{IsWalkOf};
+ghost use Rattle.cal_timeline.specs.Walking.{GoesOn, HasMade, IsEndedBy, IsWalkOf, ban_in, span_in};
 
 use crate::clocks::{ClockedBan, ClockedSpan, Clocks};
 use crate::standing::{Row, Standing};
@@ -35,6 +36,7 @@ impl Walk {
     /// Before the first action.
     pub fn new() -> Walk
         ensures actions { Agrees result.standing.board [] }
+        ensures moves { HasMade [] result }
         ensures ready { (table : Table) → IsWalkOf table result }
     {
         Walk {
@@ -51,6 +53,10 @@ impl Walk {
         ensures actions { NamesTable config.now action → (x : List Action) →
             Agrees self.old.standing.board x →
             Agrees self.new.standing.board (x ++ action ∷ []) }
+        ensures moves { (moves : List Move) → HasMade moves self.old →
+            HasMade (moves ++ made_in pass action ∷ []) self.new }
+        ensures ended { (moves : List Move) → HasMade moves self.old →
+            IsEndedBy moves pass action result }
         ensures ready { IsWalkOf config.now self.new }
     {
         self.standing.note(config, action);
@@ -62,7 +68,10 @@ impl Walk {
     }
 
     /// The same with their clocks.
-    fn clocked(&self, span: Option<Span>, ban: Option<BanSpan>) -> SpanAndBan {
+    fn clocked(&self, span: Option<Span>, ban: Option<BanSpan>) -> SpanAndBan
+        ensures span { span_in result.span ≡ span }
+        ensures ban { ban_in result.ban ≡ ban }
+    {
         SpanAndBan {
             span: self.clocks.span(span),
             ban: self.clocks.ban(ban),
@@ -70,7 +79,9 @@ impl Walk {
     }
 
     /// What goes on at a core.
-    pub fn open(&self, core: u8) -> SpanAndBan {
+    pub fn open(&self, core: u8) -> SpanAndBan
+        ensures { (moves : List Move) → HasMade moves self.now → GoesOn moves core result }
+    {
         self.clocked(self.spans.span(core), self.bans.ban(core))
     }
 

@@ -4,7 +4,7 @@ use cal_machine::Config;
 use cal_measure::{TimedTurn, timed_of, turns_of};
 use cal_run::RunEnd;
 use std::alloc::{AllocError, Global};
-use std::collections::HashSet;
+use std::collections::HashMap;
 
 /// A turn in which a kernel thread worked at a request.
 #[derive(Clone, Copy)]
@@ -97,25 +97,47 @@ pub fn work_turns(
     Ok(worked)
 }
 
-/// Adds the requests of these turns.
-fn note_begun(begun: &mut HashSet<u64>, turns: &[WorkTurn]) -> Result<(), AllocError> {
+/// When a request was begun, and when it was answered, if it was.
+#[derive(Clone, Copy)]
+pub struct BegunAt {
+    /// When the first turn that worked at it began, in clock ticks.
+    pub begun: u64,
+    /// When the turn that served it ended, in clock ticks.
+    pub answered: Option<u64>,
+}
+
+/// What is known of a request after one more turn that worked at it.
+fn after_turn(before: Option<BegunAt>, turn: &WorkTurn) -> BegunAt {
+    BegunAt {
+        begun: match before {
+            Some(before) => before.begun,
+            None => turn.stamp,
+        },
+        answered: if turn.serves { Some(turn.ends) } else { None },
+    }
+}
+
+/// Notes what these turns of a thread, in order, did to their requests.
+fn note_turns(begun: &mut HashMap<u64, BegunAt>, turns: &[WorkTurn]) -> Result<(), AllocError> {
     for turn in turns {
-        begun.insert(turn.request)?;
+        let before = begun.get(&turn.request).copied();
+        begun.insert(turn.request, after_turn(before, turn))?;
     }
     Ok(())
 }
 
-/// The requests that were begun in a run with this last clock. Fails only when out of memory.
+/// The requests that were begun in a run with this last clock, by their names. Fails only when out
+/// of memory.
 pub fn begun_of(
     alloc: Global,
     config: &Config,
     end: &RunEnd,
     last: u64,
-) -> Result<HashSet<u64>, AllocError> {
-    let mut begun = HashSet::new(alloc);
+) -> Result<HashMap<u64, BegunAt>, AllocError> {
+    let mut begun = HashMap::new(alloc);
     for thread in 0..config.threads() as u8 {
         let turns = work_turns(alloc, end, last, thread)?;
-        note_begun(&mut begun, turns.as_slice())?;
+        note_turns(&mut begun, turns.as_slice())?;
     }
     Ok(begun)
 }

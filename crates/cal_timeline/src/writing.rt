@@ -2,8 +2,8 @@
 //!
 //! Clocks are told from the first one, by their unit where that is one of time, else as microseconds,
 //! since the format knows no ticks. Cores are the tracks of one group, bans those of a second; the
-//! counters of tasks and of bandwidth are a third. Of a run the requests are two more, and flows from
-//! the one to the other.
+//! counters of tasks and of bandwidth are a third. Of a run there are three more: requests as they
+//! come, requests at work, with flows from the one to the other, and responses.
 
 ghost use Rattle.cal_machine.specs.Table.{Table};
 ghost use Rattle.cal_trace.specs.Arrivals.FitsTable.{FitsTable};
@@ -152,6 +152,8 @@ struct Told {
     row: Option<Row>,
     /// The clock of the last pass.
     now: u64,
+    /// The bandwidth figure of the last pass; none before the first.
+    bandwidth: Option<u64>,
     passes: usize,
 }
 
@@ -164,6 +166,7 @@ impl Told {
             walk: Walk::new(),
             row: None,
             now: 0,
+            bandwidth: None,
             passes: 0,
         }
     }
@@ -186,7 +189,11 @@ impl Told {
             row: &row,
         }
         .put_changes(self.row, events);
-        put_figure("bandwidth", self.now, entry.input.bandwidth, events);
+        let bandwidth = entry.input.bandwidth;
+        if self.bandwidth != Some(bandwidth) {
+            put_figure("bandwidth", now, bandwidth, events);
+        }
+        self.bandwidth = Some(bandwidth);
         self.row = Some(row);
         self.passes = self.passes.saturating_add(1);
     }

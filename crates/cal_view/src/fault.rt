@@ -1,10 +1,9 @@
 //! What the program says of the fault of several tables, and of a pass or a task that is not there.
 
-use cal_faults::{keys_wanted, value_wanted};
 use cal_input::{RunFault, status};
 use cal_machine::ConfigFault;
-use cal_refusals::{RefusedInput, explain_fault};
 use cal_tables::{ComparisonFault, Reason, Variation};
+use cal_why::{RefusedInput, explain_fault, keys_wanted, value_wanted};
 use std::alloc::Global;
 use std::io::Write;
 

@@ -4,10 +4,9 @@ ghost use Rattle.std.specs.Prelude.{◌≡◌, IfErr, IfOk};
 
 use crate::command_words::command_line::{Job, Request};
 use crate::jobs::telling::Facts;
-use cal_faults::TraceKind;
 use cal_input::RunFault;
 use cal_load::WordFault;
-use cal_refusals::{PartFiles, RefusedInput, end_explained};
+use cal_why::{PartFiles, RefusedInput, TraceKind, end_explained};
 use std::alloc::Global;
 use std::io::Write;
 

@@ -1,25 +1,17 @@
 //! The core scheduler of Caladan as a program: words, one input on standard input, the answer on
 //! standard output.
 //!
-//! What it does with them is cal_engine's `run_program`, the exit statuses too, and with the option
-//! `--explain` cal_refusals' `run_explained`; here stand only the ends of the process.
+//! What it does with them is cal_why's `run_explained`, the exit statuses too; here stand only the
+//! ends of the process.
 #![tactic(auto)]
 
-use cal_engine::{end_with, given_words, run_program};
-use cal_refusals::{asks_why, run_explained};
+use cal_engine::{end_with, given_words};
+use cal_why::run_explained;
 use std::process::ExitCode;
 
 fn main(rt: HostRuntime) -> ExitCode {
     let status = match given_words(&rt, "caladan_sim") {
-        Ok(words) if asks_why(words.as_slice()) => run_explained(
-            &rt,
-            rt.alloc(),
-            words.as_slice(),
-            rt.stdin(),
-            &mut rt.stdout(),
-            &mut rt.stderr(),
-        ),
-        Ok(words) => run_program(
+        Ok(words) => run_explained(
             &rt,
             rt.alloc(),
             words.as_slice(),

@@ -1,41 +1,36 @@
 //! cal_kthread in use: kernel threads make turns, and at the end each request is accounted for.
 
-// begin
-ghost use Rattle.std.specs.Prelude.{◌≡◌, ◌≤◌, length, map, IfOk, IfSome};
-ghost use Rattle.cal_kthread.specs.End.Account.{KeepsItsWork};
-ghost use Rattle.cal_kthread.specs.End.HandingOut.{HandedOutNothing};
-ghost use Rattle.cal_kthread.specs.Places.{Each};
-ghost use Rattle.cal_kthread.specs.Team.{IsTeam, place_of, place_of_rest};
+ghost use Rattle.std.specs.Prelude.{◌≡◌, ◌<◌, ◌≤◌, length, map, IfSome};
+ghost use Rattle.cal_kthread.specs.Team.{IsTeam, place_of};
 
-use cal_command::Command;
-use cal_kthread::laws::{ends_are_a_team, no_ends_yet, one_end_more, same_place_keeps_team};
-use cal_kthread::{KernelEnd, KernelThread, Request, Team, hand_out_all, open_threads, settle};
+use cal_command::{Command, Sender};
+use cal_kthread::laws::same_place_keeps_team;
+use cal_kthread::{
+    KernelEnd, KernelThread, Request, RequestList, end_all, hand_out_all, open_threads, settle,
+};
 use cal_machine::Config;
-use std::alloc::{AllocError, Global};
 
 /// Two cores and a task of one kernel thread.
 const TABLE: &[u8] = b"cores = 2\nbandwidth_limit = 1000
 [[task]]\nkind = \"lc\"\nguaranteed = 1\nlimit = 1\ndelay = 10\nrequest = 50\n";
 
-/// What the threads of a team leave, in thread order. The laws called say that they are the ends of
-/// one team, which `hand_out_all` demands.
-fn ends_of(alloc: Global, threads: Vec<KernelThread>) -> Result<Vec<KernelEnd>, AllocError>
-    requires team { IsTeam (map (λ t. place_of t.thread) threads.items) }
-    ensures team { IfOk result (λ ends. IsTeam (map (λ e. place_of_rest e.rest) ends.items)) }
-    ensures count { IfOk result (λ ends. length ends.items ≡ length threads.items) }
-    ensures work { IfOk result (λ ends. Each KeepsItsWork ends.items) }
-    ensures untouched { IfOk result (λ ends. Each HandedOutNothing ends.items) }
-{
-    let mut ends = Vec::new(alloc);
-    no_ends_yet();
-    for thread in threads {
-        one_end_more();
-        ends.push(thread.end())?;
-    }
-    ends_are_a_team();
-    Ok(ends)
+// begin run
+pub fn show(rt: &HostRuntime) -> anyhow::Result<()> {
+    let (alloc, config) = (rt.alloc(), Config::read(rt.alloc(), TABLE)?);
+    let mut team = open_threads(alloc, &config)?;
+    turn(&mut team.threads, 0, 10, Some(request(7, 1)))?; // it arrives, and waits
+    run_first(&mut team.senders, 0); // the thread is sent a core,
+    turn(&mut team.threads, 0, 20, None)?; // and serves it there
+    turn(&mut team.threads, 0, 30, Some(request(8, 2)))?; // of this one a part is done
+    let mut ends = end_all(alloc, team.threads)?; // the run is over
+    let each = ends.as_mut_slice();
+    settle(&config, each);
+    let left = hand_out_all(alloc, each)?; // what each thread had left
+    print(rt, &ends, &left)
 }
+// end
 
+// begin helpers
 /// A turn of thread `k` at this clock, in which this request or none arrives.
 fn turn(
     threads: &mut Vec<KernelThread>,
@@ -56,50 +51,41 @@ fn turn(
     Ok(())
 }
 
-pub fn show(rt: &HostRuntime) -> anyhow::Result<()> {
-    let config = Config::read(rt.alloc(), TABLE)?;
-    let Team {
-        mut threads,
-        mut senders,
-        ..
-    } = open_threads(rt.alloc(), &config)?;
-
-    // A request arrives and waits; then the thread is sent a core, and serves it there.
-    let request = Request {
-        id: 7,
-        work: 1,
-        misses: 0,
-    };
-    turn(&mut threads, 0, 10, Some(request))?;
+/// Sends the first thread to this core, where its ring has room.
+fn run_first(senders: &mut Vec<Sender>, core: u8)
+    requires { core < 128 }
+{
     if let Some(sender) = senders.first_mut() {
         if sender.room() {
-            sender.send(Command::Run(0));
+            sender.send(Command::Run(core));
         }
     }
-    turn(&mut threads, 0, 20, None)?;
-    // One more arrives, of two turns' work, of which one is made.
-    let longer = Request {
-        id: 8,
-        work: 2,
-        misses: 0,
-    };
-    turn(&mut threads, 0, 30, Some(longer))?;
+}
 
-    // The run is over: what each thread did, and what it had left.
-    let mut ends = ends_of(rt.alloc(), threads)?;
-    let each = ends.as_mut_slice();
-    settle(&config, each);
-    let lefts = hand_out_all(rt.alloc(), each)?;
-    for end in &ends {
+/// A request of that many turns' work.
+fn request(id: u64, work: u64) -> Request
+    ensures { result.work ≡ work }
+{
+    Request {
+        id,
+        work,
+        misses: 0,
+    }
+}
+
+// end
+
+/// What each thread did, and what it had left.
+fn print(rt: &HostRuntime, ends: &Vec<KernelEnd>, lefts: &Vec<RequestList>) -> anyhow::Result<()> {
+    for end in ends {
         for entry in end.journal.as_slice() {
             println!(rt; "  {entry:?}")?;
         }
     }
-    for left in &lefts {
+    for left in lefts {
         for request in left.as_slice() {
             println!(rt; "  left: {request:?}")?;
         }
     }
     Ok(())
 }
-// end

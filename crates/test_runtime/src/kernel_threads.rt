@@ -14,7 +14,7 @@ mod teams;
 mod turns;
 
 use cal_command::{Command, Sender};
-use cal_kthread::laws::{ends_are_a_team, no_ends_yet, one_end_more, same_place_keeps_team};
+use cal_kthread::laws::same_place_keeps_team;
 use cal_kthread::{
     Entry, KernelEnd, KernelThread, Request, RequestList, TurnFault, hand_out_all, settle,
 };
@@ -133,24 +133,6 @@ fn is_sendable(command: Command) -> bool
         Command::Run(core) => core < 128,
         Command::Park => true,
     }
-}
-
-/// The ends of a team's threads, in their order.
-fn ends_of(alloc: Global, threads: Vec<KernelThread>) -> Result<Vec<KernelEnd>, AllocError>
-    requires team { IsTeam (map (λ t. place_of t.thread) threads.items) }
-    ensures team { IfOk result (λ ends. IsTeam (map (λ e. place_of_rest e.rest) ends.items)) }
-    ensures count { IfOk result (λ ends. length ends.items ≡ length threads.items) }
-    ensures work { IfOk result (λ ends. Each KeepsItsWork ends.items) }
-    ensures untouched { IfOk result (λ ends. Each HandedOutNothing ends.items) }
-{
-    let mut ends = Vec::new(alloc);
-    no_ends_yet();
-    for thread in threads {
-        one_end_more();
-        ends.push(thread.end())?;
-    }
-    ends_are_a_team();
-    Ok(ends)
 }
 
 /// What each thread of a team had left, and with it the team's account.

@@ -1,6 +1,6 @@
 //! What the words of a command line ask for.
 
-ghost use Rattle.std.specs.Prelude.{◌≡◌, false, map, IfOk, None, Option, Some, true};
+ghost use Rattle.std.specs.Prelude.{◌≡◌, Bool, false, map, IfOk, None, Option, Some, true};
 ghost use Rattle.clap.specs.Words.{app_of, subcommand_rows_of};
 ghost use Rattle.clap.specs.declared.builder.command.Command.TheViews.{out-Command};
 ghost use Rattle.clap.specs.Simple.{new_app, with_subcommand};
@@ -8,9 +8,9 @@ ghost use Rattle.clap.specs.Matches.{found_of};
 ghost use Rattle.clap.specs.Values.{kind_of};
 ghost use Rattle.clap.specs.Walk.{rows_of, rule_of};
 ghost use Rattle.clap.specs.declared.error.kind.ErrorKind.TheVariants as kind;
-ghost use Rattle.cal_engine.specs.CommandWords.{Asks, AsksTwo, FlagsAsk, IsConflict, IsJob, Names};
-ghost use Rattle.cal_engine.specs.CommandWords.{answer_of, bare_program, job_of, program};
-ghost use Rattle.cal_engine.specs.CommandWords.{report_flag, run_word, summary_flag, table_flag};
+ghost use Rattle.cal_engine.specs.CommandWords.{AsksFor, AsksTwo, Explains, FlagsAsk, IsAsked};
+ghost use Rattle.cal_engine.specs.CommandWords.{IsConflict, IsJob, Names, answer_of, bare_program};
+ghost use Rattle.cal_engine.specs.CommandWords.{flag, job_of, lone_word, program, run_word};
 ghost use Rattle.cal_engine.specs.declared.command_words.command_line.Job.{Job as JobOf};
 ghost use Rattle.cal_engine.specs.declared.jobs.running.RunAnswer.{RunAnswer as RunAnswerOf};
 
@@ -22,7 +22,7 @@ use std::alloc::{AllocError, Global};
 
 /// What both programs say of their version: that of the project, as the file VERSION has it, and of
 /// the files that they read and write.
-pub const VERSION: &str = "3 (writes history 2; reads signals and history 1 and 2, arrivals 1)";
+pub const VERSION: &str = "4 (writes history 2; reads signals and history 1 and 2, arrivals 1)";
 
 /// What the program is to do with its input.
 #[derive(Clone, Copy, Debug, PartialEq, Eq)]
@@ -40,20 +40,57 @@ pub enum Job {
     Audit,
 }
 
+/// What the words after the program's name ask for.
+#[derive(Clone, Copy, Debug, PartialEq, Eq)]
+pub struct Asked {
+    /// What the program is to do with its input.
+    pub job: Job,
+    /// Whether it is to say why the input is refused, if it is: `--explain` after the word.
+    pub explained: bool,
+}
+
+/// The job that the words after the program's name ask for, as `asked_by` says.
+pub fn words<'a>(alloc: Global, words: &'a [&'a str]) -> Result<Job, Error>
+    ensures job { (explained : Bool) → (job : Job) →
+        AsksFor explained (map (λ word. word.now) words.now) (Some job) → IsJob job result }
+    ensures two { (explained : Bool) →
+        AsksTwo explained (map (λ word. word.now) words.now) → IsConflict result }
+{
+    match asked_by(alloc, words) {
+        Ok(asked) => Ok(asked.job),
+        Err(error) => Err(error),
+    }
+}
+
 /// What the words after the program's name ask for; no words are `Job::Decide`.
 ///
 /// The error is clap's own. A word that is not in the table is refused; more than one of
 /// `--summary`, `--report` and `--table` is an error of the kind `ArgumentConflict`; a request for
 /// help is an error of the kind `DisplayHelp`, one for the version of the kind `DisplayVersion`,
 /// whose texts go to the standard output; out of memory has the kind `OutOfMemory`.
-pub fn words<'a>(alloc: Global, words: &'a [&'a str]) -> Result<Job, Error>
-    ensures job { (job : Job) → Asks (map (λ word. word.now) words.now) job → IsJob job result }
-    ensures two { AsksTwo (map (λ word. word.now) words.now) → IsConflict result }
+pub fn asked_by<'a>(alloc: Global, words: &'a [&'a str]) -> Result<Asked, Error>
+    ensures job { (explained : Bool) → (job : Job) →
+        AsksFor explained (map (λ word. word.now) words.now) (Some job) →
+        IsAsked job explained result }
+    ensures two { (explained : Bool) →
+        AsksTwo explained (map (λ word. word.now) words.now) → IsConflict result }
 {
     let matches = program(alloc)?.try_get_matches_from(words)?;
+    let explained = is_explained(&matches);
     match job_named(&matches) {
-        Some(job) => Ok(job),
+        Some(job) => Ok(Asked { job, explained }),
         None => Err(conflict(alloc, &matches)?),
+    }
+}
+
+/// Whether `--explain` stands after the subcommand.
+fn is_explained(matches: &ArgMatches) -> bool
+    ensures { (explained : Bool) → Explains (subcommand_rows_of matches.now) explained →
+        result ≡ explained }
+{
+    match matches.subcommand() {
+        Some((_, flags)) => flags.get_flag("explain"),
+        None => false,
     }
 }
 
@@ -103,7 +140,7 @@ fn bare_program<'a>(alloc: Global) -> Result<Command<'a>, AllocError>
         .bin_name("caladan_sim")
 }
 
-/// The program with one word more, which takes nothing after it.
+/// The program with one word more, which asks for its job alone.
 fn with_word<'a>(
     alloc: Global,
     program: Command<'a>,
@@ -111,9 +148,9 @@ fn with_word<'a>(
     help: Help,
 ) -> Result<Command<'a>, AllocError>
     ensures { IfOk result (λ command.
-        app_of command ≡ with_subcommand (app_of program.entry) (new_app word.entry.now).top) }
+        app_of command ≡ with_subcommand (app_of program.entry) (lone_word word.entry.now).top) }
 {
-    program.subcommand(plain_word(alloc, word, help))
+    program.subcommand(lone_word(alloc, word, help)?)
 }
 
 /// The program with one word more, for a run.
@@ -139,48 +176,46 @@ fn plain_word<'a>(alloc: Global, word: &'a str, help: Help) -> Command<'a>
         .after_long_help(help.after)
 }
 
-/// A word for a run, after which the flag for its summary, its report or its table may stand.
+/// A word that asks for its job alone, after which `--explain` may stand.
+fn lone_word<'a>(alloc: Global, word: &'a str, help: Help) -> Result<Command<'a>, AllocError>
+    ensures shape { IfOk result (λ command. app_of command ≡ lone_word word.entry.now) }
+    ensures local { IfOk result (λ command. (out-Command command).has_globals ≡ false) }
+{
+    plain_word(alloc, word, help).arg(flag(alloc, "explain", EXPLAIN))
+}
+
+/// A word for a run, after which the flag for its summary, its report or its table may stand too.
 fn run_word<'a>(alloc: Global, word: &'a str, help: Help) -> Result<Command<'a>, AllocError>
     ensures shape { IfOk result (λ command. app_of command ≡ run_word word.entry.now) }
     ensures local { IfOk result (λ command. (out-Command command).has_globals ≡ false) }
 {
     plain_word(alloc, word, help)
-        .arg(summary_flag(alloc))?
-        .arg(report_flag(alloc))?
-        .arg(table_flag(alloc))
+        .arg(flag(
+            alloc,
+            "summary",
+            "Write the summary in place of the history",
+        ))?
+        .arg(flag(alloc, "report", "Write the report in place of the history"))?
+        .arg(flag(
+            alloc,
+            "table",
+            "Put the task table and the line --- in front",
+        ))?
+        .arg(flag(alloc, "explain", EXPLAIN))
 }
 
-/// The flag that asks for the summary of a run.
-fn summary_flag<'a>(alloc: Global) -> Arg<'a>
-    ensures shape { rule_of result ≡ summary_flag }
-    ensures local { result.global ≡ false }
-{
-    Arg::new(alloc, "summary")
-        .long("summary")
-        .action(ArgAction::SetTrue)
-        .help("Write the summary in place of the history")
-}
+/// What help says of `--explain`.
+const EXPLAIN: &str = "Say on standard error why an input is refused";
 
-/// The flag that asks for the report of a run.
-fn report_flag<'a>(alloc: Global) -> Arg<'a>
-    ensures shape { rule_of result ≡ report_flag }
+/// A flag of this name.
+fn flag<'a>(alloc: Global, name: &'a str, help: &'a str) -> Arg<'a>
+    ensures shape { rule_of result ≡ flag name.entry.now }
     ensures local { result.global ≡ false }
 {
-    Arg::new(alloc, "report")
-        .long("report")
+    Arg::new(alloc, name)
+        .long(name)
         .action(ArgAction::SetTrue)
-        .help("Write the report in place of the history")
-}
-
-/// The flag that asks for the history of a run with its table.
-fn table_flag<'a>(alloc: Global) -> Arg<'a>
-    ensures shape { rule_of result ≡ table_flag }
-    ensures local { result.global ≡ false }
-{
-    Arg::new(alloc, "table")
-        .long("table")
-        .action(ArgAction::SetTrue)
-        .help("Put the task table and the line --- in front")
+        .help(help)
 }
 
 /// The job that the subcommand names; none where it is a run of which two answers are asked for.

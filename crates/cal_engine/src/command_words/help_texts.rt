@@ -56,7 +56,7 @@ Standard input: a task table (TOML), the line ---, and signals (CSV): for each
 pass a row with its clock and bandwidth figure, and what was found on the page
 of each kernel thread.
 Standard output: the report: what each pass did, and what each task has at the
-end. With --explain, standard error says why an input was refused.
+end.
 Exit status: 0 done, 2 rejected input, 3 memory or output was refused.",
         "caladan_sim decide",
         "\
@@ -86,7 +86,6 @@ come to the threads.
 Standard output: the history of the run; with --table the table and the line
 --- before it, as `audit` reads them; with --summary, what each kernel thread
 did; with --report, what `audit` writes of that history above its last line.
-With --explain, standard error says why an input was refused.
 Exit status: 0 done, 2 rejected input, 3 memory or output was refused.",
         "caladan_sim lockstep",
         "\
@@ -123,7 +122,6 @@ Standard output: the history of the run; with --table the table and the line
 --- before it, as `audit` reads them; with --summary, what each kernel thread
 did; with --report, what `audit` writes of that history above its last line.
 Threads interleave differently on every run, so the output varies.
-With --explain, standard error says why an input was refused.
 Exit status: 0 done, 2 rejected input, 3 memory, output or a thread was
 refused.",
         "caladan_sim sim",
@@ -159,7 +157,7 @@ Standard input: a task table (TOML), the line ---, and a history (CSV), as
 all three.
 Standard output: if every pass is the policy's, the report and the line
 `legal`; else the one line `illegal pass P`, where P is the first pass, from 0,
-that is not. With --explain, standard error says why an input was refused.
+that is not.
 Exit status: 0 legal, 1 illegal, 2 rejected input, 3 memory or output was
 refused.",
         "caladan_sim audit",

@@ -12,7 +12,7 @@ use crate::jobs::accepted::AcceptedInput;
 use crate::jobs::running::RunAnswer;
 use cal_input::RunFault;
 use cal_kthread::{Journal, RequestList};
-use cal_policy::legal_is_orderly;
+use cal_policy::laws::legal_is_orderly;
 use cal_run::{RunEnd, TalliedEnd};
 use cal_trace::{Arrivals, write_history, write_report, write_summary, write_tallied_summary};
 use std::alloc::Global;

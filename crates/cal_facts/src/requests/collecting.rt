@@ -15,7 +15,7 @@ use crate::requests::served::ServedRequests;
 use cal_input::RunFault;
 use cal_kthread::TurnEntries;
 use cal_machine::Config;
-use cal_measure::{EndedRun, ThreadWork, open_works};
+use cal_measure::{ThreadWork, end_works, open_works, run_end};
 use cal_policy::Actions;
 use cal_run::{Collector, lockstep_collected, step_given};
 use cal_sched::BareScheduler;
@@ -100,8 +100,8 @@ pub(crate) fn served_of_run(
     ensures kind { IfErr result (λ fault. fault ≡ RunFault.Memory) }
 {
     let mut open = OpenRequests::open(alloc, config)?;
-    let left = lockstep_collected(alloc, config, arrivals, &mut open)?;
+    lockstep_collected(alloc, config, arrivals, &mut open)?;
     let OpenRequests { works, .. } = open;
-    let ended = EndedRun::of(alloc, arrivals, works, left)?;
-    Ok(ServedRequests::of(alloc, ended.threads.as_slice())?)
+    let threads = end_works(alloc, works, run_end(arrivals))?;
+    Ok(ServedRequests::of(alloc, threads.as_slice())?)
 }

@@ -1,11 +1,8 @@
 //! The rows of the requests of a run.
 
-ghost use Rattle.std.specs.Prelude.{◌≡◌, ◌<◌, List, OnOk};
+ghost use Rattle.std.specs.Prelude.{List, OnOk};
 ghost use Rattle.std.specs.Io.KnownBytes.{Appends};
 ghost use Rattle.std.specs.List.{flat_map};
-ghost use Rattle.cal_machine.specs.TableTasks.{threads_of_table};
-ghost use Rattle.cal_measure.specs.Clocks.{clock_of};
-ghost use Rattle.cal_trace.specs.Arrivals.FitsTable.{FitsTable};
 ghost use Rattle.cal_facts.specs.Served.{AreServed};
 ghost use Rattle.cal_facts.specs.RequestRows.{arrival_text, request_columns, request_line};
 ghost use Rattle.cal_facts.specs.RequestRows.{served_text, text_of_requests};
@@ -14,7 +11,7 @@ ghost use Rattle.cal_facts.specs.declared.requests.served.Served.{Served as Serv
 use crate::cells::{Cell, task_in};
 use crate::requests::served::{Served, ServedRequests};
 use cal_machine::Config;
-use cal_measure::run_end;
+use cal_measure::{clock_of, run_end};
 use cal_trace::{Arrival, Arrivals};
 use std::io;
 use std::io::Write;
@@ -72,21 +69,11 @@ fn write_request<W: Write>(run: &RunRequests, arrival: Arrival, writer: &mut W) 
         OnOk result (Appends (W.contents writer.old) (W.contents writer.new)
         (request_line run.now.config run.now.arrivals all arrival)) }
 {
-    let came = clock_of(run.arrivals.turns.as_slice(), arrival);
+    let came = clock_of(run.arrivals.turns.as_slice(), &arrival);
     write_arrival(&run.config, came, arrival, writer)?;
     let waits = run_end(&run.arrivals).saturating_sub(came);
     let served = run.served.of_request(arrival.request.id);
     write_served(waits, served, writer)
-}
-
-/// When the request of an arrival came.
-fn clock_of(turns: &[u64], arrival: Arrival) -> u64
-    ensures { result ≡ clock_of turns.now arrival }
-{
-    match turns.get(arrival.turn as usize) {
-        Some(clock) => *clock,
-        None => 0,
-    }
 }
 
 fn write_arrival<W: Write>(

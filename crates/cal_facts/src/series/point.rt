@@ -3,20 +3,16 @@
 ghost use Rattle.std.specs.Prelude.{◌≡◌, ◌<◌, ◌++◌, List, OnOk, None, Some, length};
 ghost use Rattle.std.specs.Prelude.{if◌then◌else◌};
 ghost use Rattle.cal_machine.specs.TableTasks.{is_latency_critical};
-ghost use Rattle.cal_machine.specs.declared.numbering.TheConstants.{MOST_THREADS};
-ghost use Rattle.cal_measure.specs.States.{delay_after};
 ghost use Rattle.cal_policy.specs.Board.Counts as counts;
-ghost use Rattle.cal_policy.specs.History.Looks.{kept_by};
-ghost use Rattle.cal_policy.specs.Pass.Grants as grants;
-ghost use Rattle.cal_policy.specs.State.{Agrees, IsReady, KeepingAgrees};
+ghost use Rattle.cal_policy.specs.State.{Agrees, IsReady};
 ghost use Rattle.cal_policy.specs.declared.history.action.Action.{Action};
 ghost use Rattle.cal_policy.specs.declared.history.entry.PassEntry.{PassEntry};
-ghost use Rattle.cal_policy.specs.declared.history.look.Seen.{Seen};
 ghost use Rattle.cal_facts.specs.Series.{point_of, points_of};
 ghost use Rattle.cal_facts.specs.PassAt.{IsPassAt};
 
 use cal_machine::Config;
-use cal_policy::state::{Board, booked_by, cap_of, held_by, record_delay};
+use cal_measure::task_delay;
+use cal_policy::state::{Board, booked_by, cap_of, held_by};
 use cal_trace::GivenPass;
 use std::alloc::AllocError;
 
@@ -53,31 +49,6 @@ pub(crate) struct MadePass {
     pub(crate) pass: usize,
     /// Its clock and its bandwidth figure.
     pub(crate) given: GivenPass,
-}
-
-/// The delay of a thread by its kept record.
-fn thread_delay(board: &Board, clock: u64, thread: usize) -> u64
-    requires { thread < MOST_THREADS }
-    ensures { (looks : List (List Seen)) → KeepingAgrees board.now.keeping looks →
-        result ≡ grants.record_delay clock (kept_by looks thread) }
-{
-    record_delay(clock, &board.keeping.kept[thread])
-}
-
-/// The delay of a task: the greatest of its threads'.
-fn task_delay(config: &Config, board: &Board, clock: u64, task: usize) -> u64
-    requires { task < length config.now.tasks }
-    ensures { (looks : List (List Seen)) → KeepingAgrees board.now.keeping looks →
-        result ≡ delay_after config.now looks clock task }
-{
-    config.limits();
-    let (first, count) = config.threads_of(task);
-    let mut greatest: u64 = 0;
-    for j in 0..count {
-        let delay = thread_delay(board, clock, first + j);
-        greatest = greatest.max(delay);
-    }
-    greatest
 }
 
 /// The cap of a task, where it is a best-effort one.

@@ -1,6 +1,6 @@
 //! The rows of a series.
 
-ghost use Rattle.std.specs.Prelude.{◌≡◌, OnOk};
+ghost use Rattle.std.specs.Prelude.{OnOk};
 ghost use Rattle.std.specs.Io.KnownBytes.{Appends};
 ghost use Rattle.std.specs.List.{flat_map};
 ghost use Rattle.cal_facts.specs.Series.{cores_text, delay_text, pass_text, point_line};
@@ -80,17 +80,8 @@ fn write_cores<W: Write>(point: Point, writer: &mut W) -> io::Result<()>
 {
     let (held, booked, limit) = (point.held, point.booked, point.limit);
     let leaving = booked.saturating_sub(held);
-    let cap = cap_cell(point.cap);
-    writeln!(writer, ",{held},{leaving},{booked},{cap},{limit}")
-}
-
-/// The cell of a cap, where there is one.
-fn cap_cell(cap: Option<u8>) -> Cell
-    ensures { result.number ≡ cap }
-{
-    let number = match cap {
-        Some(cap) => Some(cap as u64),
-        None => None,
+    let cap = Cell {
+        number: point.cap.map(u64::from),
     };
-    Cell { number }
+    writeln!(writer, ",{held},{leaving},{booked},{cap},{limit}")
 }

@@ -22,27 +22,14 @@ pub(crate) struct Gathering {
     pub(crate) lifted: Vec<BanSpan>,
 }
 
-/// Puts a span, if there is one, at the end of a list. Fails only when out of memory.
-fn put_span(spans: &mut Vec<Span>, span: Option<Span>) -> Result<(), AllocError>
-    ensures { OnOk result (spans.new.items ≡ spans.old.items ++ one_of span) }
+/// Puts one more, if there is one, at the end of a list. Fails only when out of memory.
+fn put_one<X: Drop>(list: &mut Vec<X>, one: Option<X>) -> Result<(), AllocError>
+    ensures { OnOk result (list.new.items ≡ list.old.items ++ one_of one) }
 {
-    match span {
+    match one {
         None => Ok(()),
-        Some(span) => {
-            spans.push(span)?;
-            Ok(())
-        }
-    }
-}
-
-/// Puts a ban, if there is one, at the end of a list. Fails only when out of memory.
-fn put_ban(bans: &mut Vec<BanSpan>, ban: Option<BanSpan>) -> Result<(), AllocError>
-    ensures { OnOk result (bans.new.items ≡ bans.old.items ++ one_of ban) }
-{
-    match ban {
-        None => Ok(()),
-        Some(ban) => {
-            bans.push(ban)?;
+        Some(one) => {
+            list.push(one)?;
             Ok(())
         }
     }
@@ -78,9 +65,9 @@ impl Gathering {
             → Gathers self.new (moves ++ made_in pass action ∷ [])) }
     {
         let over = self.tracker.note(pass, action);
-        put_span(&mut self.ended, over)?;
+        put_one(&mut self.ended, over)?;
         let lifted = self.bans.note(pass, action);
-        put_ban(&mut self.lifted, lifted)?;
+        put_one(&mut self.lifted, lifted)?;
         Ok(())
     }
 
@@ -110,7 +97,7 @@ fn put_open(tracker: &Tracker, cores: u8, spans: &mut Vec<Span>) -> Result<(), A
         → spans.new.items ≡ spans.old.items ++ open_of moves cores) }
 {
     for core in 0..cores {
-        put_span(spans, tracker.span(core))?;
+        put_one(spans, tracker.span(core))?;
     }
     Ok(())
 }
@@ -121,7 +108,7 @@ fn put_open_bans(bans: &BanTracker, cores: u8, lifted: &mut Vec<BanSpan>) -> Res
         → lifted.new.items ≡ lifted.old.items ++ open_bans moves cores) }
 {
     for core in 0..cores {
-        put_ban(lifted, bans.ban(core))?;
+        put_one(lifted, bans.ban(core))?;
     }
     Ok(())
 }

@@ -1,6 +1,6 @@
 //! The rows of spans and bans.
 
-ghost use Rattle.std.specs.Prelude.{◌≡◌, OnOk, option_map};
+ghost use Rattle.std.specs.Prelude.{◌≡◌, OnOk};
 ghost use Rattle.std.specs.Io.KnownBytes.{Appends};
 ghost use Rattle.std.specs.List.{flat_map};
 ghost use Rattle.cal_facts.specs.Stretches.{ban_line, clock_of, place_text, span_columns};
@@ -141,9 +141,13 @@ fn write_time<W: Write>(clocks: &[u64], stretch: Stretch, writer: &mut W) -> io:
         (time_text clocks.now stretch)) }
 {
     let from = stretch.from;
-    let to = pass_cell(stretch.to);
+    let to = Cell {
+        number: stretch.to.map(|pass| pass as u64),
+    };
     let begun = clock_of(clocks, from);
-    let ended = clock_cell(clocks, stretch.to);
+    let ended = Cell {
+        number: stretch.to.map(|pass| clock_of(clocks, pass)),
+    };
     writeln!(writer, ",{from},{to},{begun},{ended}")
 }
 
@@ -155,26 +159,4 @@ fn clock_of(clocks: &[u64], pass: usize) -> u64
         Some(clock) => *clock,
         None => 0,
     }
-}
-
-/// The cell of a pass, where there is one.
-fn pass_cell(pass: Option<usize>) -> Cell
-    ensures { result.number ≡ pass }
-{
-    let number = match pass {
-        Some(pass) => Some(pass as u64),
-        None => None,
-    };
-    Cell { number }
-}
-
-/// The cell of its clock.
-fn clock_cell(clocks: &[u64], pass: Option<usize>) -> Cell
-    ensures { result.number ≡ option_map (clock_of clocks.now) pass }
-{
-    let number = match pass {
-        Some(pass) => Some(clock_of(clocks, pass)),
-        None => None,
-    };
-    Cell { number }
 }

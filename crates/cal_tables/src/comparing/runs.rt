@@ -14,8 +14,7 @@ use cal_machine::Config;
 use cal_trace::Arrivals;
 use std::alloc::Global;
 
-/// What is kept of a run on one thread: its numbers, to be written, or what it went through, to be
-/// drawn.
+/// What is kept of a run on one thread, as its numbers.
 pub trait OfRun: Drop {
     /// It is so of a run of this table on these arrivals.
     ghost tells: { Table → RunArrivals → Self → Type 0 };

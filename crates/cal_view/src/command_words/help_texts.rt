@@ -47,8 +47,8 @@ Input: a task table (TOML), the line ---, and a history (CSV), or
 arrivals (CSV), as `caladan_sim lockstep` reads.
 Output: trace events (JSON), which https://ui.perfetto.dev and
 chrome://tracing open. Of arrivals they are of the run that
-`caladan_sim lockstep` makes: its history, its requests as they come, the turns
-that worked at them, and arrows from each request to its turns.
+`caladan_sim lockstep` makes: its history, its requests from arrival to answer,
+as they come and at work, and arrows from each request to its turns.
 Exit status: 0 done, 2 rejected input, 3 memory or output was refused.",
     "caladan_view timeline > timeline.json",
     "\

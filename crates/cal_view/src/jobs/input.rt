@@ -1,7 +1,7 @@
 //! What a job is done on.
 
-use cal_refusals::RefusedInput;
 use cal_tables::Labels;
+use cal_why::RefusedInput;
 use std::alloc::Global;
 
 /// An input that was read to its end, and what its tasks and clock ticks are called.

@@ -1,49 +1,33 @@
-//! Looks that are judged one by one, and an input that is made of them in the memory of a used one.
-
-ghost use Rattle.std.specs.Prelude.{◌≡◌, length};
-ghost use Rattle.cal_machine.specs.TableTasks.{threads_of_table};
+//! Looks that are judged one by one, and an input that is made of them.
 
 use crate::same::assert_same;
 use cal_machine::Config;
-use cal_policy::state::Board;
-use cal_policy::{
-    Book, FoundLook, Input, Look, OpenInput, Record, Rooms, Seen, SeenList, judge, orderly,
-};
+use cal_policy::{Book, FoundLook, Input, Look, Record, Seen, judge, orderly};
 use std::alloc::{AllocError, Global};
 use std::process::Abort;
 use std::test::Fail;
 
-/// The input of these looks at clock 60 and bandwidth figure 7, in the memory of a used one.
-fn made_again(
+/// The input of these looks at clock 60 and bandwidth figure 7.
+fn made(
+    alloc: Global,
     config: &Config,
-    board: &Board,
-    used: Input,
+    book: &Book,
     looks: &[FoundLook],
-) -> Result<Input, AllocError>
-    requires { length looks.now ≡ threads_of_table config.now }
-{
-    let mut given = OpenInput::again(used, config)?;
-    for found in looks {
-        given.look(config, board, *found);
+) -> Result<Option<Input>, AllocError> {
+    if looks.len() != config.threads() {
+        return Ok(None);
     }
-    Ok(given.finish(60, 7))
-}
-
-/// An input of no thread, which has no memory.
-fn of_no_thread(alloc: Global) -> Input {
-    Input {
-        now: 0,
-        bandwidth: 0,
-        seen: SeenList::new(Vec::new(alloc)),
-        rooms: Rooms::new(Vec::new(alloc)),
-    }
+    Ok(Some(book.input(alloc, config, 60, 7, looks)?))
 }
 
 /// What was made is what was meant.
-fn assert_made<R: Abort>(rt: &R, input: &Input, seen: &[Seen], rooms: &[bool]) {
-    assert!(rt; input.now == 60 && input.bandwidth == 7);
-    assert_eq!(rt; input.seen.as_slice(), seen);
-    assert_eq!(rt; input.rooms.as_slice(), rooms);
+fn assert_made<R: Abort>(rt: &R, input: &Option<Input>, seen: &[Seen], rooms: &[bool]) {
+    assert!(rt; input.is_some());
+    if let Some(input) = input {
+        assert!(rt; input.now == 60 && input.bandwidth == 7);
+        assert_eq!(rt; input.seen.as_slice(), seen);
+        assert_eq!(rt; input.rooms.as_slice(), rooms);
+    }
 }
 
 /// The look that finds this record at this place.
@@ -78,13 +62,11 @@ fn looks_before_the_first_pass(rt: HostRuntime) -> Result<(), Fail> {
     Ok(())
 }
 
-/// The same looks in an input. One that had room for no look is given room for all, and nothing of
-/// one that is used up is left in the next.
+/// The same looks in an input, and the same in another order.
 #[test]
-fn input_in_the_memory_of_a_used_one(rt: HostRuntime) -> Result<(), Fail> {
+fn input_of_looks_before_the_first_pass(rt: HostRuntime) -> Result<(), Fail> {
     let alloc = rt.alloc();
     let config = Config::read(alloc, TABLE.as_bytes())?;
-    assert_eq!(rt; config.threads(), 4);
     let book = Book::open(alloc, &config)?;
     let looks = [
         found(whole(1, IDLE), true),
@@ -92,7 +74,7 @@ fn input_in_the_memory_of_a_used_one(rt: HostRuntime) -> Result<(), Fail> {
         found(whole(1, SHOWN), false),
         found(BUSY, true),
     ];
-    let first = made_again(&config, book.board(), of_no_thread(alloc), &looks)?;
+    let first = made(alloc, &config, &book, &looks)?;
     assert_made(&rt, &first, &FIRST, &[true, true, false, true]);
     let looks = [
         found(BUSY, false),
@@ -100,7 +82,7 @@ fn input_in_the_memory_of_a_used_one(rt: HostRuntime) -> Result<(), Fail> {
         found(whole(2, TAKEN), true),
         found(whole(1, IDLE), true),
     ];
-    let second = made_again(&config, book.board(), first, &looks)?;
+    let second = made(alloc, &config, &book, &looks)?;
     assert_made(&rt, &second, &SECOND, &[false, true, true, true]);
     Ok(())
 }

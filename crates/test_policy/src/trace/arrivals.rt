@@ -1,8 +1,8 @@
-//! A whole file of arrivals is read as it says.
+//! A whole file of arrivals is read as it says, and written again.
 
 use super::tables::two_threads;
 use cal_machine::Request;
-use cal_trace::{Arrival, GivenPass, read_arrivals};
+use cal_trace::{Arrival, GivenPass, WriteFault, read_arrivals, write_arrivals};
 use std::test::Fail;
 
 fn are_passes(passes: &[GivenPass]) -> bool {
@@ -33,6 +33,21 @@ fn whole_file_of_arrivals(rt: HostRuntime) -> Result<(), Fail> {
     assert!(rt; are_passes(arrivals.passes.as_slice()));
     assert!(rt; matches!(arrivals.turns.as_slice(), [105, 105, 125]));
     assert!(rt; are_requests(arrivals.requests.as_slice()));
+    Ok(())
+}
+
+/// With one allocation refused, the answer is out of memory by its name, or the ample one.
+#[test]
+fn arrivals_are_written_as_they_were_read(rt: HostRuntime) -> Result<(), Fail> {
+    let Some(config) = two_threads(rt.alloc())? else {
+        return Ok(());
+    };
+    let arrivals = read_arrivals(rt.alloc(), &config, ARRIVALS)?;
+    let mut text = Vec::new(rt.alloc());
+    match write_arrivals(&arrivals, &mut text) {
+        Ok(()) => assert_eq!(rt; text.as_slice(), ARRIVALS),
+        Err(fault) => assert_eq!(rt; fault, WriteFault::Memory),
+    }
     Ok(())
 }
 

@@ -3,9 +3,9 @@ ghost use Rattle.std.specs.Prelude.{◌≡◌, [], ◌∷◌, IfOk, IfSome, leng
 ghost use Rattle.cal_kthread.specs.Team.{IsTeam, place_of};
 ghost use Rattle.cal_machine.specs.Tasks.{threads_in};
 
-use super::{THREE_THREADS, ends_of, left_of_all, names_of, request, send, turn};
+use super::{THREE_THREADS, left_of_all, names_of, request, send, turn};
 use cal_command::{Command, Sender};
-use cal_kthread::{KernelEnd, KernelThread, Request, RequestList, Team, open_threads};
+use cal_kthread::{KernelEnd, KernelThread, Request, RequestList, Team, end_all, open_threads};
 use cal_machine::Config;
 use std::alloc::{AllocError, Global};
 use std::test::Fail;
@@ -111,7 +111,7 @@ fn stand_once_at_end(
     requires count { length threads.items ≡ threads_in config.now.tasks }
     requires team { IsTeam (map (λ t. place_of t.thread) threads.items) }
 {
-    let mut ends = ends_of(alloc, threads)?;
+    let mut ends = end_all(alloc, threads)?;
     let lefts = left_of_all(alloc, config, ends.as_mut_slice())?;
     stand_once(alloc, &ends, &lefts)
 }

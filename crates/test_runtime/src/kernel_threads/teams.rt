@@ -4,9 +4,9 @@ ghost use Rattle.std.specs.Prelude.{◌≡◌, length, map};
 ghost use Rattle.cal_kthread.specs.Team.{IsTeam, place_of};
 ghost use Rattle.cal_machine.specs.Tasks.{threads_in};
 
-use super::{Step, TWO_THREADS, all_steps, ends_of, left_of_all, names_of, request};
+use super::{Step, TWO_THREADS, all_steps, left_of_all, names_of, request};
 use cal_command::Command;
-use cal_kthread::{KernelEnd, KernelThread, Request, RequestList, Team, open_threads};
+use cal_kthread::{KernelEnd, KernelThread, Request, RequestList, Team, end_all, open_threads};
 use cal_machine::Config;
 use std::alloc::{AllocError, Global};
 use std::test::Fail;
@@ -47,7 +47,7 @@ fn end_as_meant(
     requires count { length threads.items ≡ threads_in config.now.tasks }
     requires team { IsTeam (map (λ t. place_of t.thread) threads.items) }
 {
-    let mut ends = ends_of(alloc, threads)?;
+    let mut ends = end_all(alloc, threads)?;
     let lefts = left_of_all(alloc, config, ends.as_mut_slice())?;
     Ok(are_left_by_each(&lefts) && have_come(alloc, &ends)?)
 }

@@ -3,11 +3,11 @@ ghost use Rattle.std.specs.Prelude.{◌≡◌, length, map};
 ghost use Rattle.cal_kthread.specs.Team.{IsTeam, place_of};
 ghost use Rattle.cal_machine.specs.Tasks.{threads_in};
 
-use super::{Step, all_steps, ends_of, request};
+use super::{Step, all_steps, request};
 use crate::one_thread::{ONE_THREAD, record};
 use crate::same::assert_same;
 use cal_command::Command;
-use cal_kthread::{Entry, KernelThread, Request, Team, open_threads, settle};
+use cal_kthread::{Entry, KernelThread, Request, Team, end_all, open_threads, settle};
 use cal_machine::Config;
 use std::alloc::Global;
 use std::process::Abort;
@@ -28,7 +28,7 @@ fn left_after(
     requires count { length threads.items ≡ threads_in config.now.tasks }
     requires team { IsTeam (map (λ t. place_of t.thread) threads.items) }
 {
-    let mut ends = ends_of(alloc, threads)?;
+    let mut ends = end_all(alloc, threads)?;
     settle(config, ends.as_mut_slice());
     match ends.pop() {
         Some(mut end) => Ok(end.left()),

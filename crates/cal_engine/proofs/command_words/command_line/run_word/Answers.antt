@@ -8,13 +8,16 @@ pub returns : goal.returns
 returns c =
     let first = c.in_ok-arg.ensures in
     let second = c.in_ok-arg-2.ensures in
+    let third = c.in_ok-arg-3.ensures in
     record {
-      shape = IfOk-weaker c.arg-3.result _ _ (λ whole (adds : AddsArg c.in_ok-arg-2.field-0 c.table_flag.result whole).
-          adds.shape c.table_flag.ensures.local
-          ∙ ap₂ with_rule (second.shape c.report_flag.ensures.local
-          ∙ ap₂ with_rule (first.shape c.summary_flag.ensures.local ∙ ap₂ with_rule c.plain_word.ensures.shape c.summary_flag.ensures.shape) c.report_flag.ensures.shape)
-          c.table_flag.ensures.shape) c.arg-3.ensures;
-      local = IfOk-weaker c.arg-3.result _ _ (λ whole (adds : AddsArg c.in_ok-arg-2.field-0 c.table_flag.result whole).
-          rw (adds.globals, second.globals, first.globals, c.plain_word.ensures.local, c.summary_flag.ensures.local, c.report_flag.ensures.local, c.table_flag.ensures.local))
-          c.arg-3.ensures;
+      shape = IfOk-weaker c.arg-4.result _ _ (λ whole (adds : AddsArg c.in_ok-arg-3.field-0 c.flag-4.result whole).
+          adds.shape c.flag-4.ensures.local
+          ∙ ap₂ with_rule (third.shape c.flag-3.ensures.local
+          ∙ ap₂ with_rule (second.shape c.flag-2.ensures.local
+          ∙ ap₂ with_rule (first.shape c.flag.ensures.local ∙ ap₂ with_rule c.plain_word.ensures.shape c.flag.ensures.shape) c.flag-2.ensures.shape)
+          c.flag-3.ensures.shape)
+          c.flag-4.ensures.shape) c.arg-4.ensures;
+      local = IfOk-weaker c.arg-4.result _ _ (λ whole (adds : AddsArg c.in_ok-arg-3.field-0 c.flag-4.result whole).
+          rw (adds.globals, third.globals, second.globals, first.globals, c.plain_word.ensures.local, c.flag.ensures.local, c.flag-2.ensures.local, c.flag-3.ensures.local, c.flag-4.ensures.local))
+          c.arg-4.ensures;
     }

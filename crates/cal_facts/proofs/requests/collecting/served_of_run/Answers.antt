@@ -1,4 +1,4 @@
-use Rattle.std.proofs.Common.{List, subst, sym}
+use Rattle.std.proofs.Common.{ℕ, List, subst, sym}
 use Rattle.cal_measure.specs.Clocks.{run_end}
 use Rattle.cal_measure.specs.ThreadWork.{AreTotalsOfEach}
 use Rattle.cal_measure.specs.declared.thread_work.totals.ThreadTotals.{ThreadTotals}
@@ -6,11 +6,12 @@ use Rattle.cal_facts.proofs.requests.collecting.served_of_run.Goals as goal
 
 pub returns-clause-served : goal.returns-clause-served
 returns-clause-served c =
-    let run = c.in_ok-left.ensures.run in
+    let run = c.in_ok-lockstep_collected.ensures.run in
+    let journals = run.outcome.journals in
     let last = run_end c.args.arrivals.now in
-    let totals = c.in_ok-ended.ensures.threads run.outcome.journals run.collected in record {
+    let totals = subst (λ (n : ℕ). AreTotalsOfEach n journals c.in_ok-threads.threads.items) c.run_end.ensures (c.in_ok-threads.ensures journals run.collected) in record {
       outcome = run.outcome;
       run = run.run;
-      are = c.in_ok-of.ensures last run.outcome.journals
-          (subst (λ (l : List ThreadTotals). AreTotalsOfEach last run.outcome.journals l) (sym c.as_slice.ensures.value) totals);
+      are = c.in_ok-of.ensures last journals
+          (subst (λ (l : List ThreadTotals). AreTotalsOfEach last journals l) (sym c.as_slice.ensures.value) totals);
     }

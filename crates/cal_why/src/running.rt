@@ -1,0 +1,108 @@
+//! The words of caladan_sim, among them the option `--explain`.
+
+ghost use Rattle.std.specs.Prelude.{◌≡◌, ◌≢◌, Bool, IfErr, IfOk, IfSome, Some, drop, map};
+ghost use Rattle.std.specs.Prelude.{string_bytes};
+ghost use Rattle.cal_engine.specs.CommandWords.{AsksFor};
+ghost use Rattle.cal_engine.specs.Program.{exit_status, EndsJob};
+ghost use Rattle.cal_engine.specs.declared.command_words.command_line.Job.{Job as JobOf};
+
+use crate::ending::end_explained;
+use crate::explaining::RefusedInput;
+use crate::grammar::TraceKind;
+use cal_engine::{Job, asked_by, do_job, end_with, refuse_words, words_after_first};
+use cal_input::{RunFault, read_input};
+use std::alloc::Global;
+use std::io::{Read, Write};
+use std::sync::Wait;
+use std::thread::Threads;
+
+/// Runs caladan_sim on its name and the words after it and on an input, and answers its exit status,
+/// as `run_program` of cal_engine does. With `--explain` among the words the input is read to its end
+/// before the job is begun, and below the line of an input that is refused stands why.
+pub fn run_explained<H: Threads + Wait + Sync, R: Read + Drop, W: Write, E: Write>(
+    rt: &H,
+    alloc: Global,
+    named: &[String],
+    reader: R,
+    output: &mut W,
+    errors: &mut E,
+) -> u8
+    // What the words ask for, with `--explain` or without it, was done on the input, and the status
+    // is that of the answer.
+    ensures job { IfSome (R.remaining reader) (λ input. (explained : Bool) → (job : JobOf) →
+        AsksFor explained (map string_bytes (drop 1 named.now)) (Some job) →
+        EndsJob job result input (W.contents output.old) (W.contents output.new)) }
+    // Where the words or the input are refused nothing is written on the output.
+    ensures refused { result ≡ 2 → output.new ≡ output.old }
+{
+    match answer_words(rt, alloc, named, reader, output, errors) {
+        Ok(status) => status,
+        Err(fault) => end_with("caladan_sim", &fault, errors),
+    }
+}
+
+/// Does what the words ask for. The faults are those of the words and of the job, but with
+/// `--explain` of the job that of reading alone.
+fn answer_words<H: Threads + Wait + Sync, R: Read + Drop, W: Write, E: Write>(
+    rt: &H,
+    alloc: Global,
+    named: &[String],
+    reader: R,
+    output: &mut W,
+    errors: &mut E,
+) -> Result<u8, RunFault>
+    ensures job { IfSome (R.remaining reader) (λ input. (explained : Bool) → (job : JobOf) →
+        AsksFor explained (map string_bytes (drop 1 named.now)) (Some job) →
+        EndsJob job (exit_status result) input (W.contents output.old) (W.contents output.new)) }
+    ensures refused { IfOk result (λ status. status ≡ 2 → output.new ≡ output.old) }
+    ensures untouched { IfErr result (λ fault. fault ≢ RunFault.Write →
+        fault ≢ RunFault.Memory → output.new ≡ output.old) }
+{
+    let given = words_after_first(alloc, named)?;
+    match asked_by(alloc, given.as_slice()) {
+        Ok(asked) if asked.explained => explained_job(rt, alloc, asked.job, reader, output, errors),
+        Ok(asked) => do_job(rt, alloc, asked.job, reader, output),
+        Err(error) => refuse_words(&error, output, errors),
+    }
+}
+
+/// Does a job on an input that is read to its end before, and says after its fault why it is
+/// refused. The fault is that of reading.
+fn explained_job<H: Threads + Wait + Sync, R: Read + Drop, W: Write, E: Write>(
+    rt: &H,
+    alloc: Global,
+    job: Job,
+    mut reader: R,
+    output: &mut W,
+    errors: &mut E,
+) -> Result<u8, RunFault>
+    ensures job { IfSome (R.remaining reader) (λ input.
+        EndsJob job (exit_status result) input (W.contents output.old) (W.contents output.new)) }
+    ensures refused { IfOk result (λ status. status ≡ 2 → output.new ≡ output.old) }
+    ensures untouched { IfErr result (λ fault. fault ≢ RunFault.Write →
+        fault ≢ RunFault.Memory → output.new ≡ output.old) }
+{
+    let input = read_input(alloc, &mut reader)?;
+    let input = input.as_slice();
+    match do_job(rt, alloc, job, input, output) {
+        Ok(status) => Ok(status),
+        Err(fault) => {
+            let refused = RefusedInput {
+                input,
+                wanted: &[trace_of(job)],
+                tables: 1,
+                files: None,
+            };
+            Ok(end_explained(alloc, "caladan_sim", refused, &fault, errors))
+        }
+    }
+}
+
+/// The trace that a job reads.
+fn trace_of(job: Job) -> TraceKind {
+    match job {
+        Job::Decide => TraceKind::Signals,
+        Job::Lockstep(_) | Job::Sim(_) => TraceKind::Arrivals,
+        Job::Audit => TraceKind::History,
+    }
+}
