@@ -223,9 +223,9 @@ static void hear_owner(scheduler *s, host_task *task) {
         s->counts.attached++;
         return;
     }
-    s->counts.given_up += task->is_attached;
-    if (has_ended(task)) bury(s, task);
-    else give_up(s, task);
+    if (has_ended(task)) return bury(s, task);
+    s->counts.given_up += task->is_attached; /* a process that is ending closes its connection first, and may count here */
+    give_up(s, task);
 }
 
 /* A place for who comes next: one that is free, or that of a guest who was silent for long enough. */
