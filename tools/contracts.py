@@ -105,6 +105,38 @@ def contracts(crate):
     return found
 
 
+@functools.cache
+def names_taken(crate, file):
+    """Of each name that a file takes from definitions of this repository, the file of specs/ where it stands."""
+    found = {}
+    text = text_of(f"{TOP}/crates/{crate}/{file}")
+    for of, path, names, alias in re.findall(r"ghost use Rattle\.(\w+)\.specs\.([\w.]+?)(?:\.\{([^}]*)\}| as (\w+));", text):
+        at = f"crates/{of}/specs/{path.replace('.', '/')}.antt"
+        if os.path.isfile(f"{TOP}/{at}"):
+            for name in [alias] if alias else names.split(","):
+                found[name.split()[-1]] = at
+    return found
+
+
+def words_of(it):
+    """Of each word of a function's clauses that this repository defines, the file of specs/ where it stands, in order."""
+    used = set(re.findall(r"\w+", "\n".join(text for _, _, text in it.clauses)))
+    return [(name, at) for name, at in sorted(names_taken(it.crate, it.file).items()) if name in used]
+
+
+def definition(file, name):
+    """The lines of a definition, with the comment above it; none where the file has not that name."""
+    for block in text_of(f"{TOP}/{file}").split("\n\n"):
+        if re.search(rf"^(?:abbrev )?pub (?:record |data )?{name} ", block, re.M):
+            return block.strip("\n")
+    return ""
+
+
+def is_law(it):
+    """Whether a function is a law: it takes nothing and answers nothing."""
+    return re.fullmatch(r"pub fn \w+\(\)", it.head) is not None
+
+
 def faults_of_functions():
     """Which public functions do not say what they are for, and which clause was not read to its end."""
     for crate in libraries():
@@ -113,6 +145,8 @@ def faults_of_functions():
         for it in contracts(crate):
             if not it.doc:
                 yield f"crates/{crate}/{it.file}: {it.path} does not say what it is for"
+            if is_law(it) and not any(definition(at, name) for name, at in words_of(it)):
+                yield f"crates/{crate}/{it.file}: the statement of {it.path} was not found"
             for word, name, text in it.clauses:
                 if text.count("{") != text.count("}"):
                     yield f"crates/{crate}/{it.file}: {it.path}: {word} {name} was not read to its end"
@@ -141,7 +175,7 @@ def faults_of_table(crate, row, cell):
 def faults_of_promises():
     """Which laws and clauses docs/PROMISES.md names that are not there, and which law it does not name. Below a heading
     that begins with a crate, the last column of a table whose head ends with `Law` names that crate's public functions,
-    a clause after a colon. A law is a public function that takes nothing and answers nothing."""
+    a clause after a colon."""
     crate, is_read, named = "", False, {it: "" for it in libraries()}
     for number, line in enumerate(text_of(f"{TOP}/docs/PROMISES.md").splitlines(), 1):
         heading = re.match(r"#+ (\w+)", line)
@@ -157,5 +191,5 @@ def faults_of_promises():
         elif is_read and not set(line) <= set("|- "):
             yield from faults_of_table(crate, f"docs/PROMISES.md:{number}", cells[-1])
     for crate, text in named.items():
-        laws = [it.path for it in contracts(crate) if re.fullmatch(r"pub fn \w+\(\)", it.head)]
+        laws = [it.path for it in contracts(crate) if is_law(it)]
         yield from (f"docs/PROMISES.md: {it}, a law of {crate}, is not there" for it in laws if f"`{it}`" not in text)
