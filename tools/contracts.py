@@ -160,9 +160,10 @@ def names_in(cell):
         yield functions, re.findall(r"`(\w+)`", after)
 
 
-def faults_of_table(crate, row, cell):
-    known = {}
-    for it in contracts(crate):
+def faults_of_table(named, row, cell):
+    """What is wrong with what the last cell of a row names, below a heading that names these crates."""
+    crate, known = " or ".join(named), {}
+    for it in (it for crate in named for it in contracts(crate)):
         for path in (it.path, it.path.split("::")[-1]):
             known.setdefault(path, set()).update(name for word, name, _ in it.clauses if word == "ensures")
     for functions, clauses in names_in(cell):
@@ -174,22 +175,21 @@ def faults_of_table(crate, row, cell):
 
 def faults_of_promises():
     """Which laws and clauses docs/PROMISES.md names that are not there, and which law it does not name. Below a heading
-    that begins with a crate, the last column of a table whose head ends with `Law` names that crate's public functions,
-    a clause after a colon."""
-    crate, is_read, named = "", False, {it: "" for it in libraries()}
+    that names crates, the last column of a table whose head ends with `Law` names public functions of these, a clause
+    after a colon."""
+    above, is_read, named = [], False, {it: "" for it in libraries()}
     for number, line in enumerate(text_of(f"{TOP}/docs/PROMISES.md").splitlines(), 1):
-        heading = re.match(r"#+ (\w+)", line)
-        if heading:
-            crate = heading[1] if heading[1] in named else ""
-        if crate:
+        if line.startswith("#"):
+            above = [it for it in re.findall(r"\w+", line) if it in named]
+        for crate in above:
             named[crate] += line
         cells = [it.strip() for it in line.strip("|").split("|")] if line.startswith("|") else []
         if not cells:
             is_read = False
         elif cells[-1] == "Law":
-            is_read = bool(crate)
+            is_read = bool(above)
         elif is_read and not set(line) <= set("|- "):
-            yield from faults_of_table(crate, f"docs/PROMISES.md:{number}", cells[-1])
+            yield from faults_of_table(above, f"docs/PROMISES.md:{number}", cells[-1])
     for crate, text in named.items():
         laws = [it.path for it in contracts(crate) if is_law(it)]
         yield from (f"docs/PROMISES.md: {it}, a law of {crate}, is not there" for it in laws if f"`{it}`" not in text)
