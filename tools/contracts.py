@@ -15,12 +15,14 @@ from crates import TOP, crates, text_of
 # its doc, its head, and its clauses as (requires or ensures, name or '', text), each text on lines of its own.
 Contract = collections.namedtuple("Contract", "crate path file line doc head clauses")
 CLAUSE = re.compile(r"(requires|ensures)\*?(?: (\w+))?(?: |$)")
+TAKEN = re.compile(r"ghost use Rattle\.(\w+)\.specs\.([\w.]+?)(?:\.\{([^}]*)\}| as (\w+));")
 USE = re.compile(r"^pub use (?:crate::)?([\w:]+?)(?:::\{([^}]*)\})?(?: as \w+)?;", re.M)
 
 
 def libraries():
     """The crates that hand out functions."""
-    return [it for it in crates() if os.path.isfile(f"{TOP}/crates/{it}/src/lib.rt") and not it.startswith(("test_", "check_"))]
+    return [it for it in crates()
+            if os.path.isfile(f"{TOP}/crates/{it}/src/lib.rt") and not it.startswith(("test_", "check_"))]
 
 
 def file_of(crate, module):
@@ -101,7 +103,8 @@ def contracts(crate):
         lines = text_of(f"{TOP}/crates/{crate}/{it.file}").splitlines()
         if is_public(crate, it, lines[it.first - 1]):
             path = "::".join(it.path.split("::")[len(edits.module_of(it.file)):])
-            found.append(Contract(crate, path, it.file, it.first, doc_of(lines, it.first), *contract_below(lines, it.first)))
+            head, clauses = contract_below(lines, it.first)
+            found.append(Contract(crate, path, it.file, it.first, doc_of(lines, it.first), head, clauses))
     return found
 
 
@@ -110,7 +113,7 @@ def names_taken(crate, file):
     """Of each name that a file takes from definitions of this repository, the file of specs/ where it stands."""
     found = {}
     text = text_of(f"{TOP}/crates/{crate}/{file}")
-    for of, path, names, alias in re.findall(r"ghost use Rattle\.(\w+)\.specs\.([\w.]+?)(?:\.\{([^}]*)\}| as (\w+));", text):
+    for of, path, names, alias in TAKEN.findall(text):
         at = f"crates/{of}/specs/{path.replace('.', '/')}.antt"
         if os.path.isfile(f"{TOP}/{at}"):
             for name in [alias] if alias else names.split(","):
@@ -170,7 +173,8 @@ def faults_of_table(named, row, cell):
         for function in functions:
             if not known.get(function):
                 yield f"{row}: {crate} has no public function {function} with a clause"
-            yield from (f"{row}: {function} of {crate} has no clause {it}" for it in clauses if it not in known.get(function, {it}))
+            lacks = [it for it in clauses if it not in known.get(function, clauses)]
+            yield from (f"{row}: {function} of {crate} has no clause {it}" for it in lacks)
 
 
 def faults_of_promises():
