@@ -129,7 +129,7 @@ def clauses_below(lines, number):
     for line in lines[number - 1:]:
         clause = re.match(rf"^{indent}    ensures\*?(?: (\w+))?(?: \{{|$)", line)
         names += [clause[1] or ""] if clause else []
-        if line in (f"{indent}{{", f"{indent}}}"):
+        if line in (f"{indent}{{", f"{indent}{{}}", f"{indent}}}") or line.endswith("};"):
             break
     return names
 

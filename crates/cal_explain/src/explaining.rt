@@ -86,7 +86,7 @@ fn tell_heading<W: Write>(
     Ok(part)
 }
 
-/// Whether the walk's turn is told of. A task's turn for the other kind makes nothing.
+/// Whether to explain the walk's turn. A task's turn for the other kind makes nothing.
 fn has_turn(walk: &PassWalk<'_>, scope: Scope) -> bool
     requires { IsWalk walk.now }
 {
@@ -135,7 +135,7 @@ fn made_since<'a>(walk: &'a PassWalk<'_>, before: usize) -> &'a [Action] {
     }
 }
 
-/// Writes those of some actions whose core is told of.
+/// Writes the actions whose core is in scope.
 fn tell_made_of<W: Write>(
     walk: &PassWalk<'_>,
     made: &[Action],
@@ -152,7 +152,7 @@ fn tell_made_of<W: Write>(
     Ok(())
 }
 
-/// Whether the core that an action names is told of.
+/// Whether the core that an action names is in scope.
 fn has_core_of(walk: &PassWalk<'_>, action: Action, scope: Scope) -> bool
     requires { IsWalk walk.now }
 {

@@ -124,7 +124,7 @@ fn write_core_of<W: Write>(walk: &PassWalk<'_>, thread: usize, writer: &mut W) -
     Ok(())
 }
 
-/// Writes the class for a task of each core that is told of, and which is chosen.
+/// Writes the class for a task of each core in scope, and which is chosen.
 fn tell_candidates<W: Write>(
     walk: &PassWalk<'_>,
     task: usize,

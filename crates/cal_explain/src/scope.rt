@@ -20,7 +20,7 @@ pub enum Scope {
 }
 
 impl Scope {
-    /// Whether the task is told of.
+    /// Whether to explain this task.
     pub fn has_task(self, task: usize) -> bool {
         match self {
             Scope::All | Scope::Core { .. } => true,
@@ -28,7 +28,7 @@ impl Scope {
         }
     }
 
-    /// Whether the core, which the holder has, is told of.
+    /// Whether to explain this core, given its holder.
     pub fn has_core(self, config: &Config, core: u8, holder: Holder) -> bool
         requires { IfSome (placement_of holder)
             (λ placement. placement.thread < threads_of_table config.now) }
@@ -45,7 +45,7 @@ impl Scope {
         }
     }
 
-    /// Whether the core is told of as a candidate.
+    /// Whether to list this core as a candidate.
     pub fn has_candidate(self, core: u8) -> bool {
         match self {
             Scope::All | Scope::Task { .. } => true,

@@ -1,4 +1,4 @@
-//! A guarantee is given: what the assured policy is for.
+//! The guarantee of the assured policy: that it is given, which is what the policy is for.
 //!
 //! A latency-critical task that goes on waiting below its guarantee is granted a core at the latest
 //! `d` passes after the first in which it waits, if threads leave within `d` passes and no ring is

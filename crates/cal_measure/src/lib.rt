@@ -1,5 +1,5 @@
-//! What came of a run: of each task's requests how long they took, of its cores how many it had and
-//! why it lost them, in numbers; and who had which core from which pass to which.
+//! The numbers of a run, and its spans: how long each task's requests took, how many cores it had and
+//! why it lost them; and who had which core from which pass to which.
 //!
 //! The numbers are defined over the journals and the history of a run (`specs/`), and each one is
 //! proved to be that of its definition. What is measured, and how, is Doranjei's. Who had which

@@ -22,10 +22,9 @@ use cal_sched::BareScheduler;
 use cal_trace::Arrivals;
 use std::alloc::AllocError;
 
-/// Who collects what the passes of a run do and what each turn adds to its thread's journal, when it
-/// is made. What nobody collects is kept by nobody: neither the scheduler of a run nor its threads
-/// keep any of it. Who has a use for the entry of a pass makes the pass with its entry; who has none
-/// makes it without.
+/// Collects what the passes of a run do, and what each turn adds to its thread's journal, as they are
+/// made. Neither the scheduler of a run nor its threads keep any of it. A collector that needs a
+/// pass's entry makes the pass with it; the others make it without.
 pub trait Collector {
     /// Why it takes no more.
     type Fault: From<AllocError> + Drop;

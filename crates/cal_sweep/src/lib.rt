@@ -1,6 +1,6 @@
-//! How far may the load rise? Runs of a task table, or of each that it gives with some values at a
-//! key, on arrivals that are made for one load after the other, with what came of a task in each,
-//! and an objective that its requests may keep or miss: as a table, or as CSV.
+//! How far the load of a task may rise: runs of a task table, or of each that it gives with some
+//! values at a key, on arrivals that are made for one load after the other, and an objective that
+//! the task's requests may keep or miss, as a table or as CSV.
 //!
 //! That each run is one of its table, and by which numbers the objective is missed, is proved
 //! (`swept`, `answer_sweep`). Which arrivals are made, and how all is written, is only tested.

@@ -1,7 +1,6 @@
-//! What the program `caladan_view` does between its input and its output, which are the standard ones
-//! or files by name: it says what an input is, explains passes, makes histories, arrivals and trace
-//! events, and tells the facts and the numbers of runs, and the numbers of several tables and of a
-//! load that rises.
+//! The subcommands of `caladan_view`, over standard input and output or files by name: what an input
+//! is, passes explained, histories, arrivals and trace events made, and the facts and the numbers of
+//! runs, of several tables and of a load that rises.
 //!
 //! Facts are those of `cal_facts`, trace events those of `cal_timeline`, numbers those of `cal_tables`
 //! and `cal_sweep`. How trace events and numbers are written is only tested.

@@ -1,8 +1,8 @@
-//! Words that are one slip apart.
+//! Words that are within one edit of each other.
 
 use crate::places::after;
 
-/// The first of these words, which have a blank between them, that is one slip from a word.
+/// The first of these words, which blanks separate, that is within one edit of a word.
 pub fn nearest<'a>(word: &[u8], words: &'a str) -> Option<&'a str> {
     for known in words.split(' ') {
         if is_near(word, known.as_bytes()) {
@@ -12,8 +12,8 @@ pub fn nearest<'a>(word: &[u8], words: &'a str) -> Option<&'a str> {
     None
 }
 
-/// Whether two words are one slip apart: a letter more, less or another, two letters that changed
-/// places, or capitals.
+/// Whether two words are within one edit: an insertion, a deletion or a substitution of a letter, a
+/// swap of two letters, or another case.
 fn is_near(one: &[u8], other: &[u8]) -> bool {
     if one.eq_ignore_ascii_case(other) {
         return true;

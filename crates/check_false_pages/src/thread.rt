@@ -49,7 +49,7 @@ impl Thread {
         }
     }
 
-    /// What it does before a pass. A publication that was left is ended first, but where it stands.
+    /// What it does before a pass. It first finishes an interrupted publication, unless it stands.
     pub fn turn(&mut self, plan: Plan, now: u64) {
         match plan {
             Plan::Stand => {}

@@ -1,4 +1,4 @@
-//! The journals of a run, as rows, for whoever counts in them.
+//! The journals of a run, as rows, for scripts that count in them.
 //!
 //! The input is that of `caladan_sim lockstep`, and the run is the one that it makes. For each
 //! kernel thread come the entries of its journal, in order, and then the requests that were left
