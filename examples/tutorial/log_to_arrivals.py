@@ -15,6 +15,7 @@ for number, (arrived, service) in enumerate(log):
     turn = next(it for it in range(first, turns) if (thread, it) not in requests)
     requests[thread, turn] = (number + 1, -(-service // TURN))
     moved += turn > first
+load = sum(work for _, work in requests.values()) / (THREADS * turns)
 for thread in range(BATCH):
     requests[THREADS + thread, 0] = (len(log) + 1 + thread, turns)
 
@@ -22,5 +23,5 @@ rows = [f"pass,{TURN * at + TURN // 2},0" for at in range(turns)]
 rows += [f"turn,{TURN * at + TURN}" for at in range(turns)]
 rows += [f"request,{thread},{turn},{name},{work},0" for (thread, turn), (name, work) in sorted(requests.items())]
 print("caladan-arrivals,1", *rows, f"end,{len(rows)}", sep="\n")
-print(f"{len(log)} requests in {turns} turns; {moved} had to wait for a turn of their own", file=sys.stderr)
+print(f"{len(log)} requests in {turns} turns, a load of {load:.2f}; {moved} came at a later turn", file=sys.stderr)
 # end
