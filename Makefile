@@ -5,8 +5,8 @@
 # make prove CRATE=..  proves one crate with all that it stands on
 # make needs           installs the Debian packages that make test and make check use, as root; else lists them
 # make files           docs/FILES.md, a list of every file with what it is for
-# make examples        docs/EXAMPLES.md, a list of every example with what it shows
 # make wrong_bodies    docs/WRONG_BODIES.md, a list of every wrong body with the clause that refuses it
+# make examples        docs/EXAMPLES.md, a list of every example with what it shows
 # make install PREFIX=/usr/local      programs, caladan_draw, C library, headers, pkg-config, manual pages, completions
 # make install_library PREFIX=..      the C library, its headers and the files for pkg-config and CMake alone
 # make dist            a release in out/release: packages, a prefix, the sources, and PROOF of what the gate keeps
@@ -16,7 +16,7 @@ share = $(PREFIX)/share
 programs = caladan_sim caladan_view
 archive = crates/caladan_c/out/libcaladan_c.a
 
-.PHONY: all $(programs) caladan_c check dist examples files install install_library needs prove test wrong_bodies
+.PHONY: all $(programs) caladan_c check dist files install install_library needs prove test wrong_bodies
 
 all: $(programs)
 
@@ -42,11 +42,12 @@ needs:
 files:
 	tools/docs --files > docs/FILES.md
 
-examples:
-	tools/docs --examples > docs/EXAMPLES.md
-
 wrong_bodies:
 	tools/wrong_bodies --page > docs/WRONG_BODIES.md
+
+.PHONY: examples
+examples:
+	tools/docs --examples > docs/EXAMPLES.md
 
 dist: $(programs) caladan_c
 	tools/make_release
