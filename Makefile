@@ -7,6 +7,7 @@
 # make files           docs/FILES.md, a list of every file with what it is for
 # make promises        docs/CLAUSES.md, a list of every public function with its clauses
 # make wrong_bodies    docs/WRONG_BODIES.md, a list of every wrong body with the clause that refuses it
+# make examples        docs/EXAMPLES.md, a list of every example with what it shows
 # make install PREFIX=/usr/local      programs, caladan_draw, C library, headers, pkg-config, manual pages, completions
 # make install_library PREFIX=..      the C library, its headers and the files for pkg-config and CMake alone
 # make dist            a release in out/release: packages, a prefix, the sources, and PROOF of what the gate keeps
@@ -47,6 +48,10 @@ promises:
 
 wrong_bodies:
 	tools/wrong_bodies --page > docs/WRONG_BODIES.md
+
+.PHONY: examples
+examples:
+	tools/docs --examples > docs/EXAMPLES.md
 
 dist: $(programs) caladan_c
 	tools/make_release

@@ -17,8 +17,8 @@ Layout = collections.namedtuple("Layout", "root prefix lib zsh unit up")
 # What a release is made from: the version that its files say, the time of all of them, the programs and the archive
 # (None where it is not there), the heap, a folder to build in, and how hard it is pressed, 0 to 9.
 Made = collections.namedtuple("Made", "version epoch programs archive heap folder pressed")
-PAGES = ["README.md", "CHANGELOG.md", "SECURITY.md", "docs/FORMATS.md", "docs/POLICY.md", "docs/MODEL.md",
-         "docs/PROMISES.md"]
+PAGES = ["README.md", "CHANGELOG.md", "SECURITY.md", "docs/TUTORIAL.md", "docs/FORMATS.md", "docs/VIEWER.md",
+         "docs/POLICY.md", "docs/GLOSSARY.md", "docs/MODEL.md", "docs/PROMISES.md"]
 HEADERS = ["caladan.h", "caladan_history.h", "caladan_pages.h"]
 SONAME = "libcaladan_c.so"
 

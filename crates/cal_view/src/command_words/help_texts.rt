@@ -9,7 +9,7 @@ Each subcommand reads one input, a file or the standard input: a task table
 (TOML), the line ---, and signals, a history or arrivals (CSV). With -o its
 answer goes to a file, which is there only once the answer is whole.
 `caladan_view SUBCOMMAND --help` says what is read and written, with a whole
-input to copy; `man caladan-formats` has all of it. caladan_draw draws runs.
+input to copy; `man caladan-viewer` has all of it. caladan_draw draws runs.
 
 Exit status: 0 done, 1 an illegal history explained or an objective missed, 2
 bad arguments or rejected input, 3 memory or output was refused. A fault has one
