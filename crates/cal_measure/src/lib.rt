@@ -3,7 +3,8 @@
 //!
 //! The numbers are defined over the journals and the history of a run (`specs/`), and each one is
 //! proved to be that of its definition. What is measured, and how, is Doranjei's. Who had which
-//! core, and which cores were banned, are the spans of a history and its bans (`spans`).
+//! core, and which cores were banned, are the spans of a history and its bans (`spans`), which two
+//! trackers follow.
 #![tactic(auto)]
 
 mod actions;
@@ -37,12 +38,12 @@ pub use spans::laws::{
     stays_are_shown,
 };
 pub use spans::span::{Left, Span};
-pub use spans::tracking::{Tracker, spans_of};
+pub use spans::tracking::Tracker;
 pub use spread::{Spread, Time, spread_of};
 pub use states::{CoreState, is_congested, task_delay};
 pub use thread_work::ThreadWork;
 pub use thread_work::each::{end_works, open_works};
 pub use thread_work::totals::ThreadTotals;
 pub use turns::{Turn, turns_of};
-pub use walk::{Walk, walked};
+pub use walk::{Walk, given_of, walked};
 pub use work::TaskWork;

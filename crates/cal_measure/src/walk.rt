@@ -161,7 +161,7 @@ impl Walk {
 }
 
 /// The clock and the bandwidth figure of a pass.
-fn given_of(entry: &PassEntry) -> GivenPass
+pub fn given_of(entry: &PassEntry) -> GivenPass
     ensures now { result.now ≡ entry.now.input.now }
     ensures bandwidth { result.bandwidth ≡ entry.now.input.bandwidth }
 {

@@ -21,10 +21,10 @@ use crate::comparing::tables::{GivenTables, given_tables};
 use crate::comparing::varying::varied_given;
 use crate::measuring::RunNumbers;
 use crate::style::NumberStyle;
-use cal_input::{RunFault, read_input};
+use cal_input::RunFault;
 use cal_machine::Config;
 use std::alloc::Global;
-use std::io::{Read, Write};
+use std::io::Write;
 
 /// Some tables, and of each what is kept of its run.
 #[derive(Drop)]
@@ -116,22 +116,22 @@ fn compared_text(
     Ok(sheet.written(alloc, style.form)?)
 }
 
-/// An input of tables and arrivals, that is to be read to its end.
-#[derive(Drop)]
-pub struct ComparedInput<'a, R> {
-    /// What it is read from.
-    pub reader: R,
+/// An input of tables and arrivals.
+#[derive(Clone, Copy)]
+pub struct ComparedInput<'a> {
+    /// The bytes of the input.
+    pub bytes: &'a [u8],
     /// What varies its one table; without it the tables are those of the input.
     pub variation: Option<Variation<'a>>,
 }
 
-/// Reads an input of tables and arrivals to its end, makes a whole run of each table on one thread,
-/// and writes the numbers side by side in this style: in columns that line up, or as CSV. With a
-/// variation the input has one table, and the runs are those of the tables that it gives. Nothing
-/// is written before the runs were made and the text is in memory.
-pub fn compare<R: Read + Drop, W: Write>(
+/// Makes a whole run of each table of an input on one thread, and writes the numbers side by side in
+/// this style: in columns that line up, or as CSV. With a variation the input has one table, and the
+/// runs are those of the tables that it gives. Nothing is written before the runs were made and the
+/// text is in memory.
+pub fn compare<W: Write>(
     alloc: Global,
-    mut input: ComparedInput<'_, R>,
+    input: ComparedInput<'_>,
     style: NumberStyle<'_>,
     writer: &mut W,
 ) -> Result<(), ComparisonFault>
@@ -139,23 +139,22 @@ pub fn compare<R: Read + Drop, W: Write>(
     ensures untouched { IfErr result (λ fault.
         fault ≢ ComparisonFault.Run RunFault.Write → writer.new ≡ writer.old) }
 {
-    let bytes = read_input(alloc, &mut input.reader)?;
-    let text = compared_text(alloc, bytes.as_slice(), input.variation, style)?;
+    let text = compared_text(alloc, input.bytes, input.variation, style)?;
     match writer.write_all(text.as_bytes()) {
         Ok(()) => Ok(()),
         Err(_) => Err(ComparisonFault::from(RunFault::Write)),
     }
 }
 
-/// Reads an input of `compare` to its end, and writes that of `measure` for one of its tables, the
-/// first being 0: the table and the arrivals that it gets. With a variation it is one of those that
-/// the input's table gives. Nothing is written before the whole text is in memory.
+/// Writes of an input of `compare` that of `measure` for one of its tables, the first being 0: the
+/// table and the arrivals that it gets. With a variation it is one of those that the input's table
+/// gives. Nothing is written before the whole text is in memory.
 ///
 /// The faults are those of `compare` up to the arrivals, then `NoTable`, then that of the table
 /// which the arrivals do not fit.
-pub fn write_input<R: Read + Drop, W: Write>(
+pub fn write_input<W: Write>(
     alloc: Global,
-    mut input: ComparedInput<'_, R>,
+    input: ComparedInput<'_>,
     place: usize,
     writer: &mut W,
 ) -> Result<(), ComparisonFault>
@@ -163,8 +162,7 @@ pub fn write_input<R: Read + Drop, W: Write>(
     ensures untouched { IfErr result (λ fault.
         fault ≢ ComparisonFault.Run RunFault.Write → writer.new ≡ writer.old) }
 {
-    let bytes = read_input(alloc, &mut input.reader)?;
-    let text = input_text(alloc, bytes.as_slice(), input.variation, place)?;
+    let text = input_text(alloc, input.bytes, input.variation, place)?;
     match writer.write_all(text.as_bytes()) {
         Ok(()) => Ok(()),
         Err(_) => Err(ComparisonFault::from(RunFault::Write)),

@@ -1,8 +1,7 @@
 //! A run on one thread or a recorded history, measured.
 
-ghost use Rattle.std.specs.Prelude.{◌≡◌, ◌≢◌, Err, IfErr, IfOk, IfSome};
+ghost use Rattle.std.specs.Prelude.{◌≡◌, ◌≢◌, Err, IfErr, IfOk};
 ghost use Rattle.cal_input.specs.Answers.{Decided};
-ghost use Rattle.cal_input.specs.Parts.{within_limit};
 ghost use Rattle.cal_input.specs.Recorded.{recorded_in};
 ghost use Rattle.cal_measure.specs.Clocks.{AreClocksOf};
 ghost use Rattle.cal_measure.specs.Walk.{IsOpenFor};
@@ -17,14 +16,14 @@ use crate::comparing::runs::OfRun;
 use crate::recorded::{HistoryNumbers, Recorded, measured_recording, numbers_of_walk};
 use crate::style::NumberStyle;
 use crate::writing::{history_sheet, sheet_of};
-use cal_input::{RunFault, read_input, read_parts};
+use cal_input::{RunFault, read_parts};
 use cal_machine::Config;
 use cal_measure::{MachineCores, TaskCores, TaskRequests, turns_last};
 use cal_policy::Verdict;
 use cal_run::lockstep_collected;
 use cal_trace::{Arrivals, FaultKind, read_arrivals};
 use std::alloc::{AllocError, Global};
-use std::io::{Read, Write};
+use std::io::Write;
 
 /// The numbers of a run.
 #[derive(Drop)]
@@ -164,29 +163,28 @@ fn measured_text(
     }
 }
 
-/// Reads an input to its end and writes numbers in this style: in columns that line up, or as
-/// CSV. Where it is a task table and arrivals they are those of a whole run on one thread; where it
-/// is a table and a history, those of the history's cores, if it is legal. What is answered is the
-/// audit's verdict; a run is legal. Nothing is written before the whole text is in memory.
+/// Writes the numbers of an input in this style: in columns that line up, or as CSV. Where it is a
+/// task table and arrivals they are those of a whole run on one thread; where it is a table and a
+/// history, those of the history's cores, if it is legal. What is answered is the audit's verdict; a
+/// run is legal. Nothing is written before the whole text is in memory.
 ///
-/// The faults are those of the word `lockstep`, in its order; of a history those of `audit`.
-pub fn measure<R: Read + Drop, W: Write>(
+/// The faults are those of the word `lockstep`, in its order; of a history those of `audit`. An
+/// input is not too long here, whatever its length.
+pub fn measure<W: Write>(
     alloc: Global,
-    mut reader: R,
+    input: &[u8],
     style: NumberStyle<'_>,
     writer: &mut W,
 ) -> Result<Verdict, RunFault>
     // The verdict is that on the run or the history that the input asks for, or the fault says what
     // it must of the input.
-    ensures exact { IfSome (R.remaining reader) (λ input.
-        Judges result (within_limit input (asked_of input))) }
+    ensures exact { Judges result (asked_of input.now) }
     // Nothing is written before the run was made, and nothing of a history that is not legal.
     ensures untouched { IfErr result (λ fault. fault ≢ RunFault.Write → writer.new ≡ writer.old) }
     ensures illegal { IfOk result (λ verdict.
         verdict ≢ Verdict.Legal → writer.new ≡ writer.old) }
 {
-    let input = read_input(alloc, &mut reader)?;
-    let (verdict, text) = measured_text(alloc, input.as_slice(), style)?;
+    let (verdict, text) = measured_text(alloc, input, style)?;
     match verdict {
         Verdict::Illegal { .. } => Ok(verdict),
         Verdict::Legal => match writer.write_all(text.as_bytes()) {

@@ -23,30 +23,20 @@ pub const WORK: u64 = 5;
 /// The group of responses.
 pub const RESPONSES: u64 = 6;
 
-/// Where a group or a track stands among its like.
+/// What is said of a group or of a track.
 #[derive(Drop, Serialize)]
-pub struct Sorted<'a> {
+pub struct Meta<'a, A> {
     pub name: &'a str,
     pub ph: &'a str,
     pub pid: u64,
     pub tid: u64,
-    pub args: SortIndex,
+    pub args: A,
 }
 
-/// A place, as an argument of an event.
+/// Where a group or a track stands among its like, as an argument of an event.
 #[derive(Drop, Serialize)]
 pub struct SortIndex {
     pub sort_index: u64,
-}
-
-/// The name of a group or of a track.
-#[derive(Drop, Serialize)]
-pub struct Named<'a> {
-    pub name: &'a str,
-    pub ph: &'a str,
-    pub pid: u64,
-    pub tid: u64,
-    pub args: Name<'a>,
 }
 
 /// A name, as an argument of an event.
@@ -163,13 +153,13 @@ pub struct Flow<'a> {
     pub tid: u64,
 }
 
-/// What a task has, from this clock on.
+/// What is so from this clock on.
 #[derive(Drop, Serialize)]
-pub struct TaskCounter<'a> {
+pub struct Counter<'a, A> {
     pub name: &'a str,
     pub ph: &'a str,
     pub pid: u64,
-    pub args: TaskFigures,
+    pub args: A,
 }
 
 /// How many cores a task holds and leaves.
@@ -177,15 +167,6 @@ pub struct TaskCounter<'a> {
 pub struct TaskFigures {
     pub held: u8,
     pub leaving: u8,
-}
-
-/// A figure, from this clock on.
-#[derive(Drop, Serialize)]
-pub struct Counter<'a> {
-    pub name: &'a str,
-    pub ph: &'a str,
-    pub pid: u64,
-    pub args: Figure,
 }
 
 /// One figure.
@@ -233,6 +214,17 @@ impl<'a> Events<'a> {
     pub fn begin_at(&mut self, clock: u64) {
         if self.zero.is_none() {
             self.zero = Some(clock);
+        }
+    }
+
+    /// The name that was put on a page. Where memory was refused for it, it is for all that follows.
+    pub fn named<'n>(&mut self, name: &'n Page) -> &'n str {
+        match name.whole() {
+            Ok(name) => name,
+            Err(_) => {
+                self.page.refuse();
+                ""
+            }
         }
     }
 

@@ -1,10 +1,11 @@
 //! The counters of the tasks and of the bandwidth.
 
-use crate::events::{COUNTERS, Counter, Events, Figure, TaskCounter, TaskFigures};
+use crate::events::{COUNTERS, Counter, Events, Figure, TaskFigures};
 use crate::numbers::{is_critical, kind_word};
 use crate::page::Page;
 use crate::standing::{Figures, Row};
 use cal_machine::Config;
+use serde::Serialize;
 
 /// What the tasks have after a pass.
 #[derive(Clone, Copy)]
@@ -42,19 +43,11 @@ impl RowAt<'_> {
     fn put_task_figures(self, task: usize, figures: TaskFigures, events: &mut Events<'_>) {
         let mut page = Page::new(events.alloc);
         page.put_task(events.labels, task);
-        page.join(" ({})", &[kind_word(self.config, task)]);
-        match page.whole() {
-            Ok(name) => {
-                let counter = TaskCounter {
-                    name,
-                    ph: "C",
-                    pid: COUNTERS,
-                    args: figures,
-                };
-                events.put_at(self.now, None, &counter)
-            }
-            Err(_) => events.page.refuse(),
-        }
+        page.put(" (");
+        page.put(kind_word(self.config, task));
+        page.put(")");
+        let name = events.named(&page);
+        put_counter(name, self.now, figures, events);
     }
 }
 
@@ -70,19 +63,17 @@ fn put_cap(now: u64, task: usize, cap: u8, events: &mut Events<'_>) {
     let mut page = Page::new(events.alloc);
     page.put("cap of ");
     page.put_task(events.labels, task);
-    match page.whole() {
-        Ok(name) => put_figure(name, now, u64::from(cap), events),
-        Err(_) => events.page.refuse(),
-    }
+    let (name, value) = (events.named(&page), u64::from(cap));
+    put_counter(name, now, Figure { value }, events);
 }
 
-/// A figure of this name.
-pub fn put_figure(name: &str, now: u64, value: u64, events: &mut Events<'_>) {
+/// What is so from this clock on, under a name.
+pub fn put_counter<A: Serialize + Drop>(name: &str, now: u64, args: A, events: &mut Events<'_>) {
     let counter = Counter {
         name,
         ph: "C",
         pid: COUNTERS,
-        args: Figure { value },
+        args,
     };
     events.put_at(now, None, &counter)
 }

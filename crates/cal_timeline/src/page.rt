@@ -38,6 +38,15 @@ impl Page {
         }
     }
 
+    /// Puts what the task of a thread is called, if it has one, in front of what is the thread's:
+    /// Perfetto colours slices by their names, without the numbers in them.
+    pub fn put_owner(&mut self, labels: Labels<'_>, task: Option<usize>) {
+        if let Some(task) = task {
+            self.put_task(labels, task);
+            self.put(", ");
+        }
+    }
+
     fn put_figure(&mut self, figure: u64) {
         if !self.refused && write!(self.text, "{figure}").is_err() {
             self.refused = true;
@@ -55,20 +64,6 @@ impl Page {
             }
             self.put(words);
             filled = filled.saturating_add(1);
-        }
-    }
-
-    /// Puts words in which each `{}` stands for the next piece.
-    pub fn join(&mut self, form: &str, pieces: &[&str]) {
-        let mut joined = 0usize;
-        for words in form.split("{}") {
-            if joined > 0 {
-                if let Some(piece) = pieces.get(joined.saturating_sub(1)) {
-                    self.put(piece);
-                }
-            }
-            self.put(words);
-            joined = joined.saturating_add(1);
         }
     }
 

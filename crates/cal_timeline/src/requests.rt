@@ -7,7 +7,7 @@ use crate::numbers::task_of;
 use crate::page::Page;
 use crate::responses::{Response, put_response};
 use crate::slices::colour_of;
-use crate::work::{BegunAt, WorkTurn, begun_of, work_turns};
+use crate::work::{BegunAt, WorkTurn, begun_of, works_of};
 use cal_input::RunFault;
 use cal_machine::Config;
 use cal_measure::run_end;
@@ -32,13 +32,13 @@ impl ToldRun<'_> {
         events: &mut Events<'_>,
         writer: &mut W,
     ) -> Result<(), RunFault> {
-        let last = run_end(self.arrivals);
-        let begun = begun_of(events.alloc, self.config, self.end, last)?;
+        let works = works_of(events.alloc, self.config, self.end, run_end(self.arrivals))?;
+        let begun = begun_of(events.alloc, works.as_slice())?;
         for arrival in self.arrivals.requests.as_slice() {
             self.put_arrival(arrival, &begun, events);
             events.page.send(writer)?;
         }
-        self.put_work(events, writer)
+        self.put_works(works.as_slice(), events, writer)
     }
 
     /// A request that comes: its response, a slice for the turn before which it does, and where it
@@ -72,29 +72,39 @@ impl ToldRun<'_> {
         }
     }
 
-    /// Puts the turns of all threads in which they worked.
-    fn put_work<W: Write>(self, events: &mut Events<'_>, writer: &mut W) -> Result<(), RunFault> {
-        for thread in 0..self.config.threads() as u8 {
-            self.put_work_of(thread, events, writer)?;
-        }
-        Ok(())
-    }
-
-    /// Puts the turns of a thread in which it worked.
-    fn put_work_of<W: Write>(
+    /// Puts the turns of each thread in which it worked.
+    fn put_works<W: Write>(
         self,
-        thread: u8,
+        works: &[Vec<WorkTurn>],
         events: &mut Events<'_>,
         writer: &mut W,
     ) -> Result<(), RunFault> {
-        let last = run_end(self.arrivals);
-        let turns = work_turns(events.alloc, self.end, last, thread)?;
-        for turn in turns.as_slice() {
-            put_work_turn(self.config, thread, turn, events);
-            events.page.send(writer)?;
+        for thread in 0..works.len() {
+            put_work(
+                self.config,
+                thread as u8,
+                works[thread].as_slice(),
+                events,
+                writer,
+            )?;
         }
         Ok(())
     }
+}
+
+/// Puts these turns of a thread.
+fn put_work<W: Write>(
+    config: &Config,
+    thread: u8,
+    turns: &[WorkTurn],
+    events: &mut Events<'_>,
+    writer: &mut W,
+) -> Result<(), RunFault> {
+    for turn in turns {
+        put_work_turn(config, thread, turn, events);
+        events.page.send(writer)?;
+    }
+    Ok(())
 }
 
 /// A request on a track of its thread, from one clock to another.
@@ -138,31 +148,22 @@ fn put_work_turn(config: &Config, thread: u8, turn: &WorkTurn, events: &mut Even
 fn put_slice(config: &Config, place: Place, events: &mut Events<'_>) {
     let task = task_of(config, place.thread);
     let mut name = Page::new(events.alloc);
-    // The task first, as in the names of spans.
-    if let Some(task) = task {
-        name.put_task(events.labels, task);
-        name.put(", ");
-    }
+    name.put_owner(events.labels, task);
     name.fill("request {}", &[place.request]);
-    match name.whole() {
-        Ok(name) => {
-            let slice = Slice {
-                name,
-                cat: place.cat,
-                ph: "X",
-                cname: task.map(colour_of),
-                pid: place.pid,
-                tid: u64::from(place.thread),
-                args: TurnArgs {
-                    request: place.request,
-                    from_clock: place.start,
-                },
-            };
-            let lasts = place.end.saturating_sub(place.start);
-            events.put_at(place.start, Some(lasts), &slice)
-        }
-        Err(_) => events.page.refuse(),
-    }
+    let slice = Slice {
+        name: events.named(&name),
+        cat: place.cat,
+        ph: "X",
+        cname: task.map(colour_of),
+        pid: place.pid,
+        tid: u64::from(place.thread),
+        args: TurnArgs {
+            request: place.request,
+            from_clock: place.start,
+        },
+    };
+    let lasts = place.end.saturating_sub(place.start);
+    events.put_at(place.start, Some(lasts), &slice)
 }
 
 /// Puts a part of a request's flow: at the beginning of a slice, to which it is bound.

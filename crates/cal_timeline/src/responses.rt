@@ -21,10 +21,7 @@ pub struct Response {
 impl Response {
     /// When it was answered, if it was.
     fn answered(self) -> Option<u64> {
-        match self.begun {
-            Some(begun) => begun.answered,
-            None => None,
-        }
+        self.begun?.answered
     }
 
     /// What is said of it, in a run with this last clock.
@@ -37,12 +34,9 @@ impl Response {
             task: task_of(config, self.thread),
             work: self.request.work,
             arrived: self.arrived,
-            begun: match self.begun {
-                Some(begun) => Some(begun.begun),
-                None => None,
-            },
+            begun: self.begun.map(|begun| begun.begun),
             answered,
-            response: if answered.is_some() { Some(took) } else { None },
+            response: answered.map(|_| took),
             pending: if answered.is_some() { None } else { Some(took) },
         }
     }
@@ -56,19 +50,12 @@ pub fn put_response(config: &Config, response: Response, last: u64, events: &mut
         Some(task) => name.put_task(events.labels, task),
         None => name.put("request"),
     }
+    let name = events.named(&name);
+    let args = response.args(config, last);
+    let begins = end_of("b", name, response, Some(args));
+    events.put_at(response.arrived, None, &begins);
     let end = response.answered().unwrap_or(last).max(response.arrived);
-    match name.whole() {
-        Ok(name) => {
-            let args = response.args(config, last);
-            events.put_at(
-                response.arrived,
-                None,
-                &end_of("b", name, response, Some(args)),
-            );
-            events.put_at(end, None, &end_of("e", name, response, None));
-        }
-        Err(_) => events.page.refuse(),
-    }
+    events.put_at(end, None, &end_of("e", name, response, None));
 }
 
 /// The beginning or the end of a response.

@@ -36,22 +36,17 @@ struct Place {
 
 /// Puts a slice, under a name.
 fn put_slice(place: Place, name: &Page, args: CoreArgs, events: &mut Events<'_>) {
-    match name.whole() {
-        Ok(name) => {
-            let start = args.from_clock;
-            let slice = Slice {
-                name,
-                cat: place.cat,
-                ph: "X",
-                cname: place.cname,
-                pid: place.pid,
-                tid: u64::from(place.core),
-                args,
-            };
-            events.put_at(start, Some(place.end.saturating_sub(start)), &slice)
-        }
-        Err(_) => events.page.refuse(),
-    }
+    let start = args.from_clock;
+    let slice = Slice {
+        name: events.named(name),
+        cat: place.cat,
+        ph: "X",
+        cname: place.cname,
+        pid: place.pid,
+        tid: u64::from(place.core),
+        args,
+    };
+    events.put_at(start, Some(place.end.saturating_sub(start)), &slice)
 }
 
 /// The colour of a task's spans and requests, by its name in chrome://tracing. After eight they
@@ -69,14 +64,6 @@ pub fn colour_of(task: usize) -> &'static str {
     }
 }
 
-/// This clock, where there is such a pass.
-fn clock_at(pass: Option<usize>, clock: u64) -> Option<u64> {
-    match pass {
-        Some(_) => Some(clock),
-        None => None,
-    }
-}
-
 /// What is said of a span that ends by this clock.
 fn span_args(config: &Config, end: u64, span: Span, granted: u64) -> CoreArgs {
     CoreArgs {
@@ -90,7 +77,7 @@ fn span_args(config: &Config, end: u64, span: Span, granted: u64) -> CoreArgs {
         from_pass: span.from,
         to_pass: span.to,
         from_clock: granted,
-        to_clock: clock_at(span.to, end),
+        to_clock: span.to.map(|_| end),
     }
 }
 
@@ -98,12 +85,8 @@ fn span_args(config: &Config, end: u64, span: Span, granted: u64) -> CoreArgs {
 fn put_span(config: &Config, end: u64, clocked: &ClockedSpan, events: &mut Events<'_>) {
     let span = clocked.span;
     let mut name = Page::new(events.alloc);
-    // The task first: Perfetto colours slices by their names, without the numbers in them.
     let task = task_of(config, span.thread);
-    if let Some(task) = task {
-        name.put_task(events.labels, task);
-        name.put(", ");
-    }
+    name.put_owner(events.labels, task);
     name.fill("thread {}", &[u64::from(span.thread)]);
     let place = Place {
         cat: "span",
@@ -199,7 +182,7 @@ fn put_ban(config: &Config, end: u64, clocked: &ClockedBan, events: &mut Events<
         from_pass: ban.from,
         to_pass: ban.to,
         from_clock: clocked.banned,
-        to_clock: clock_at(ban.to, end),
+        to_clock: ban.to.map(|_| end),
     };
     put_slice(place, &name, args, events);
 }

@@ -74,9 +74,8 @@ fn work_in(turn: &TimedTurn, request: Option<u64>) -> Option<WorkTurn> {
 }
 
 /// The turns in which a thread worked, in order, in a run with this last clock. A thread is at one
-/// request until that is served, so each turn is at the first that was not served before it. Fails
-/// only when out of memory.
-pub fn work_turns(
+/// request until that is served, so each turn is at the first that was not served before it.
+fn work_turns(
     alloc: Global,
     end: &RunEnd,
     last: u64,
@@ -95,6 +94,21 @@ pub fn work_turns(
         }
     }
     Ok(worked)
+}
+
+/// The turns in which each thread worked, in thread order, in a run with this last clock. Fails only
+/// when out of memory.
+pub fn works_of(
+    alloc: Global,
+    config: &Config,
+    end: &RunEnd,
+    last: u64,
+) -> Result<Vec<Vec<WorkTurn>>, AllocError> {
+    let mut works = Vec::new(alloc);
+    for thread in 0..config.threads() as u8 {
+        works.push(work_turns(alloc, end, last, thread)?)?;
+    }
+    Ok(works)
 }
 
 /// When a request was begun, and when it was answered, if it was.
@@ -126,17 +140,14 @@ fn note_turns(begun: &mut HashMap<u64, BegunAt>, turns: &[WorkTurn]) -> Result<(
     Ok(())
 }
 
-/// The requests that were begun in a run with this last clock, by their names. Fails only when out
-/// of memory.
+/// The requests that were begun, by their names, in a run whose threads worked in these turns. Fails
+/// only when out of memory.
 pub fn begun_of(
     alloc: Global,
-    config: &Config,
-    end: &RunEnd,
-    last: u64,
+    works: &[Vec<WorkTurn>],
 ) -> Result<HashMap<u64, BegunAt>, AllocError> {
     let mut begun = HashMap::new(alloc);
-    for thread in 0..config.threads() as u8 {
-        let turns = work_turns(alloc, end, last, thread)?;
+    for turns in works {
         note_turns(&mut begun, turns.as_slice())?;
     }
     Ok(begun)

@@ -11,8 +11,8 @@ ghost use Rattle.cal_trace.specs.History.Reading.{IsOpen};
 ghost use Rattle.cal_timeline.specs.Walking.{IsWalkOf};
 
 use crate::counting::count_passes;
-use crate::events::Events;
-use crate::figures::{RowAt, put_figure};
+use crate::events::{Events, Figure};
+use crate::figures::{RowAt, put_counter};
 use crate::names::{put_names, put_request_names};
 use crate::requests::ToldRun;
 use crate::slices::put_ended;
@@ -189,11 +189,11 @@ impl Told {
             row: &row,
         }
         .put_changes(self.row, events);
-        let bandwidth = entry.input.bandwidth;
-        if self.bandwidth != Some(bandwidth) {
-            put_figure("bandwidth", now, bandwidth, events);
+        let value = entry.input.bandwidth;
+        if self.bandwidth != Some(value) {
+            put_counter("bandwidth", now, Figure { value }, events);
         }
-        self.bandwidth = Some(bandwidth);
+        self.bandwidth = Some(value);
         self.row = Some(row);
         self.passes = self.passes.saturating_add(1);
     }

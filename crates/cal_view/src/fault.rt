@@ -1,5 +1,6 @@
-//! What the program says of the fault of several tables, and of a pass or a task that is not there.
+//! What the program says of the fault of several tables.
 
+use crate::refusing::end_refusal;
 use cal_input::{RunFault, status};
 use cal_machine::ConfigFault;
 use cal_tables::{ComparisonFault, Reason, Variation};
@@ -17,48 +18,43 @@ pub struct RefusedRuns<'a> {
 }
 
 impl RefusedRuns<'_> {
-    /// Writes the one line that the program says of a fault that a table or a value has, and below
-    /// it why, and answers the exit status after it. Any other fault is the error.
+    /// Writes the one line that the program says of a fault that a table, a value or the input has,
+    /// and below it why, and answers the exit status after it. Any other fault is the error.
     pub fn end<W: Write>(
         &self,
         alloc: Global,
         fault: &ComparisonFault,
         errors: &mut W,
     ) -> Result<u8, RunFault> {
-        let status = self.say(fault, errors)?;
-        self.explain(alloc, fault, errors);
-        Ok(status)
-    }
-
-    /// Writes the line, in which the table or the value stands before the reason. It takes no
-    /// memory.
-    fn say<W: Write>(&self, fault: &ComparisonFault, errors: &mut W) -> Result<u8, RunFault> {
-        let (table, reason) = match *fault {
+        match *fault {
             // What memory, the writer or a thread refused is no table's.
             ComparisonFault::OfTable {
                 table: _,
                 reason: Reason::Run(fault),
-            } if status(&fault) != 2 => return Err(fault),
-            ComparisonFault::OfTable { table, reason } => (table, reason),
-            ComparisonFault::Run(fault) => return Err(fault),
-        };
+            } if status(&fault) != 2 => Err(fault),
+            ComparisonFault::OfTable { table, reason } => {
+                self.say(table, reason, errors);
+                if let Reason::Run(fault) = reason {
+                    self.explain(alloc, table, fault, errors);
+                }
+                Ok(2)
+            }
+            ComparisonFault::Run(fault) => end_refusal(alloc, self.read, fault, errors),
+        }
+    }
+
+    /// Writes the line, in which the table or the value stands before the reason. It takes no
+    /// memory.
+    fn say<W: Write>(&self, table: usize, reason: Reason, errors: &mut W) {
         let _ = match value_of(self.variation, table) {
             Some((key, value)) => writeln!(errors, "caladan_view: {key}={value} {reason}"),
             None => writeln!(errors, "caladan_view: table {table} {reason}"),
         };
-        Ok(2)
     }
 
     /// Writes why a table or a value has a fault: of a table what stands in it or in the arrivals,
     /// of a value what is wanted. Where memory is refused nothing is written.
-    fn explain<W: Write>(&self, alloc: Global, fault: &ComparisonFault, errors: &mut W) {
-        let ComparisonFault::OfTable {
-            table,
-            reason: Reason::Run(fault),
-        } = *fault
-        else {
-            return;
-        };
+    fn explain<W: Write>(&self, alloc: Global, table: usize, fault: RunFault, errors: &mut W) {
         match (self.variation, fault) {
             (Some(variation), RunFault::Config(fault)) => {
                 // Of a key that the table has not, which keys there are.
@@ -80,24 +76,4 @@ fn value_of<'a>(variation: Option<Variation<'a>>, table: usize) -> Option<(&'a s
     let variation = variation?;
     let value = variation.values.get(table)?;
     Some((variation.key, *value))
-}
-
-/// Writes the line that the program says where a history has so many passes and not the one that was
-/// asked for, and answers the exit status after it.
-pub fn end_without_pass<W: Write>(pass: usize, passes: usize, errors: &mut W) -> u8 {
-    let _ = writeln!(
-        errors,
-        "caladan_view: no pass {pass}: there are {passes}, from 0"
-    );
-    2
-}
-
-/// Writes the line that the program says where a table has so many tasks and not the one that was
-/// asked for, and answers the exit status after it.
-pub fn end_without_task<W: Write>(tasks: usize, errors: &mut W) -> u8 {
-    let _ = writeln!(
-        errors,
-        "caladan_view: no such task: there are {tasks}, from 0"
-    );
-    2
 }

@@ -13,6 +13,6 @@ mod jobs;
 mod program;
 mod refusing;
 
-pub use command_words::command_line::{CompareWords, Form, Job, Request, words};
+pub use command_words::command_line::{CompareWords, Form, InputJob, Job, Request, words};
 pub use jobs::recording::record;
 pub use program::run_program;

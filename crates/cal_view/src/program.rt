@@ -3,11 +3,11 @@
 
 ghost use Rattle.std.specs.Prelude.{◌≡◌, ◌≢◌, IfErr};
 
-use crate::command_words::command_line::{Job, Request, help, words};
+use crate::command_words::command_line::{InputJob, Job, Request, help, words};
 use crate::edge::beside::open_beside;
 use crate::edge::failure::Failure;
 use crate::edge::noted::Noted;
-use crate::edge::sources::{open_named, read_tables, said_of_reading};
+use crate::edge::sources::{open_named, read_tables};
 use crate::jobs::arriving::Arriving;
 use crate::jobs::checking::answer_check;
 use crate::jobs::comparing::answer_compare;
@@ -51,10 +51,15 @@ pub fn run_program<H: Files + Threads + Sync, R: Read + Drop, W: Write, E: Write
     let mut output = Noted::new(&mut *output);
     match words(alloc, given.as_slice()) {
         Ok(request) => run_asked(rt, alloc, &request, reader, &mut output, errors),
-        Err(error) => {
-            let answer = refuse_words(&error, &mut output, errors);
-            end_answer(answer, &output, errors)
-        }
+        Err(error) => match refuse_words(&error, &mut output, errors) {
+            Ok(status) => status,
+            Err(fault) => Failure {
+                fault,
+                file: None,
+                said: output.said(),
+            }
+            .end(errors),
+        },
     }
 }
 
@@ -68,38 +73,15 @@ fn run_asked<H: Files + Threads + Sync, R: Read + Drop, W: Write, E: Write>(
     errors: &mut E,
 ) -> u8 {
     let run = ProgramRun { rt, alloc, request };
-    run.end(reader, output, errors)
-}
-
-/// The exit status after what was written on this writer. Of a fault its line is said, with what the
-/// system said of the writer; where whoever reads the answer has gone there is none.
-pub fn end_answer<W: Write, E: Write>(
-    answer: Result<u8, RunFault>,
-    output: &Noted<W>,
-    errors: &mut E,
-) -> u8 {
-    match answer {
+    match run.answer(reader, output, errors) {
         Ok(status) => status,
-        Err(fault) => Failure {
-            fault,
-            file: None,
-            said: said_of_writing(fault, output),
-        }
-        .end(errors),
-    }
-}
-
-/// What the system said where the fault is that of writing.
-fn said_of_writing<W: Write>(fault: RunFault, output: &Noted<W>) -> Option<std::io::Error> {
-    match fault {
-        RunFault::Write => output.said(),
-        _ => None,
+        Err(failure) => failure.end(errors),
     }
 }
 
 /// Says in short how the program is used, where no word was given. That is no job, so the status is
 /// 2.
-pub fn say_help<E: Write>(alloc: Global, errors: &mut E) -> Result<u8, RunFault>
+fn say_help<E: Write>(alloc: Global, errors: &mut E) -> Result<u8, RunFault>
     ensures { IfErr result (λ fault. fault ≢ RunFault.Write → errors.new ≡ errors.old) }
 {
     let text = help(alloc)?;
@@ -121,23 +103,6 @@ struct ProgramRun<'h, 'a, H> {
 }
 
 impl<'h, 'a, H: Files + Threads + Sync> ProgramRun<'h, 'a, H> {
-    /// Does what the words ask for, and answers the exit status.
-    fn end<R: Read + Drop, W: Write, E: Write>(
-        &self,
-        reader: R,
-        output: &mut Noted<W>,
-        errors: &mut E,
-    ) -> u8 {
-        if let Job::Help = self.request.job {
-            let answer = say_help(self.alloc, errors);
-            return end_answer(answer, output, errors);
-        }
-        match self.answer(reader, output, errors) {
-            Ok(status) => status,
-            Err(failure) => failure.end(errors),
-        }
-    }
-
     /// Does what the words ask for on the reader or on the files that they name, and answers the
     /// exit status where there is no fault.
     fn answer<R: Read + Drop, W: Write, E: Write>(
@@ -218,22 +183,41 @@ impl<'h, 'a, H: Files + Threads + Sync> ProgramRun<'h, 'a, H> {
             RunFault::Read => Failure {
                 fault,
                 file: self.request.input,
-                said: said_of_reading(fault, input),
+                said: input.said(),
             },
             RunFault::Write => Failure {
                 fault,
                 file,
-                said: said_of_writing(fault, output),
+                said: output.said(),
             },
             fault => Failure::from(fault),
         }
     }
 
     /// Does the job of the words on an input, and answers the exit status where there is no fault.
-    /// Of an input that is refused it says why.
+    /// What is written goes through a buffer.
     fn answer_job<R: Read + Drop, W: Write, E: Write>(
         &self,
-        mut reader: R,
+        reader: R,
+        output: &mut W,
+        errors: &mut E,
+    ) -> Result<u8, RunFault> {
+        let mut buffer = match BufWriter::new(self.alloc, output) {
+            Ok(buffer) => buffer,
+            Err(_) => return Err(RunFault::Memory),
+        };
+        let status = self.do_job(reader, &mut buffer, errors)?;
+        match buffer.flush() {
+            Ok(()) => Ok(status),
+            Err(_) => Err(RunFault::Write),
+        }
+    }
+
+    /// Does the job of the words. Those of arrivals and of a sweep are refused before anything is
+    /// read.
+    fn do_job<R: Read + Drop, W: Write, E: Write>(
+        &self,
+        reader: R,
         output: &mut W,
         errors: &mut E,
     ) -> Result<u8, RunFault> {
@@ -243,11 +227,11 @@ impl<'h, 'a, H: Files + Threads + Sync> ProgramRun<'h, 'a, H> {
             names: names.as_slice(),
             tick: request.labels.tick,
         };
-        // These two refuse their words before they read.
         match &request.job {
+            Job::OfInput { asked } => self.look(*asked, labels, reader, output, errors),
             Job::Arrivals { asked } => {
                 let arriving = Arriving { alloc, asked };
-                return arriving.answer_arrivals(reader, output, errors);
+                arriving.answer_arrivals(reader, output, errors)
             }
             Job::Sweep { asked } => {
                 let sweeping = Sweeping {
@@ -255,19 +239,32 @@ impl<'h, 'a, H: Files + Threads + Sync> ProgramRun<'h, 'a, H> {
                     words: asked,
                     labels,
                 };
-                return sweeping.answer(self.rt, reader, output, errors);
+                sweeping.answer(self.rt, reader, output, errors)
             }
-            _ => {}
+            Job::Help => say_help(alloc, errors),
         }
+    }
+
+    /// Reads an input to its end, and does this with it. Of an input that is refused it says why.
+    fn look<R: Read + Drop, W: Write, E: Write>(
+        &self,
+        job: InputJob<'_>,
+        labels: Labels<'_>,
+        mut reader: R,
+        output: &mut W,
+        errors: &mut E,
+    ) -> Result<u8, RunFault> {
+        let alloc = self.alloc;
         let bytes = read_input(alloc, &mut reader)?;
+        let read = refused_input(job, self.request, bytes.as_slice());
         let input = JobInput {
             alloc,
-            read: refused_input(request, bytes.as_slice()),
+            read,
             labels,
         };
-        match answer_read(&request.job, &input, output, errors) {
+        match answer_read(job, &input, output, errors) {
             Ok(status) => Ok(status),
-            Err(fault) => end_refusal(alloc, input.read, fault, errors),
+            Err(fault) => end_refusal(alloc, read, fault, errors),
         }
     }
 }
@@ -275,43 +272,23 @@ impl<'h, 'a, H: Files + Threads + Sync> ProgramRun<'h, 'a, H> {
 /// Does a job on an input, and answers the exit status where there is no fault: 2 where there are
 /// more or fewer names than tasks.
 fn answer_read<W: Write, E: Write>(
-    job: &Job<'_>,
+    job: InputJob<'_>,
     input: &JobInput<'_>,
     output: &mut W,
     errors: &mut E,
 ) -> Result<u8, RunFault> {
-    if let Some(status) = refuse_count(input.alloc, input.labels, input.bytes(), errors)? {
+    let (alloc, bytes, labels) = (input.alloc, input.bytes(), input.labels);
+    if let Some(status) = refuse_count(alloc, labels, bytes, errors)? {
         return Ok(status);
     }
     match job {
-        Job::Check => answer_check(input.alloc, input.bytes(), output),
-        Job::Explain { asked } => answer_explain(input, *asked, output, errors),
-        Job::Compare { asked } => answer_compare(input, *asked, output, errors),
-        Job::Measure { form } => answer_measure(input, *form, output, errors),
-        job => {
-            do_job(job, input, output)?;
-            Ok(0)
-        }
+        InputJob::Check => return answer_check(alloc, bytes, output),
+        InputJob::Explain { asked } => return answer_explain(input, asked, output, errors),
+        InputJob::Compare { asked } => return answer_compare(input, asked, output, errors),
+        InputJob::Measure { form } => return answer_measure(input, form, output, errors),
+        InputJob::History { front } => record(alloc, bytes, front, output)?,
+        InputJob::Timeline => write_timeline(alloc, bytes, labels, output)?,
+        InputJob::Facts { facts } => tell(alloc, bytes, facts, output)?,
     }
-}
-
-/// Does a job that says nothing of an input that it accepts. What is written goes through a buffer.
-fn do_job<W: Write>(job: &Job<'_>, input: &JobInput<'_>, output: &mut W) -> Result<(), RunFault> {
-    let (alloc, bytes) = (input.alloc, input.bytes());
-    let mut buffer = match BufWriter::new(alloc, output) {
-        Ok(buffer) => buffer,
-        Err(_) => return Err(RunFault::Memory),
-    };
-    match job {
-        Job::History { front } => record(alloc, bytes, *front, &mut buffer)?,
-        Job::Timeline => write_timeline(alloc, bytes, input.labels, &mut buffer)?,
-        Job::Facts { facts } => tell(alloc, bytes, *facts, &mut buffer)?,
-        // (the calls above do these)
-        Job::Arrivals { .. } | Job::Check | Job::Compare { .. } | Job::Explain { .. } => {}
-        Job::Measure { .. } | Job::Sweep { .. } | Job::Help => {}
-    }
-    match buffer.flush() {
-        Ok(()) => Ok(()),
-        Err(_) => Err(RunFault::Write),
-    }
+    Ok(0)
 }

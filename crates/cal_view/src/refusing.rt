@@ -2,7 +2,7 @@
 
 ghost use Rattle.std.specs.Prelude.{◌≡◌, IfErr, IfOk};
 
-use crate::command_words::command_line::{Job, Request};
+use crate::command_words::command_line::{InputJob, Request};
 use crate::jobs::telling::Facts;
 use cal_input::RunFault;
 use cal_load::WordFault;
@@ -30,13 +30,17 @@ pub fn end_refusal<E: Write>(
     }
 }
 
-/// The input of a request, for where it is refused.
-pub fn refused_input<'a>(request: &'a Request<'a>, input: &'a [u8]) -> RefusedInput<'a> {
+/// The input of a request for this job, for where it is refused.
+pub fn refused_input<'a>(
+    job: InputJob<'_>,
+    request: &'a Request<'a>,
+    input: &'a [u8],
+) -> RefusedInput<'a> {
     let tables = request.tables.as_slice();
     RefusedInput {
         input,
-        wanted: traces_of(&request.job),
-        tables: tables_of(&request.job),
+        wanted: traces_of(job),
+        tables: tables_of(job),
         files: if tables.is_empty() {
             None
         } else {
@@ -67,31 +71,27 @@ pub fn refuse_word<E: Write>(fault: &WordFault<'_>, errors: &mut E) -> u8
 }
 
 /// The traces that a job reads.
-fn traces_of(job: &Job<'_>) -> &'static [TraceKind] {
+fn traces_of(job: InputJob<'_>) -> &'static [TraceKind] {
     match job {
-        Job::History { .. } => &[TraceKind::Signals],
-        Job::Measure { .. } | Job::Timeline => &[TraceKind::Arrivals, TraceKind::History],
-        Job::Facts { facts } => facts_of(*facts),
-        Job::Compare { .. } => &[TraceKind::Arrivals],
-        Job::Explain { .. } => &[TraceKind::Signals, TraceKind::History],
-        Job::Check => &[TraceKind::Signals, TraceKind::Arrivals, TraceKind::History],
-        Job::Arrivals { .. } | Job::Sweep { .. } | Job::Help => &[],
-    }
-}
-
-/// The traces of which there are these facts.
-fn facts_of(facts: Facts) -> &'static [TraceKind] {
-    match facts {
-        Facts::Spans | Facts::Series => &[TraceKind::Arrivals, TraceKind::History],
-        Facts::Requests => &[TraceKind::Arrivals],
+        InputJob::History { .. } => &[TraceKind::Signals],
+        InputJob::Compare { .. }
+        | InputJob::Facts {
+            facts: Facts::Requests,
+        } => &[TraceKind::Arrivals],
+        InputJob::Measure { .. } | InputJob::Timeline | InputJob::Facts { .. } => &[
+            TraceKind::Arrivals,
+            TraceKind::History,
+        ],
+        InputJob::Explain { .. } => &[TraceKind::Signals, TraceKind::History],
+        InputJob::Check => &[TraceKind::Signals, TraceKind::Arrivals, TraceKind::History],
     }
 }
 
 /// How many tables come before the trace that a job reads, or more where it is after the last
 /// separator.
-fn tables_of(job: &Job<'_>) -> usize {
+fn tables_of(job: InputJob<'_>) -> usize {
     match job {
-        Job::Compare { asked } if asked.vary.is_none() => usize::MAX,
+        InputJob::Compare { asked } if asked.vary.is_none() => usize::MAX,
         _ => 1,
     }
 }

@@ -1,11 +1,10 @@
-//! What a trace and a task table may have: the rows of each trace, the keys of a table, and the range
-//! of each number. It is their one copy as words. cal_trace's readers (src/signals/reading.rt,
-//! arrivals/reading.rt, history/reading.rt, rows/) and cal_machine's (src/table.rt, task_table.rt)
-//! refuse by checks of their own and hand out none of this but constants, which are taken from them.
+//! What a trace and a task table may have, as words: the rows of each trace, the keys of a table,
+//! and the range of each number. The rows and the limits are those that cal_trace, cal_signal and
+//! cal_machine hand out.
 
-use crate::limits::{most_request_misses, most_work};
 use cal_machine::{MOST_CORES, MOST_LIMIT, MOST_TASKS, MOST_TICKS};
 use cal_signal::MOST_MISSES;
+use cal_trace::{ARRIVAL_ROWS, HISTORY_ROWS, MOST_REQUEST_MISSES, MOST_WORK, SIGNAL_ROWS};
 use std::alloc::AllocError;
 use std::fmt::Write;
 
@@ -44,11 +43,7 @@ const SIGNALS: Grammar = Grammar {
     headers: "`caladan-signals,2` or `caladan-signals,1`",
     readers: "`caladan_sim decide`, `caladan_view history` and `explain`",
     words: "pass whole busy end",
-    rows: "\
-pass,now,bandwidth
-whole,thread,room,number,taken,running,queued,oldest,started,misses,stamp,paused,since
-busy,thread,room,first,second
-end,passes",
+    rows: SIGNAL_ROWS,
 };
 
 const ARRIVALS: Grammar = Grammar {
@@ -57,11 +52,7 @@ const ARRIVALS: Grammar = Grammar {
     readers: "`caladan_sim lockstep` and `sim`, `caladan_view measure`, `compare`, `timeline`, \
               `spans`, `series` and `requests`",
     words: "pass turn request end",
-    rows: "\
-pass,now,bandwidth
-turn,now
-request,thread,turn,id,work,misses
-end,rows",
+    rows: ARRIVAL_ROWS,
 };
 
 const HISTORY: Grammar = Grammar {
@@ -70,21 +61,7 @@ const HISTORY: Grammar = Grammar {
     readers: "`caladan_sim audit`, `caladan_view measure`, `timeline`, `spans`, `series` and \
               `explain`",
     words: "pass whole busy ahead foreign free unban ban revoke cap grant end",
-    rows: "\
-pass,now,bandwidth
-whole,thread,room,number,taken,running,queued,oldest,started,misses,stamp,paused,since
-busy,thread,room,first,second
-ahead,thread,room,number,taken,running,queued,oldest,started,misses,stamp,paused,since
-foreign,thread,room,number,taken,running,queued,oldest,started,misses,stamp,paused,since
-free,core
-unban,core
-ban,core,thread,started
-revoke,core,ban,by
-revoke,core,bandwidth
-revoke,core,preempt,task
-cap,task,cap
-grant,core,thread,class
-end,passes",
+    rows: HISTORY_ROWS,
 };
 
 impl TraceKind {
@@ -173,10 +150,10 @@ pub fn range_of(kind: TraceKind, name: &str, extent: Extent) -> Option<Range> {
         "room" => Range::new(0, 1, "1 where the ring has room"),
         "running" => Range::new(0, MOST_CORES as u64, "MOST_CORES; 1 more than the core"),
         "misses" if kind == TraceKind::Arrivals => {
-            Range::new(0, most_request_misses(), "MOST_REQUEST_MISSES")
+            Range::new(0, MOST_REQUEST_MISSES, "MOST_REQUEST_MISSES")
         }
         "misses" => Range::new(0, MOST_MISSES, "MOST_MISSES"),
-        "work" => Range::new(1, most_work(), "MOST_WORK"),
+        "work" => Range::new(1, MOST_WORK, "MOST_WORK"),
         "class" => Range::new(1, 5, "the classes of a core"),
         "cap" => Range::new(0, MOST_LIMIT as u64, "MOST_LIMIT"),
         _ => return None,

@@ -3,15 +3,13 @@
 //!
 //! It is given the bytes of the input and the fault that the refusing call answered. So which fault
 //! it is, and in which row, is that call's; what is said of it is only tested. Nothing here decides
-//! whether an input is refused. Of the limits of arrivals it is proved that they are those by which
-//! cal_trace refuses. What caladan_sim does with its words is proved to be what they ask
+//! whether an input is refused. What caladan_sim does with its words is proved to be what they ask
 //! for, with the option too.
 #![tactic(auto)]
 
 mod ending;
 mod explaining;
 mod grammar;
-mod limits;
 mod nearest;
 mod places;
 mod running;

@@ -97,7 +97,7 @@ pub fn compared(rt: &HostRuntime, given: &TableAndTrace) -> io::Result<bool> {
     let mut text = writer(rt.alloc())?;
     begin(rt)?;
     let input = ComparedInput {
-        reader: given.text,
+        bytes: given.text,
         variation: None,
     };
     let made = compare(rt.alloc(), input, in_columns(), &mut text);

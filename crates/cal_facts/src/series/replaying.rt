@@ -13,9 +13,9 @@ ghost use Rattle.cal_facts.specs.Series.{series_of};
 
 use crate::series::point::{MadePass, Point, put_points};
 use cal_machine::Config;
+use cal_measure::given_of;
 use cal_policy::state::Board;
 use cal_policy::{Action, PassEntry};
-use cal_trace::GivenPass;
 use std::alloc::{AllocError, Global};
 
 /// Brings a state up to one more action, which names the table's cores, threads and tasks.
@@ -54,17 +54,6 @@ fn follow(config: &Config, board: &mut Board, entry: &PassEntry)
 {
     board.begin(entry.input.seen.as_slice());
     apply_each(config, board, entry.actions.as_slice());
-}
-
-/// The clock and the bandwidth figure of a pass.
-fn given_of(entry: &PassEntry) -> GivenPass
-    ensures now { result.now ≡ entry.now.input.now }
-    ensures bandwidth { result.bandwidth ≡ entry.now.input.bandwidth }
-{
-    GivenPass {
-        now: entry.input.now,
-        bandwidth: entry.input.bandwidth,
-    }
 }
 
 /// The series of a history that a file can hold. Fails only when out of memory.

@@ -1,15 +1,14 @@
-//! The spans of a history, by one walk over it.
+//! The spans of a history, by a walk over it.
 
 ghost use Rattle.std.specs.Prelude.{◌≡◌, ◌++◌, ◌∷◌, [], List, None, Some};
-ghost use Rattle.std.specs.Prelude.{IfOk, OnOk, map, option_map, replicate};
-ghost use Rattle.cal_measure.specs.Spans.{Move, ended, ended_by, ended_of, granted, left_as};
-ghost use Rattle.cal_measure.specs.Spans.{made_in, open_of, span_at, spans_of};
-ghost use Rattle.cal_measure.specs.Spans.Tracking.{AreStays, Gathers, Tracks};
+ghost use Rattle.std.specs.Prelude.{option_map, replicate};
+ghost use Rattle.cal_measure.specs.Spans.{Move, ended, ended_by, granted, left_as, made_in};
+ghost use Rattle.cal_measure.specs.Spans.{span_at};
+ghost use Rattle.cal_measure.specs.Spans.Tracking.{AreStays, Tracks};
 ghost use Rattle.cal_measure.specs.Turns.{one_of};
 
 use crate::spans::span::{Left, Span};
-use cal_policy::{Action, Cause, PassEntry};
-use std::alloc::{AllocError, Global};
+use cal_policy::{Action, Cause};
 
 /// The span that each core is in after the actions so far. There is a place for each number that an
 /// action can name.
@@ -142,83 +141,4 @@ impl Tracker {
         note_stay(&mut self.stays, pass, action);
         over
     }
-}
-
-/// Puts a span, if there is one, at the end of a list. Fails only when out of memory.
-fn put_one(spans: &mut Vec<Span>, span: Option<Span>) -> Result<(), AllocError>
-    ensures { OnOk result (spans.new.items ≡ spans.old.items ++ one_of span) }
-{
-    match span {
-        None => Ok(()),
-        Some(span) => {
-            spans.push(span)?;
-            Ok(())
-        }
-    }
-}
-
-/// A walk over a history, and the spans that ended so far.
-#[derive(Drop)]
-struct Gathering {
-    tracker: Tracker,
-    ended: Vec<Span>,
-}
-
-impl Gathering {
-    fn new(alloc: Global) -> Gathering
-        ensures { Gathers result [] }
-    {
-        Gathering {
-            tracker: Tracker::new(),
-            ended: Vec::new(alloc),
-        }
-    }
-
-    /// Goes on by one pass. Fails only when out of memory.
-    fn note_pass(&mut self, pass: usize, actions: &[Action]) -> Result<(), AllocError>
-        ensures { OnOk result ((moves : List Move) → Gathers self.old moves
-            → Gathers self.new (moves ++ map (made_in pass) actions.now)) }
-    {
-        for action in actions {
-            self.note(pass, *action)?;
-        }
-        Ok(())
-    }
-
-    /// Goes on by one action. Fails only when out of memory.
-    fn note(&mut self, pass: usize, action: Action) -> Result<(), AllocError>
-        ensures { OnOk result ((moves : List Move) → Gathers self.old moves
-            → Gathers self.new (moves ++ made_in pass action ∷ [])) }
-    {
-        let over = self.tracker.note(pass, action);
-        put_one(&mut self.ended, over)?;
-        Ok(())
-    }
-
-    /// All spans: those that ended, and then those that the cores below `cores` are in. Fails only
-    /// when out of memory.
-    fn into_spans(self, cores: u8) -> Result<Vec<Span>, AllocError>
-        ensures { (moves : List Move) → Gathers self moves
-            → IfOk result (λ spans. spans.items ≡ ended_of moves ++ open_of moves cores) }
-    {
-        let Gathering { tracker, mut ended } = self;
-        for core in 0..cores {
-            put_one(&mut ended, tracker.span(core))?;
-        }
-        Ok(ended)
-    }
-}
-
-/// The spans of a history, of a machine with so many cores: those that ended, in the order in which
-/// they did, and then those that go on at its end, by core. Fails only when out of memory.
-///
-/// It takes any history. Of an orderly one each span ends with a Free.
-pub fn spans_of(alloc: Global, cores: u8, history: &[PassEntry]) -> Result<Vec<Span>, AllocError>
-    ensures { IfOk result (λ spans. spans.items ≡ spans_of cores history.now) }
-{
-    let mut gathering = Gathering::new(alloc);
-    for pass in 0..history.len() {
-        gathering.note_pass(pass, history[pass].actions.as_slice())?;
-    }
-    gathering.into_spans(cores)
 }

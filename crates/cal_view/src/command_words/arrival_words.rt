@@ -1,6 +1,8 @@
 //! The words after `arrivals`.
 
-use crate::command_words::command_line::{all_words, input_word, output_word, table_word};
+use crate::command_words::command_line::{
+    all_words, flag_word, input_word, number_word, output_word, table_word, value_word,
+};
 use crate::command_words::help_texts;
 use cal_load::{LoadWords, Timing};
 use clap::{Arg, ArgAction, ArgMatches, Command};
@@ -82,40 +84,26 @@ fn pattern_word<'a>(alloc: Global) -> Arg<'a> {
         .help("poisson, even or bursts:N")
 }
 
-fn one_number<'a>(alloc: Global, name: &'a str, value: &'a str) -> Arg<'a> {
-    Arg::new(alloc, name)
-        .long(name)
-        .action(ArgAction::Set)
-        .value_name(value)
-}
-
 fn turns_word<'a>(alloc: Global) -> Arg<'a> {
-    one_number(alloc, "turns", "N")
+    value_word(alloc, "turns", "N", "Turns of each thread, 1 to 174762")
         .default_value("1000")
         .value_parser(clap::value_parser!(u64).range(1..=174_762))
-        .help("Turns of each thread, 1 to 174762")
 }
 
 fn ticks_word<'a>(alloc: Global) -> Arg<'a> {
-    one_number(alloc, "ticks", "N")
+    value_word(alloc, "ticks", "N", "Ticks of a turn, 1 to 1000000000")
         .default_value("10")
         .value_parser(clap::value_parser!(u64).range(1..=1_000_000_000))
-        .help("Ticks of a turn, 1 to 1000000000")
 }
 
 fn seed_word<'a>(alloc: Global) -> Arg<'a> {
-    one_number(alloc, "seed", "SEED")
-        .default_value("1")
-        .value_parser(clap::value_parser!(u64))
-        .help("The seed: the same makes the same")
+    let help = "The seed: the same makes the same";
+    number_word(alloc, "seed", "SEED", help).default_value("1")
 }
 
 fn summary_word<'a>(alloc: Global) -> Result<Arg<'a>, AllocError> {
-    Arg::new(alloc, "summary")
-        .long("summary")
-        .action(ArgAction::SetTrue)
-        .help("Write a line for each task, in place of the arrivals")
-        .conflicts_with("table")
+    let help = "Write a line for each task, in place of the arrivals";
+    flag_word(alloc, "summary", help).conflicts_with("table")
 }
 
 /// What the words of a parsed command line ask for. Fails only when out of memory.

@@ -13,9 +13,31 @@ use clap::error::ErrorKind;
 use clap::{Arg, ArgAction, ArgMatches, Command, Error};
 use std::alloc::{AllocError, Global};
 
-/// What the program is to do with its input.
+/// What the program is to do.
 #[derive(Debug, Drop)]
 pub enum Job<'a> {
+    /// Read an input to its end, and do this with it.
+    OfInput {
+        /// What is done with it.
+        asked: InputJob<'a>,
+    },
+    /// Make arrivals for a task table.
+    Arrivals {
+        /// Which arrivals.
+        asked: ArrivalWords<'a>,
+    },
+    /// Make runs at one load after the other.
+    Sweep {
+        /// Which runs.
+        asked: SweepWords<'a>,
+    },
+    /// Say how the program is used.
+    Help,
+}
+
+/// What is done with an input that was read to its end.
+#[derive(Clone, Copy, Debug, PartialEq, Eq)]
+pub enum InputJob<'a> {
     /// Write the history that signals lead to, with the task table in front or without it.
     History {
         /// What goes in front.
@@ -43,20 +65,8 @@ pub enum Job<'a> {
         /// Which pass, and what of it.
         asked: Asked,
     },
-    /// Make arrivals for a task table.
-    Arrivals {
-        /// Which arrivals.
-        asked: ArrivalWords<'a>,
-    },
-    /// Make runs at one load after the other.
-    Sweep {
-        /// Which runs.
-        asked: SweepWords<'a>,
-    },
-    /// Say what an input is, or why it is refused.
+    /// Say what the input is, or why it is refused.
     Check,
-    /// Say how the program is used.
-    Help,
 }
 
 /// What the words after `compare` ask for.
@@ -103,27 +113,17 @@ pub struct Request<'a> {
 /// the kind `OutOfMemory`.
 pub fn words<'a>(alloc: Global, words: &'a [&'a str]) -> Result<Request<'a>, Error> {
     let matches = program(alloc)?.try_get_matches_from(words)?;
-    let job = match asked_job(alloc, &matches)? {
-        Ok(job) => job,
-        Err(mistake) => return Err(refused(alloc, mistake)?),
-    };
-    let places = match places_of(&matches) {
-        Ok(places) => places,
-        Err(mistake) => return Err(refused(alloc, mistake)?),
-    };
-    let tables = tables_of(alloc, &matches, places.has_tables)?;
-    Ok(Request {
-        job,
-        labels: labels_of(&matches),
-        tables,
-        input: places.input,
-        output: places.output,
-    })
+    match request_of(alloc, &matches) {
+        Ok(request) => Ok(request),
+        Err(mistake) => Err(refused(alloc, mistake)?),
+    }
 }
 
-/// What is wrong with words of `compare` that stand in the table one by one.
+/// Why words that stand in the table one by one make no request.
 #[derive(Clone, Copy, Debug, PartialEq, Eq)]
 enum Mistake {
+    /// Memory was refused.
+    Memory,
     /// The key that is varied has no values.
     NoValues,
     /// There are several files, and none of arrivals.
@@ -134,9 +134,16 @@ enum Mistake {
     TwoTables,
 }
 
+impl From<AllocError> for Mistake {
+    fn from(_e: AllocError) -> Mistake {
+        Mistake::Memory
+    }
+}
+
 /// The error of a mistake. Fails only when out of memory.
 fn refused(alloc: Global, mistake: Mistake) -> Result<Error, AllocError> {
     let (kind, said) = match mistake {
+        Mistake::Memory => return Err(AllocError),
         Mistake::NoValues => (
             ErrorKind::ValueValidation,
             "the value of '--vary <KEY=V1,V2,..>' has no '='",
@@ -169,13 +176,17 @@ fn program<'a>(alloc: Global) -> Result<Command<'a>, AllocError> {
     let program = bare_program(alloc)?;
     let program = program.subcommand(history_word(alloc)?)?;
     let program = program.subcommand(timeline_word(alloc)?)?;
-    let program = program.subcommand(spans_word(alloc)?)?;
-    let program = program.subcommand(series_word(alloc)?)?;
-    let program = program.subcommand(requests_word(alloc)?)?;
+    let about = "Write who had which core from when to when, and the bans, as CSV";
+    let program = program.subcommand(plain_word(alloc, "spans", about, help_texts::SPANS)?)?;
+    let about = "Write what each pass finds of each task and leaves it with, as CSV";
+    let program = program.subcommand(plain_word(alloc, "series", about, help_texts::SERIES)?)?;
+    let about = "Write what came of each request of a run, as CSV";
+    let program = program.subcommand(plain_word(alloc, "requests", about, help_texts::REQUESTS)?)?;
     let program = program.subcommand(measure_word(alloc)?)?;
     let program = program.subcommand(compare_word(alloc)?)?;
     let program = program.subcommand(explain_word(alloc)?)?;
-    let program = program.subcommand(check_word(alloc)?)?;
+    let about = "Say what an input is, or why it is refused";
+    let program = program.subcommand(plain_word(alloc, "check", about, help_texts::CHECK)?)?;
     let program = program.subcommand(arrival_word(alloc)?)?;
     program.subcommand(sweep_word(alloc)?)
 }
@@ -190,10 +201,16 @@ fn bare_program<'a>(alloc: Global) -> Result<Command<'a>, AllocError> {
         .bin_name("caladan_view")
 }
 
-fn check_word<'a>(alloc: Global) -> Result<Command<'a>, AllocError> {
-    Command::new(alloc, "check")
-        .about("Say what an input is, or why it is refused")
-        .after_long_help(help_texts::CHECK)
+/// A word that takes an input, and where its answer goes.
+fn plain_word<'a>(
+    alloc: Global,
+    name: &'a str,
+    about: &'a str,
+    help: &'a str,
+) -> Result<Command<'a>, AllocError> {
+    Command::new(alloc, name)
+        .about(about)
+        .after_long_help(help)
         .arg(input_word(alloc))?
         .arg(output_word(alloc))
 }
@@ -214,30 +231,6 @@ fn timeline_word<'a>(alloc: Global) -> Result<Command<'a>, AllocError> {
         .arg(input_word(alloc))?
         .arg(names_word(alloc))?
         .arg(tick_word(alloc))?
-        .arg(output_word(alloc))
-}
-
-fn spans_word<'a>(alloc: Global) -> Result<Command<'a>, AllocError> {
-    Command::new(alloc, "spans")
-        .about("Write who had which core from when to when, and the bans, as CSV")
-        .after_long_help(help_texts::SPANS)
-        .arg(input_word(alloc))?
-        .arg(output_word(alloc))
-}
-
-fn series_word<'a>(alloc: Global) -> Result<Command<'a>, AllocError> {
-    Command::new(alloc, "series")
-        .about("Write what each pass finds of each task and leaves it with, as CSV")
-        .after_long_help(help_texts::SERIES)
-        .arg(input_word(alloc))?
-        .arg(output_word(alloc))
-}
-
-fn requests_word<'a>(alloc: Global) -> Result<Command<'a>, AllocError> {
-    Command::new(alloc, "requests")
-        .about("Write what came of each request of a run, as CSV")
-        .after_long_help(help_texts::REQUESTS)
-        .arg(input_word(alloc))?
         .arg(output_word(alloc))
 }
 
@@ -264,24 +257,33 @@ fn explain_word<'a>(alloc: Global) -> Result<Command<'a>, AllocError> {
 }
 
 fn pass_word<'a>(alloc: Global) -> Arg<'a> {
-    number_word(
-        alloc,
-        "pass",
-        "PASS",
-        "The pass, from 0 [default: the first illegal one]",
-    )
+    let help = "The pass, from 0 [default: the first illegal one]";
+    number_word(alloc, "pass", "PASS", help)
 }
 
 fn task_word<'a>(alloc: Global) -> Result<Arg<'a>, AllocError> {
     number_word(alloc, "task", "TASK", "Tell of this task alone").conflicts_with("core")
 }
 
-fn number_word<'a>(alloc: Global, name: &'a str, value: &'a str, help: &'a str) -> Arg<'a> {
+/// An option that takes a value.
+pub fn value_word<'a>(alloc: Global, name: &'a str, value: &'a str, help: &'a str) -> Arg<'a> {
     Arg::new(alloc, name)
         .long(name)
         .action(ArgAction::Set)
         .value_name(value)
-        .value_parser(clap::value_parser!(u64))
+        .help(help)
+}
+
+/// An option that takes a number.
+pub fn number_word<'a>(alloc: Global, name: &'a str, value: &'a str, help: &'a str) -> Arg<'a> {
+    value_word(alloc, name, value, help).value_parser(clap::value_parser!(u64))
+}
+
+/// An option that takes nothing.
+pub fn flag_word<'a>(alloc: Global, name: &'a str, help: &'a str) -> Arg<'a> {
+    Arg::new(alloc, name)
+        .long(name)
+        .action(ArgAction::SetTrue)
         .help(help)
 }
 
@@ -301,20 +303,13 @@ fn compare_word<'a>(alloc: Global) -> Result<Command<'a>, AllocError> {
 
 /// The names of the tasks.
 pub fn names_word<'a>(alloc: Global) -> Arg<'a> {
-    Arg::new(alloc, "names")
-        .long("names")
-        .action(ArgAction::Set)
-        .value_name("NAME,..")
-        .help("What the tasks are called, in their order")
+    let help = "What the tasks are called, in their order";
+    value_word(alloc, "names", "NAME,..", help)
 }
 
 /// What a clock tick is.
 pub fn tick_word<'a>(alloc: Global) -> Arg<'a> {
-    Arg::new(alloc, "tick")
-        .long("tick")
-        .action(ArgAction::Set)
-        .value_name("UNIT")
-        .help("What a clock tick is, as ns")
+    value_word(alloc, "tick", "UNIT", "What a clock tick is, as ns")
 }
 
 fn write_input_word<'a>(alloc: Global) -> Result<Arg<'a>, AllocError> {
@@ -339,168 +334,132 @@ fn tables_word<'a>(alloc: Global) -> Arg<'a> {
 }
 
 fn arrivals_word<'a>(alloc: Global) -> Arg<'a> {
-    Arg::new(alloc, "arrivals")
-        .long("arrivals")
-        .action(ArgAction::Set)
-        .value_name("FILE")
-        .help("The arrivals of all tables")
+    value_word(alloc, "arrivals", "FILE", "The arrivals of all tables")
 }
 
 /// The file of the answer.
 pub fn output_word<'a>(alloc: Global) -> Arg<'a> {
-    Arg::new(alloc, "output")
-        .short('o')
-        .long("output")
-        .action(ArgAction::Set)
-        .value_name("FILE")
-        .help("Where the answer goes [default: standard output]")
+    let help = "Where the answer goes [default: standard output]";
+    value_word(alloc, "output", "FILE", help).short('o')
 }
 
 /// Whether the table goes in front.
 pub fn table_word<'a>(alloc: Global) -> Arg<'a> {
-    Arg::new(alloc, "table")
-        .long("table")
-        .action(ArgAction::SetTrue)
-        .help("Put the task table and the line --- in front")
+    let help = "Put the task table and the line --- in front";
+    flag_word(alloc, "table", help)
 }
 
 /// Whether numbers are written as CSV.
 pub fn csv_word<'a>(alloc: Global) -> Arg<'a> {
-    Arg::new(alloc, "csv")
-        .long("csv")
-        .action(ArgAction::SetTrue)
-        .help("Write the numbers as CSV")
+    flag_word(alloc, "csv", "Write the numbers as CSV")
 }
 
 /// A key of the table, and its values.
 pub fn vary_word<'a>(alloc: Global) -> Arg<'a> {
-    Arg::new(alloc, "vary")
-        .long("vary")
-        .action(ArgAction::Set)
-        .value_name("KEY=V1,V2,..")
-        .help("Vary one table by these values at a key")
+    let help = "Vary one table by these values at a key";
+    value_word(alloc, "vary", "KEY=V1,V2,..", help)
 }
 
-/// The job of a parsed command line, or what is wrong with it. Fails only when out of memory.
-fn asked_job<'a>(
-    alloc: Global,
-    matches: &ArgMatches<'a>,
-) -> Result<Result<Job<'a>, Mistake>, AllocError> {
-    match matches.subcommand() {
-        Some((name, own)) if name == "arrivals" => {
-            let asked = arrival_words(alloc, own)?;
-            Ok(Ok(Job::Arrivals { asked }))
-        }
-        Some((name, own)) if name == "sweep" => {
-            let asked = sweep_words(alloc, own)?;
-            Ok(Ok(Job::Sweep { asked }))
-        }
-        _ => Ok(job_of(matches)),
-    }
-}
-
-/// The job of a parsed command line where it is made of one-word options, or what is wrong with it.
-fn job_of<'a>(matches: &ArgMatches<'a>) -> Result<Job<'a>, Mistake> {
-    let job = match matches.subcommand() {
-        Some((name, own)) if name == "history" => Job::History {
-            front: front_of(own.get_flag("table")),
-        },
-        Some((name, _)) if name == "timeline" => Job::Timeline,
-        Some((name, _)) if name == "spans" => Job::Facts {
-            facts: Facts::Spans,
-        },
-        Some((name, _)) if name == "series" => Job::Facts {
-            facts: Facts::Series,
-        },
-        Some((name, _)) if name == "requests" => Job::Facts {
-            facts: Facts::Requests,
-        },
-        Some((name, own)) if name == "measure" => Job::Measure {
-            form: number_form_of(own.get_flag("csv")),
-        },
-        Some((name, own)) if name == "compare" => Job::Compare {
-            asked: comparison_of(own)?,
-        },
-        Some((name, own)) if name == "explain" => Job::Explain {
-            asked: asked_of(own),
-        },
-        Some((name, _)) if name == "check" => Job::Check,
-        _ => Job::Help,
+/// What a parsed command line asks for.
+fn request_of<'a>(alloc: Global, matches: &ArgMatches<'a>) -> Result<Request<'a>, Mistake> {
+    let Some((name, own)) = matches.subcommand() else {
+        return Ok(Request::help(alloc));
     };
-    Ok(job)
-}
-
-/// What the words say of files: whether those without an option are tables, that of the input, that
-/// of the answer.
-#[derive(Clone, Copy)]
-struct Places<'a> {
-    has_tables: bool,
-    input: Option<&'a str>,
-    output: Option<&'a str>,
-}
-
-/// What a parsed command line says of files, or what is wrong with it.
-fn places_of<'a>(matches: &ArgMatches<'a>) -> Result<Places<'a>, Mistake> {
-    match matches.subcommand() {
-        Some((name, own)) if name == "compare" => compared_places(own),
-        Some((_, own)) => Ok(Places {
-            has_tables: false,
-            input: own.get_str("input"),
-            output: own.get_str("output"),
-        }),
-        None => Ok(Places {
-            has_tables: false,
-            input: None,
-            output: None,
-        }),
+    let job = job_of(alloc, name, own)?;
+    if name == "compare" {
+        check_files(own)?;
     }
-}
-
-/// What the words of `compare` say of files. With arrivals the others are tables; without them there
-/// is one other at most, which is the input.
-fn compared_places<'a>(own: &ArgMatches<'a>) -> Result<Places<'a>, Mistake> {
-    let count = count_of(own);
     let arrivals = own.get_str("arrivals");
-    if arrivals.is_none() && count > 1 {
-        return Err(Mistake::NoArrivals);
-    }
-    if arrivals.is_some() && count == 0 {
-        return Err(Mistake::NoTable);
-    }
-    if count > 1 && own.get_str("vary").is_some() {
-        return Err(Mistake::TwoTables);
-    }
-    let input = match arrivals {
-        Some(arrivals) => Some(arrivals),
-        None => own.get_str("tables"),
+    let tables = match arrivals {
+        Some(_) => all_words(alloc, own, "tables")?,
+        None => Vec::new(alloc),
     };
-    Ok(Places {
-        has_tables: arrivals.is_some(),
-        input,
+    Ok(Request {
+        job,
+        labels: LabelWords {
+            names: own.get_str("names"),
+            tick: own.get_str("tick"),
+        },
+        tables,
+        input: arrivals.or(own.get_str("tables")).or(own.get_str("input")),
         output: own.get_str("output"),
     })
 }
 
-/// What a parsed command line calls tasks and clock ticks.
-fn labels_of<'a>(matches: &ArgMatches<'a>) -> LabelWords<'a> {
-    match matches.subcommand() {
-        Some((_, own)) => LabelWords {
-            names: own.get_str("names"),
-            tick: own.get_str("tick"),
-        },
-        None => LabelWords {
-            names: None,
-            tick: None,
-        },
+impl<'a> Request<'a> {
+    /// What no words ask for.
+    fn help(alloc: Global) -> Request<'a> {
+        Request {
+            job: Job::Help,
+            labels: LabelWords {
+                names: None,
+                tick: None,
+            },
+            tables: Vec::new(alloc),
+            input: None,
+            output: None,
+        }
+    }
+}
+
+/// The job of a word and its options.
+fn job_of<'a>(alloc: Global, name: &str, own: &ArgMatches<'a>) -> Result<Job<'a>, Mistake> {
+    let job = if name == "arrivals" {
+        let asked = arrival_words(alloc, own)?;
+        Job::Arrivals { asked }
+    } else if name == "sweep" {
+        let asked = sweep_words(alloc, own)?;
+        Job::Sweep { asked }
+    } else {
+        let asked = input_job(name, own)?;
+        Job::OfInput { asked }
+    };
+    Ok(job)
+}
+
+/// What a word and its options ask for that is done with an input which is read to its end.
+fn input_job<'a>(name: &str, own: &ArgMatches<'a>) -> Result<InputJob<'a>, Mistake> {
+    let job = if name == "history" {
+        let front = front_of(own.get_flag("table"));
+        InputJob::History { front }
+    } else if name == "timeline" {
+        InputJob::Timeline
+    } else if let Some(facts) = Facts::named(name) {
+        InputJob::Facts { facts }
+    } else if name == "measure" {
+        let form = number_form_of(own.get_flag("csv"));
+        InputJob::Measure { form }
+    } else if name == "compare" {
+        let asked = comparison_of(own)?;
+        InputJob::Compare { asked }
+    } else if name == "explain" {
+        let asked = asked_of(own);
+        InputJob::Explain { asked }
+    } else {
+        InputJob::Check
+    };
+    Ok(job)
+}
+
+/// Whether `compare` has the files that it needs: with arrivals the others are tables; without them
+/// there is one other at most, which is the input.
+fn check_files(own: &ArgMatches<'_>) -> Result<(), Mistake> {
+    let count = count_of(own);
+    let has_arrivals = own.get_str("arrivals").is_some();
+    if !has_arrivals && count > 1 {
+        Err(Mistake::NoArrivals)
+    } else if has_arrivals && count == 0 {
+        Err(Mistake::NoTable)
+    } else if count > 1 && own.get_str("vary").is_some() {
+        Err(Mistake::TwoTables)
+    } else {
+        Ok(())
     }
 }
 
 /// How many files stand after `compare` without an option.
 fn count_of(own: &ArgMatches<'_>) -> usize {
-    match own.get_strs("tables") {
-        Some(files) => files.len(),
-        None => 0,
-    }
+    own.get_strs("tables").map_or(0, |files| files.len())
 }
 
 /// All words of an option, or of an argument, in the order given.
@@ -509,24 +468,9 @@ pub fn all_words<'a>(
     own: &ArgMatches<'a>,
     id: &str,
 ) -> Result<Vec<&'a str>, AllocError> {
-    let mut words = Vec::new(alloc);
-    if let Some(given) = own.get_strs(id) {
-        for word in given {
-            words.push(*word)?;
-        }
-    }
-    Ok(words)
-}
-
-/// The files of tables of a parsed command line.
-fn tables_of<'a>(
-    alloc: Global,
-    matches: &ArgMatches<'a>,
-    has_tables: bool,
-) -> Result<Vec<&'a str>, AllocError> {
-    match matches.subcommand() {
-        Some((_, own)) if has_tables => all_words(alloc, own, "tables"),
-        _ => Ok(Vec::new(alloc)),
+    match own.get_strs(id) {
+        Some(given) => given.iter().copied().collect(alloc),
+        None => Ok(Vec::new(alloc)),
     }
 }
 
@@ -567,6 +511,5 @@ pub fn number_form_of(csv: bool) -> NumberForm {
 }
 
 fn number(matches: &ArgMatches<'_>, id: &str) -> Option<usize> {
-    let number = matches.get_one::<u64>(id)?;
-    Some(number as usize)
+    matches.get_one::<u64>(id).map(|number| number as usize)
 }

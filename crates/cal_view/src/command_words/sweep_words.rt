@@ -2,11 +2,11 @@
 
 use crate::command_words::arrival_words::{load_word, load_words, task_word, with_run_words};
 use crate::command_words::command_line::{
-    csv_word, input_word, names_word, number_form_of, output_word, tick_word, vary_word,
+    csv_word, input_word, names_word, number_form_of, output_word, tick_word, value_word, vary_word,
 };
 use crate::command_words::help_texts;
 use cal_sweep::SweepWords;
-use clap::{Arg, ArgAction, ArgMatches, Command};
+use clap::{Arg, ArgMatches, Command};
 use std::alloc::{AllocError, Global};
 
 /// The subcommand with its options.
@@ -27,11 +27,8 @@ pub fn sweep_word<'a>(alloc: Global) -> Result<Command<'a>, AllocError> {
 }
 
 fn slo_word<'a>(alloc: Global) -> Arg<'a> {
-    Arg::new(alloc, "slo")
-        .long("slo")
-        .action(ArgAction::Set)
-        .value_name("OBJECTIVE")
-        .help("What the last load is to keep, as task.0.p99=65")
+    let help = "What the last load is to keep, as task.0.p99=65";
+    value_word(alloc, "slo", "OBJECTIVE", help)
 }
 
 /// What the words of a parsed command line ask for. Fails only when out of memory.

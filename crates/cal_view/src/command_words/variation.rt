@@ -5,27 +5,17 @@ use std::alloc::{AllocError, Global};
 
 /// The key: what stands before the first `=`, or all.
 fn key_of(vary: &str) -> &str {
-    match vary.split_once('=') {
-        Some((key, _)) => key,
-        None => vary,
-    }
+    vary.split_once('=').map_or(vary, |parts| parts.0)
 }
 
 /// The values, by commas: what stands after the first `=`. Without one there is one empty value,
 /// which no table has. No word has none. Fails only when out of memory.
 pub fn values_of<'a>(alloc: Global, vary: Option<&'a str>) -> Result<Vec<&'a str>, AllocError> {
-    let mut values = Vec::new(alloc);
     let Some(vary) = vary else {
-        return Ok(values);
+        return Ok(Vec::new(alloc));
     };
-    let text = match vary.split_once('=') {
-        Some((_, values)) => values,
-        None => "",
-    };
-    for value in text.split(',') {
-        values.push(value)?;
-    }
-    Ok(values)
+    let text = vary.split_once('=').map_or("", |parts| parts.1);
+    text.split(',').collect(alloc)
 }
 
 /// The variation of a word and its values, where there is a word.

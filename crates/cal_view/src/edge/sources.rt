@@ -5,7 +5,7 @@ use crate::edge::noted::Noted;
 use cal_input::{RunFault, read_input, split_input};
 use cal_tables::front_of_table;
 use std::alloc::Global;
-use std::io::{ErrorKind, Read};
+use std::io::ErrorKind;
 use std::rt::Files;
 use std::{fs, io};
 
@@ -53,15 +53,11 @@ fn read_named<'a, H: Files>(rt: &H, alloc: Global, name: &'a str) -> Result<Vec<
         Err(fault) => Err(Failure {
             fault,
             file: Some(name),
-            said: said_of_reading(fault, &file),
+            said: if fault == RunFault::Read {
+                file.said()
+            } else {
+                None
+            },
         }),
-    }
-}
-
-/// What the system said where the fault is that of reading.
-pub fn said_of_reading<R: Read>(fault: RunFault, reader: &Noted<R>) -> Option<io::Error> {
-    match fault {
-        RunFault::Read => reader.said(),
-        _ => None,
     }
 }

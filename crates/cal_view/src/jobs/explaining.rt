@@ -1,6 +1,5 @@
 //! A pass of an input explained.
 
-use crate::fault::{end_without_pass, end_without_task};
 use crate::jobs::input::JobInput;
 use cal_engine::decided_run;
 use cal_explain::{ExplainFault, Explained, Explainer, Scope};
@@ -9,7 +8,7 @@ use cal_machine::Config;
 use cal_policy::{PassEntry, Verdict};
 use cal_trace::{FaultKind, read_history};
 use std::alloc::Global;
-use std::io::{BufWriter, Write};
+use std::io::Write;
 
 /// Which pass is explained, and what of it.
 #[derive(Clone, Copy, Debug, PartialEq, Eq)]
@@ -20,17 +19,6 @@ pub struct Asked {
     pub task: Option<usize>,
     /// The core alone.
     pub core: Option<usize>,
-}
-
-/// What came of an input that was accepted.
-#[derive(Clone, Copy, Debug, PartialEq, Eq)]
-enum Answer {
-    /// The pass was explained, or there is none that is illegal.
-    Done,
-    /// The first illegal pass was explained.
-    Illegal,
-    /// It cannot be explained.
-    Refused(Unexplained),
 }
 
 /// Why a pass of an input that was accepted cannot be explained.
@@ -51,67 +39,18 @@ enum Unexplained {
 /// Explains a pass of an input of a task table and a history, or signals, which are decided first;
 /// without one, it writes whether the history is legal, and explains its first illegal pass.
 /// Answers the exit status: 0, 1 where the history is illegal, 2 where there is no such pass, task
-/// or core, or the pass cannot be explained. Nothing is written before the whole input was read and
-/// accepted.
+/// or core, or the pass cannot be explained. Nothing is written before the whole input was accepted.
 pub fn answer_explain<W: Write, E: Write>(
     input: &JobInput<'_>,
     asked: Asked,
     output: &mut W,
     errors: &mut E,
 ) -> Result<u8, RunFault> {
-    let mut buffer = match BufWriter::new(input.alloc, output) {
-        Ok(buffer) => buffer,
-        Err(_) => return Err(RunFault::Memory),
-    };
-    let status = match explain_read(input, asked, &mut buffer)? {
-        Answer::Done => 0,
-        Answer::Illegal => 1,
-        Answer::Refused(reason) => return Ok(refuse(reason, errors)),
-    };
-    match buffer.flush() {
-        Ok(()) => Ok(status),
-        Err(_) => Err(RunFault::Write),
-    }
-}
-
-/// Says why a pass cannot be explained, and answers the exit status.
-fn refuse<E: Write>(reason: Unexplained, errors: &mut E) -> u8 {
-    let _ = match reason {
-        Unexplained::NoPass { pass, passes } => return end_without_pass(pass, passes, errors),
-        Unexplained::NoTask { tasks } => return end_without_task(tasks, errors),
-        Unexplained::NoCore { cores } => {
-            writeln!(
-                errors,
-                "caladan_view: no such core: there are {cores}, from 0"
-            )
-        }
-        Unexplained::NotOrderly { pass } => {
-            writeln!(
-                errors,
-                "caladan_view: a pass before pass {pass} does what may not be done: explain without --pass"
-            )
-        }
-        Unexplained::NoInput { pass } => {
-            writeln!(
-                errors,
-                "caladan_view: pass {pass} may not be given its looks"
-            )
-        }
-    };
-    2
-}
-
-/// Explains a pass of an input, or says why it cannot.
-fn explain_read<W: Write>(
-    input: &JobInput<'_>,
-    asked: Asked,
-    writer: &mut W,
-) -> Result<Answer, RunFault> {
     let alloc = input.alloc;
     let (config, history) = passes_of(alloc, input.bytes())?;
     let scope = match scope_of(&config, asked) {
         Ok(scope) => scope,
-        Err(reason) => return Ok(Answer::Refused(reason)),
+        Err(reason) => return Ok(refuse(reason, errors)),
     };
     let explainer = Explainer {
         alloc,
@@ -120,9 +59,36 @@ fn explain_read<W: Write>(
         scope,
     };
     match asked.pass {
-        Some(pass) => explain_one(&explainer, pass, writer),
-        None => explain_all(&explainer, writer),
+        Some(pass) => explain_one(&explainer, pass, output, errors),
+        None => explain_all(&explainer, output),
     }
+}
+
+/// Says why a pass cannot be explained, and answers the exit status.
+fn refuse<E: Write>(reason: Unexplained, errors: &mut E) -> u8 {
+    let _ = match reason {
+        Unexplained::NoPass { pass, passes } => writeln!(
+            errors,
+            "caladan_view: no pass {pass}: there are {passes}, from 0"
+        ),
+        Unexplained::NoTask { tasks } => writeln!(
+            errors,
+            "caladan_view: no such task: there are {tasks}, from 0"
+        ),
+        Unexplained::NoCore { cores } => writeln!(
+            errors,
+            "caladan_view: no such core: there are {cores}, from 0"
+        ),
+        Unexplained::NotOrderly { pass } => writeln!(
+            errors,
+            "caladan_view: a pass before pass {pass} does what may not be done: explain without --pass"
+        ),
+        Unexplained::NoInput { pass } => writeln!(
+            errors,
+            "caladan_view: pass {pass} may not be given its looks"
+        ),
+    };
+    2
 }
 
 /// The task table of an input and its passes: those that its signals lead to or, where what follows
@@ -158,28 +124,30 @@ fn scope_of(config: &Config, asked: Asked) -> Result<Scope, Unexplained> {
     }
 }
 
-/// Explains this pass of a history, or says why it cannot.
-fn explain_one<W: Write>(
+/// Explains this pass of a history, or says why it cannot be; answers the exit status.
+fn explain_one<W: Write, E: Write>(
     explainer: &Explainer<'_>,
     pass: usize,
     writer: &mut W,
-) -> Result<Answer, RunFault> {
+    errors: &mut E,
+) -> Result<u8, RunFault> {
     let passes = explainer.history.len();
-    match explainer.explain_pass(pass, writer) {
-        Ok(Explained::Done) => Ok(Answer::Done),
-        Ok(Explained::NoPass) => Ok(Answer::Refused(Unexplained::NoPass { pass, passes })),
-        Ok(Explained::NotOrderly) => Ok(Answer::Refused(Unexplained::NotOrderly { pass })),
-        Ok(Explained::NoInput) => Ok(Answer::Refused(Unexplained::NoInput { pass })),
-        Err(fault) => Err(run_fault(fault)),
-    }
+    let reason = match explainer.explain_pass(pass, writer) {
+        Ok(Explained::Done) => return Ok(0),
+        Ok(Explained::NoPass) => Unexplained::NoPass { pass, passes },
+        Ok(Explained::NotOrderly) => Unexplained::NotOrderly { pass },
+        Ok(Explained::NoInput) => Unexplained::NoInput { pass },
+        Err(fault) => return Err(run_fault(fault)),
+    };
+    Ok(refuse(reason, errors))
 }
 
 /// Writes whether a history is legal, and of one that is not why its first illegal pass is none of
-/// the policy's.
-fn explain_all<W: Write>(explainer: &Explainer<'_>, writer: &mut W) -> Result<Answer, RunFault> {
+/// the policy's; answers the exit status.
+fn explain_all<W: Write>(explainer: &Explainer<'_>, writer: &mut W) -> Result<u8, RunFault> {
     match explainer.explain_verdict(writer) {
-        Ok(Verdict::Legal) => Ok(Answer::Done),
-        Ok(Verdict::Illegal { .. }) => Ok(Answer::Illegal),
+        Ok(Verdict::Legal) => Ok(0),
+        Ok(Verdict::Illegal { .. }) => Ok(1),
         Err(fault) => Err(run_fault(fault)),
     }
 }

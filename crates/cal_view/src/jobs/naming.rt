@@ -1,7 +1,6 @@
 //! The names of tasks and the unit of clock ticks that words give.
 
 use cal_input::RunFault;
-use cal_machine::Config;
 use cal_tables::{ComparisonFault, Labels, letters, read_tables};
 use std::alloc::{AllocError, Global};
 use std::io::Write;
@@ -21,38 +20,39 @@ const NAME_MOST: usize = 40;
 /// The most letters that a unit has.
 const TICK_MOST: usize = 10;
 
-/// What is wrong with the words.
+/// A word of this option that is empty, has more letters than so many, or one that is not shown.
 #[derive(Clone, Copy, Debug, PartialEq, Eq)]
-enum LabelFault<'a> {
-    /// This name is empty, too long, or has a letter that is none.
-    Name(&'a str),
-    /// The unit is.
-    Tick(&'a str),
-    /// There are so many names.
-    Count { names: usize, tasks: usize },
+struct LabelFault<'a> {
+    option: &'static str,
+    word: &'a str,
+    most: usize,
 }
 
 /// Whether a word has a letter, at most so many, and none that is not shown.
 fn is_label(word: &str, most: usize) -> bool {
-    for letter in word.chars() {
-        if letter.is_control() {
-            return false;
-        }
-    }
-    !word.is_empty() && letters(word) <= most
+    let is_shown = !word.chars().any(|letter| letter.is_control());
+    is_shown && !word.is_empty() && letters(word) <= most
 }
 
-/// The first thing that is wrong with the words, whatever the input is.
+/// The first word that is no label, whatever the input is.
 fn word_fault<'a>(words: LabelWords<'a>) -> Option<LabelFault<'a>> {
     if let Some(names) = words.names {
         for name in names.split(',') {
             if !is_label(name, NAME_MOST) {
-                return Some(LabelFault::Name(name));
+                return Some(LabelFault {
+                    option: "--names",
+                    word: name,
+                    most: NAME_MOST,
+                });
             }
         }
     }
     match words.tick {
-        Some(tick) if !is_label(tick, TICK_MOST) => Some(LabelFault::Tick(tick)),
+        Some(tick) if !is_label(tick, TICK_MOST) => Some(LabelFault {
+            option: "--tick",
+            word: tick,
+            most: TICK_MOST,
+        }),
         _ => None,
     }
 }
@@ -65,54 +65,26 @@ fn say_word<E: Write>(word: &str, errors: &mut E) {
     }
 }
 
-/// Says what is wrong with the words, and answers the exit status.
-fn refuse<E: Write>(fault: LabelFault<'_>, errors: &mut E) -> u8 {
-    let (flag, word, most) = match fault {
-        LabelFault::Name(name) => ("--names", name, NAME_MOST),
-        LabelFault::Tick(tick) => ("--tick", tick, TICK_MOST),
-        LabelFault::Count { names, tasks } => {
-            let _ = writeln!(
-                errors,
-                "caladan_view: --names: {names} names, and the table has {tasks} tasks"
-            );
-            return 2;
-        }
-    };
-    let _ = write!(errors, "caladan_view: {flag} '");
+/// Says what is wrong with the words whatever the input is, and answers the exit status, where
+/// something is.
+pub fn refuse_words_of_labels<E: Write>(words: LabelWords<'_>, errors: &mut E) -> Option<u8> {
+    let LabelFault { option, word, most } = word_fault(words)?;
+    let _ = write!(errors, "caladan_view: {option} '");
     say_word(word, errors);
     let _ = writeln!(
         errors,
         "': 1 to {most} letters are asked for, none of them a control letter"
     );
-    2
-}
-
-/// Says what is wrong with the words whatever the input is, and answers the exit status, where
-/// something is.
-pub fn refuse_words_of_labels<E: Write>(words: LabelWords<'_>, errors: &mut E) -> Option<u8> {
-    let fault = word_fault(words)?;
-    Some(refuse(fault, errors))
+    Some(2)
 }
 
 /// The names of the tasks, in task order; none where the words have none. Fails only when out of
 /// memory.
 pub fn names_of<'a>(alloc: Global, words: LabelWords<'a>) -> Result<Vec<&'a str>, AllocError> {
-    let mut names = Vec::new(alloc);
-    if let Some(given) = words.names {
-        for name in given.split(',') {
-            names.push(name)?;
-        }
+    match words.names {
+        Some(given) => given.split(',').collect(alloc),
+        None => Ok(Vec::new(alloc)),
     }
-    Ok(names)
-}
-
-/// The most tasks that a table has.
-fn most_tasks(tables: &[Config]) -> usize {
-    let mut most = 0usize;
-    for table in tables {
-        most = most.max(table.tasks());
-    }
-    most
 }
 
 /// Says that there are more or fewer names than the tables of an input have tasks at most, and
@@ -132,7 +104,8 @@ pub fn refuse_count<E: Write>(
         Err(ComparisonFault::Run(RunFault::Memory)) => return Err(RunFault::Memory),
         Err(_) => return Ok(None),
     };
-    let (names, tasks) = (labels.names.len(), most_tasks(tables.as_slice()));
+    let most = tables.iter().map(|table| table.tasks()).max();
+    let (names, tasks) = (labels.names.len(), most.unwrap_or(0));
     if names == tasks {
         return Ok(None);
     }
@@ -142,5 +115,9 @@ pub fn refuse_count<E: Write>(
 /// Says that there are so many names, and that the table has so many tasks, and answers the exit
 /// status, 2.
 pub fn refuse_other_count<E: Write>(names: usize, tasks: usize, errors: &mut E) -> u8 {
-    refuse(LabelFault::Count { names, tasks }, errors)
+    let _ = writeln!(
+        errors,
+        "caladan_view: --names: {names} names, and the table has {tasks} tasks"
+    );
+    2
 }

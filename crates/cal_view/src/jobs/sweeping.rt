@@ -3,10 +3,10 @@
 use crate::command_words::variation::{values_of, variation_of};
 use crate::fault::RefusedRuns;
 use crate::jobs::naming::refuse_other_count;
-use crate::refusing::{end_refusal, refuse_word, table_alone};
+use crate::refusing::{refuse_word, table_alone};
 use cal_input::{RunFault, read_input};
 use cal_sweep::{SweepFault, SweepJob, SweepNames, SweepWords, answer_sweep, asked_of};
-use cal_tables::{ComparisonFault, Labels};
+use cal_tables::{Labels, Variation};
 use std::alloc::Global;
 use std::io::{Read, Write};
 use std::thread::Threads;
@@ -35,56 +35,43 @@ impl Sweeping<'_> {
         // Words that need no table are refused before anything is read.
         let asked = match asked_of(self.alloc, self.words) {
             Ok(asked) => asked,
-            Err(fault) => return refuse(self.alloc, unread(), fault, errors),
+            Err(fault) => return self.refuse(b"", None, fault, errors),
         };
         let input = read_input(self.alloc, &mut reader)?;
+        let input = input.as_slice();
         let values = values_of(self.alloc, self.words.vary)?;
+        let variation = variation_of(self.words.vary, values.as_slice());
         let job = SweepJob {
             alloc: self.alloc,
-            input: input.as_slice(),
+            input,
             asked: &asked,
             names: SweepNames {
-                variation: variation_of(self.words.vary, values.as_slice()),
+                variation,
                 labels: self.labels,
             },
         };
         match answer_sweep(rt, &job, output, errors) {
             Ok(status) => Ok(status),
-            Err(fault) => refuse(self.alloc, runs_of(&job), fault, errors),
+            Err(fault) => self.refuse(input, variation, fault, errors),
         }
     }
-}
 
-/// The runs of an input that is not read.
-fn unread() -> RefusedRuns<'static> {
-    RefusedRuns {
-        read: table_alone(b""),
-        variation: None,
-    }
-}
-
-/// The runs of a job, for where they are refused.
-fn runs_of<'a>(job: &SweepJob<'a>) -> RefusedRuns<'a> {
-    RefusedRuns {
-        read: table_alone(job.input),
-        variation: job.names.variation,
-    }
-}
-
-/// Says why there are no runs, and answers the exit status. What is no word's fault and no table's
-/// is the error.
-fn refuse<E: Write>(
-    alloc: Global,
-    runs: RefusedRuns<'_>,
-    fault: SweepFault<'_>,
-    errors: &mut E,
-) -> Result<u8, RunFault> {
-    match fault {
-        SweepFault::Word(fault) => Ok(refuse_word(&fault, errors)),
-        SweepFault::Names { names, tasks } => Ok(refuse_other_count(names, tasks, errors)),
-        SweepFault::Run(ComparisonFault::Run(fault)) => {
-            end_refusal(alloc, runs.read, fault, errors)
+    /// Says why there are no runs of an input, and answers the exit status. What is no fault of a
+    /// word, of a table or of the input is the error.
+    fn refuse<E: Write>(
+        &self,
+        input: &[u8],
+        variation: Option<Variation<'_>>,
+        fault: SweepFault<'_>,
+        errors: &mut E,
+    ) -> Result<u8, RunFault> {
+        let read = table_alone(input);
+        match fault {
+            SweepFault::Word(fault) => Ok(refuse_word(&fault, errors)),
+            SweepFault::Names { names, tasks } => Ok(refuse_other_count(names, tasks, errors)),
+            SweepFault::Run(fault) => {
+                RefusedRuns { read, variation }.end(self.alloc, &fault, errors)
+            }
         }
-        SweepFault::Run(fault) => runs.end(alloc, &fault, errors),
     }
 }

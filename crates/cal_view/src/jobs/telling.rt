@@ -16,6 +16,21 @@ pub enum Facts {
     Requests,
 }
 
+impl Facts {
+    /// Those that this word asks for.
+    pub fn named(word: &str) -> Option<Facts> {
+        if word == "spans" {
+            Some(Facts::Spans)
+        } else if word == "series" {
+            Some(Facts::Series)
+        } else if word == "requests" {
+            Some(Facts::Requests)
+        } else {
+            None
+        }
+    }
+}
+
 /// Writes these facts of an input. The faults are those of the call for them.
 pub fn tell<W: Write>(
     alloc: Global,

@@ -1,11 +1,11 @@
 //! A row with the wrong fields, a field that is no number, and a number that is out of its range.
 
 use crate::grammar::{Range, TraceKind};
-use crate::limits::most_turns;
 use crate::places::{are_digits, put_bytes};
 use crate::trace::rows::Before;
 use crate::trace::{Case, tell_word};
 use cal_policy::{MOST_ACTIONS, MOST_PASSES};
+use cal_trace::MOST_TURNS;
 use std::alloc::AllocError;
 use std::fmt::Write;
 
@@ -133,14 +133,13 @@ fn tell_out_of_range(
 
 /// Puts what else is out of range in a row.
 fn tell_row(told: &mut String, case: &Case<'_>) -> Result<(), AllocError> {
-    let most_turns = most_turns();
     if case.rows.is("busy") {
         told.push_str("  `first` and `second` are no versions of a busy page\n")?;
         told.push_str("  wanted: an odd one and the same again, or an even one and a greater one\n")
     } else if case.rows.is("pass") {
         writeln!(told, "  wanted: at most {MOST_PASSES} (MOST_PASSES) passes")
-    } else if case.rows.is("turn") && most_turns <= case.rows.before.turns {
-        writeln!(told, "  wanted: at most {most_turns} (MOST_TURNS) turns")
+    } else if case.rows.is("turn") && MOST_TURNS as u64 <= case.rows.before.turns {
+        writeln!(told, "  wanted: at most {MOST_TURNS} (MOST_TURNS) turns")
     } else if case.rows.is("turn") {
         let Before { turns, first, .. } = case.rows.before;
         if turns != 0 {

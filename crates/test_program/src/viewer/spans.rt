@@ -1,18 +1,20 @@
 //! The spans of a history that was worked by hand.
 
 use crate::viewer::worked_histories::{DISORDERLY, HISTORY, TABLE};
+use cal_facts::SpanFacts;
 use cal_machine::Config;
-use cal_measure::{Left, Span, spans_of};
+use cal_measure::{Left, Span};
 use cal_policy::Cause;
 use cal_trace::read_history;
 use std::alloc::Global;
 use std::test::Fail;
 
-/// The spans of this history on two cores.
+/// The spans of this history.
 fn spans(alloc: Global, history: &str) -> Result<Vec<Span>, Fail> {
     let config = Config::read(alloc, TABLE.as_bytes())?;
     let history = read_history(alloc, &config, history.as_bytes())?;
-    Ok(spans_of(alloc, 2, history.as_slice())?)
+    let SpanFacts { spans, .. } = SpanFacts::of_history(alloc, &config, history.as_slice())?;
+    Ok(spans)
 }
 
 /// The span of a thread on a core from the pass that granted it, by this class; it was not revoked,

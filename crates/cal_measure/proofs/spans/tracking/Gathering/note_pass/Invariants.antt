@@ -1,7 +1,0 @@
-use Rattle.std.proofs.Common.{take, map, List, ◌++◌}
-use Rattle.cal_measure.specs.Spans.{Move, made_in}
-use Rattle.cal_measure.specs.Spans.Tracking.{Gathers}
-use Rattle.cal_measure.proofs.spans.tracking.Gathering.note_pass.Given as goal
-
-abbrev pub invariant-loop-action : goal.invariant-loop-action
-invariant-loop-action l = (moves : List Move) → Gathers l.initial.self moves → Gathers l.self (moves ++ map (made_in l.pass) (take l.action-index l.actions))
