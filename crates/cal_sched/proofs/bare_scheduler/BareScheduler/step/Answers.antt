@@ -14,6 +14,7 @@ use Rattle.cal_sched.specs.declared.found_pass.FoundPass.{FoundPass}
 use Rattle.cal_sched.specs.Passing.{HaveFound, HaveSent, IsPassed}
 use Rattle.cal_sched.specs.Past.{AreLast, entry_of, history_of}
 use Rattle.cal_sched.specs.Scheduler.{SchedulerView, IsKept}
+use Rattle.cal_sched.specs.Sending.{MaySend}
 use Rattle.cal_sched.proofs.Lists.{written_whole}
 use Rattle.cal_sched.proofs.Passed.{may_send, kept_after}
 use Rattle.cal_sched.proofs.Past.{history_push, last_push}
@@ -84,8 +85,11 @@ find_news-requires-clause-begun c = λ h. rw c.deref_mut-2.ensures.value (c.begi
 pub send_commands-requires-clause-may : goal.send_commands-requires-clause-may
 send_commands-requires-clause-may c =
     let was = decided c in
-    rw (c.as_mut_slice-3.ensures.value, was.rung, c.pass.ensures.policy)
-    (may_send (start c) c.args.now c.args.bandwidth c.find_news.new.observers c.find_news.new.senders c.find_news.new.found c.pass.new.self c.pass.ensures.policy was.kept was.finds was.agreed)
+    let h : Policy → List PassEntry = λ p. history_of p c.self.inside.config c.self.inside.past in
+    let P : Policy → Type 0 = λ p. MaySend c.self.inside.config c.pass.new.self (h p ++ entry_of p c.self.inside.config (h p) (made c) ∷ []) c.find_news.new.senders in
+    let may : P c.self.inside.book.policy =
+    may_send (start c) c.args.now c.args.bandwidth c.find_news.new.observers c.find_news.new.senders c.find_news.new.found c.pass.new.self c.pass.ensures.policy was.kept was.finds was.agreed in
+    rw (c.as_mut_slice-3.ensures.value, was.rung) (subst P (sym c.pass.ensures.policy) may)
 
 pub send_commands-requires-clause-made : goal.send_commands-requires-clause-made
 send_commands-requires-clause-made c = rw c.pass.ensures.policy (c.as_slice.ensures ∙ (decided c).acts)
