@@ -21,7 +21,8 @@ use Rattle.cal_world.specs.declared.event.Event.TheVariants.{Take, Yield, Publis
 use Rattle.cal_world.specs.Projections.{entries_for, publishes_in}
 use Rattle.cal_world.specs.Threads.{page_in, published_by}
 use Rattle.cal_world.specs.Looks.{decided_at, look_made, looks_since, since_decide, record_at}
-use Rattle.cal_world.specs.Safe.{IsSafeEvent, LegalListsAreSafe}
+use Rattle.cal_world.specs.Policies.{LegalListsAreSafeBy}
+use Rattle.cal_world.specs.Safe.{IsSafeEvent}
 use Rattle.cal_world.specs.World.Present.{looks_with, LooksGoOn}
 use Rattle.cal_world.specs.World.Standing.{PagesAreOf}
 use Rattle.cal_world.proofs.ListLemmas.OneMore.{slice_get_set_same, slice_get_set_other, same_lists, each_last}
@@ -154,9 +155,9 @@ looks_go table before (Read thread number) safe held = looks_after_read table be
 looks_go table before (Skip thread seen) safe held = looks_after_skip table before thread seen safe held
 looks_go table before (Decide entry) safe held = ap (filter_map (look_made (before ++ Decide entry ∷ []))) (since_none before entry)
 
-pub looks_on : LegalListsAreSafe → PermittedIsSafe → ActionIsOneMore → LookIsOneMore → LooksGoOn
-looks_on safe sound more one table before event ok list allowed =
-    let all = safe table (before ++ event ∷ []) ok (list_more table before event list allowed) in
+pub looks_on : LegalListsAreSafeBy → PermittedIsSafe → ActionIsOneMore → LookIsOneMore → LooksGoOn
+looks_on safe sound more one policy table before event ok list allowed =
+    let all = safe policy table (before ++ event ∷ []) ok (list_more policy table before event list allowed) in
     let P : List Event → Type 0 = Holds table in
-    let held : Holds table before = subst P (take-length before) (holds sound more one table before ok (safe table before ok list) (length before) (omega arith)) in
+    let held : Holds table before = subst P (take-length before) (holds sound more one table before ok (safe policy table before ok list) (length before) (omega arith)) in
     looks_go table before event (each_last (IsSafeEvent table) before event all.each) held
