@@ -1,10 +1,13 @@
 -- What every run promises, on one page and in this order:
 --
 -- Whatever the schedule, the run's events stand in one legal history: each pass is a pass of the
--- policy of the run on the records it read, each a whole record its kernel thread published, none
+-- one-thread policy on the records it read, each a whole record its kernel thread published, none
 -- older than one read before; each kernel thread takes a prefix of its commands in order; at every
 -- point no core runs two kernel threads, no task exceeds its limit, and every revocation has its
 -- cause.
+--
+-- The policy is a parameter: each pass is a pass of the policy of the run, and legal list, legal
+-- history and cause are that policy's. The sentence is the case of Policy::Caladan.
 use Rattle.std.specs.Prelude.{◌≡◌, ◌≤◌, ℕ, List, length, map, take, Some, slice_get}
 use Rattle.cal_machine.specs.Table.{Table, IsTable}
 use Rattle.cal_signal.specs.declared.record.Record.{Record}

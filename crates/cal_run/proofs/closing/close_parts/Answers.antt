@@ -6,7 +6,7 @@ with_events-requires-clause-run c =
     let table = c.args.config.now in
     let outcome = outcome_of c.in_ok-end.end in
     let run = c.in_ok-end.ensures.run in
-    rw c.policy.ensures (record {
+    rw c.policy-policy.ensures (record {
       legal = (c.headline_of_runs_by.ensures c.args.parts.scheduler.policy table c.args.arrivals.now outcome c.limits.ensures run).history;
       count = run.threads;
       kept = run.kept;

@@ -8,12 +8,12 @@ pub open_workers-requires-clause-fresh : goal.open_workers-requires-clause-fresh
 open_workers-requires-clause-fresh c = let team = c.in_ok-threads.field-0 in
     opened_are_fresh team.threads.items team.observers.items team.senders.items team.watchers.items c.in_ok-threads.ensures.opened
 
-pub new-requires-clause-unseen : goal.new-requires-clause-unseen
-new-requires-clause-unseen c = let team = c.in_ok-threads.field-0 in
+pub new_by-requires-clause-unseen : goal.new_by-requires-clause-unseen
+new_by-requires-clause-unseen c = let team = c.in_ok-threads.field-0 in
     saw_nothing team.threads.items team.observers.items team.senders.items team.watchers.items c.in_ok-threads.ensures.opened
 
-pub new-requires-clause-unsent : goal.new-requires-clause-unsent
-new-requires-clause-unsent c = let team = c.in_ok-threads.field-0 in
+pub new_by-requires-clause-unsent : goal.new_by-requires-clause-unsent
+new_by-requires-clause-unsent c = let team = c.in_ok-threads.field-0 in
     sent_nothing team.threads.items team.observers.items team.senders.items team.watchers.items c.in_ok-threads.ensures.opened
 
 pub returns-clause-parts : goal.returns-clause-parts
