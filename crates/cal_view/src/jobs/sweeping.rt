@@ -49,7 +49,7 @@ impl Sweeping<'_> {
             },
         };
         match answer_sweep(rt, &job, output, errors) {
-            Ok(status) => Ok(status),
+            Ok(ended) => Ok(ended.status),
             Err(fault) => refuse(self.alloc, runs_of(&job), fault, errors),
         }
     }
