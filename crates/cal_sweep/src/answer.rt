@@ -80,7 +80,7 @@ pub fn answer_sweep<'a, W: Write, E: Write>(
     errors: &mut E,
 ) -> Result<EndedSweep, SweepFault<'a>>
     ensures made { IfOk result (λ ended. IsSweep job.now.input.now
-        (varying_of job.now.names.variation) job.now.asked.now.loads.items
+        (varying_of job.now.names.variation) job.now.asked.now
         ended.sweep.tables.items ended.sweep.loads.items) }
     // The status is that of the runs of this very sweep.
     ensures status { IfOk result (λ ended. ended.status ≡

@@ -165,7 +165,7 @@ pub fn write_input<R: Read + Drop, W: Write>(
 {
     let bytes = read_input(alloc, &mut input.reader)?;
     let text = input_text(alloc, bytes.as_slice(), input.variation, place)?;
-    match writer.write_all(text.as_bytes()) {
+    match writer.write_all(text.as_slice()) {
         Ok(()) => Ok(()),
         Err(_) => Err(ComparisonFault::from(RunFault::Write)),
     }

@@ -2,7 +2,8 @@
 
 use crate::command_words::command_line::{all_words, input_word, output_word, table_word};
 use crate::command_words::help_texts;
-use cal_load::{LoadWords, Timing};
+use cal_load::{LoadWords, MOST_TICKS, Timing};
+use cal_trace::MOST_TURNS;
 use clap::{Arg, ArgAction, ArgMatches, Command};
 use std::alloc::{AllocError, Global};
 
@@ -92,14 +93,14 @@ fn one_number<'a>(alloc: Global, name: &'a str, value: &'a str) -> Arg<'a> {
 fn turns_word<'a>(alloc: Global) -> Arg<'a> {
     one_number(alloc, "turns", "N")
         .default_value("1000")
-        .value_parser(clap::value_parser!(u64).range(1..=174_762))
+        .value_parser(clap::value_parser!(u64).range(1..=MOST_TURNS as i64))
         .help("Turns of each thread, 1 to 174762")
 }
 
 fn ticks_word<'a>(alloc: Global) -> Arg<'a> {
     one_number(alloc, "ticks", "N")
         .default_value("10")
-        .value_parser(clap::value_parser!(u64).range(1..=1_000_000_000))
+        .value_parser(clap::value_parser!(u64).range(1..=MOST_TICKS as i64))
         .help("Ticks of a turn, 1 to 1000000000")
 }
 
