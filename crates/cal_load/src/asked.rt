@@ -4,9 +4,10 @@ ghost use Rattle.std.specs.Prelude.{ℕ, List, IfErr, IfOk, length};
 ghost use Rattle.cal_load.specs.Known.{AreKnown};
 ghost use Rattle.cal_load.specs.Refused.{IsRefusedFor};
 
+use crate::clocks::Timing;
 use crate::fault::{LoadFault, Why, refused};
 use crate::loads::{FLAG, loads_of};
-use crate::making::{TaskLoad, Timing, pattern_of};
+use crate::making::{TaskLoad, pattern_of};
 use crate::service::service_of;
 use cal_machine::Config;
 use std::alloc::Global;

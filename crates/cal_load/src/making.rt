@@ -1,13 +1,15 @@
 //! The requests that come to the threads of a task.
 
-ghost use Rattle.std.specs.Prelude.{◌≤◌, codes, IfErr, IfOk, IfSome};
+ghost use Rattle.std.specs.Prelude.{◌≡◌, ◌<◌, ◌+◌, codes, length, IfErr, IfOk, IfSome, OnOk};
+ghost use Rattle.cal_load.specs.Comings.{IsComing, IsComingTo, IsQueue, taken_in};
 ghost use Rattle.cal_load.specs.Refused.{IsRefusedFor};
+ghost use Rattle.cal_load.specs.Services.{IsWork};
 
 use crate::decimal::number_of;
 use crate::fault::{LoadFault, Why, refused};
+use crate::made::MOST_REQUESTS;
 use crate::service::{ServicePart, next_turns, turns_by_share};
 use crate::variate::{ONE, exponential};
-use crate::writing::MOST_REQUESTS;
 use rand::RngExt;
 use rand_core::Rng;
 use std::alloc::{AllocError, Global};
@@ -61,15 +63,6 @@ pub struct TaskLoad {
     pub pattern: Pattern,
 }
 
-/// How long a run is.
-#[derive(Clone, Copy, Debug, PartialEq, Eq)]
-pub struct Timing {
-    /// How many turns each thread makes, and as many passes.
-    pub turns: u64,
-    /// How many ticks a turn takes.
-    pub ticks: u64,
-}
-
 /// A request that comes to a thread.
 #[derive(Clone, Copy, Debug, PartialEq, Eq)]
 pub struct Slot {
@@ -86,6 +79,28 @@ pub struct Queue {
     pub slots: Vec<Slot>,
     /// The first turn after all of them.
     free: u64,
+}
+
+impl Queue {
+    /// Takes a request before its turn, or before the first free one after it, and answers which; of
+    /// so many turns there may be none.
+    fn take(&mut self, slot: Slot, turns: u64) -> Result<Option<u64>, AllocError>
+        ensures kept { IsQueue turns self.old → IsWork slot.work →
+            OnOk result (IsQueue turns self.new) }
+        ensures many { IfOk result (λ taken. length self.new.slots.items ≡
+            length self.old.slots.items + taken_in taken) }
+    {
+        let turn = slot.turn.max(self.free);
+        if turn >= turns {
+            return Ok(None);
+        }
+        self.slots.push(Slot {
+            turn,
+            work: slot.work,
+        })?;
+        self.free = turn + 1;
+        Ok(Some(turn))
+    }
 }
 
 /// What comes to the threads of a task, and how it came.
@@ -107,9 +122,13 @@ pub struct Coming {
 
 impl Coming {
     /// Nothing, for so many threads that make so many turns each.
-    fn new(alloc: Global, threads: usize, turns: u64) -> Result<Coming, AllocError> {
+    fn new(alloc: Global, threads: usize, turns: u64) -> Result<Coming, AllocError>
+        ensures is { IfOk result IsComing }
+        ensures threads { IfOk result (λ coming. length coming.queues.items ≡ threads) }
+        ensures turns { IfOk result (λ coming. coming.turns ≡ turns) }
+    {
         let mut queues = Vec::new(alloc);
-        for _ in 0..threads {
+        for _k in 0..threads {
             queues.push(Queue {
                 slots: Vec::new(alloc),
                 free: 0,
@@ -131,12 +150,17 @@ impl Coming {
         rng: &mut R,
         load: &TaskLoad,
         turn: u64,
-    ) -> Result<(), AllocError> {
+    ) -> Result<(), AllocError>
+        requires { IsComing self.old }
+        ensures is { OnOk result (IsComing self.new) }
+        ensures threads { length self.new.queues.items ≡ length self.old.queues.items }
+        ensures turns { self.new.turns ≡ self.old.turns }
+    {
         let threads = self.queues.len();
         if threads == 0 {
             return Ok(());
         }
-        for _ in 0..load.at_once() {
+        for _k in 0..load.at_once() {
             let work = next_turns(rng, load.service.as_slice());
             let thread = rng.random_range(0..threads as u64) as usize;
             self.give(thread, Slot { turn, work })?;
@@ -146,25 +170,23 @@ impl Coming {
 
     /// Gives a request that came to a turn to a thread: before that turn or the first after it that
     /// is free.
-    fn give(&mut self, thread: usize, slot: Slot) -> Result<(), AllocError> {
+    fn give(&mut self, thread: usize, slot: Slot) -> Result<(), AllocError>
+        requires is { IsComing self.old }
+        requires thread { thread < length self.old.queues.items }
+        requires work { IsWork slot.work }
+        ensures is { OnOk result (IsComing self.new) }
+        ensures threads { length self.new.queues.items ≡ length self.old.queues.items }
+        ensures turns { self.new.turns ≡ self.old.turns }
+    {
+        let taken = self.queues[thread].take(slot, self.turns)?;
         self.came = self.came.saturating_add(1);
-        let Some(queue) = self.queues.as_mut_slice().get_mut(thread) else {
-            return Ok(());
-        };
-        let turn = slot.turn.max(queue.free);
-        if turn >= self.turns {
-            self.left_out = self.left_out.saturating_add(1);
-            return Ok(());
+        match taken {
+            None => self.left_out = self.left_out.saturating_add(1),
+            Some(turn) => {
+                self.later = self.later.saturating_add(u64::from(turn > slot.turn));
+                self.work = self.work.saturating_add(slot.work);
+            }
         }
-        queue.slots.push(Slot {
-            turn,
-            work: slot.work,
-        })?;
-        queue.free = turn.saturating_add(1);
-        if turn > slot.turn {
-            self.later = self.later.saturating_add(1);
-        }
-        self.work = self.work.saturating_add(slot.work);
         Ok(())
     }
 }
@@ -219,13 +241,13 @@ impl TaskLoad {
         threads: usize,
         turns: u64,
     ) -> Result<Option<Coming>, AllocError>
-        ensures { IfOk result (λ answer. IfSome answer (λ coming. coming.came ≤ MOST_REQUESTS)) }
+        ensures { IfOk result (λ answer. IfSome answer (IsComingTo threads turns)) }
     {
         let mut coming = Coming::new(alloc, threads, turns)?;
         let gap = Gap::of(self, threads);
         let mut time = 0u128;
         // One more than the most that come, one at a time: the last one finds the end.
-        for _ in 0..=MOST_REQUESTS {
+        for _k in 0..=MOST_REQUESTS {
             if coming.came > MOST_REQUESTS {
                 return Ok(None);
             }

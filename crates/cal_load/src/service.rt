@@ -5,12 +5,10 @@ ghost use Rattle.cal_load.specs.Services.{IsService, IsWork};
 
 use crate::decimal::{number_of, thousandths_of};
 use crate::fault::{LoadFault, Why, refused};
+use cal_trace::MOST_WORK;
 use rand::RngExt;
 use rand_core::Rng;
 use std::alloc::Global;
-
-/// The most turns that a request takes, which is the format's.
-const MOST_WORK: u64 = 1_000_000;
 
 /// All requests, in thousandths of a percent.
 pub const WHOLE: u64 = 100_000;
@@ -22,7 +20,7 @@ const FLAG: &str = "--service";
 pub struct ServicePart {
     /// The share, in thousandths of a percent.
     pub share: u64,
-    /// How many turns each takes, 1 to 1,000,000.
+    /// How many turns each takes, 1 to `MOST_WORK`.
     pub turns: u64,
 }
 
@@ -83,8 +81,11 @@ pub(crate) fn turns_by_share(service: &[ServicePart]) -> u64 {
     sum
 }
 
-/// The turns of the part in which a place among all requests falls.
-fn turns_at(service: &[ServicePart], place: u64) -> u64 {
+/// The turns of the part in which a place among all requests falls, or the nearest that a request
+/// may take.
+fn turns_at(service: &[ServicePart], place: u64) -> u64
+    ensures { IsWork result }
+{
     let mut end = 0u64;
     let mut turns = 1u64;
     for part in service {
@@ -93,10 +94,12 @@ fn turns_at(service: &[ServicePart], place: u64) -> u64 {
         }
         end = end.saturating_add(part.share);
     }
-    turns
+    turns.max(1).min(MOST_WORK)
 }
 
 /// The turns that the next request takes.
-pub(crate) fn next_turns<R: Rng>(rng: &mut R, service: &[ServicePart]) -> u64 {
+pub(crate) fn next_turns<R: Rng>(rng: &mut R, service: &[ServicePart]) -> u64
+    ensures { IsWork result }
+{
     turns_at(service, rng.random_range(0..WHOLE))
 }

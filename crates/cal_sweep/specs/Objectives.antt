@@ -1,12 +1,10 @@
 -- When a run keeps an objective, and with which status a sweep ends.
-use Rattle.std.specs.Prelude.{◌≡◌, ℕ, nat_le, Bool, false, not, List, length, ◌-◌, slice_get}
+use Rattle.std.specs.Prelude.{ℕ, nat_le, Bool, false, not, List, length, ◌-◌, slice_get}
 use Rattle.std.specs.Prelude.{Option, Some, None, if◌then◌else◌}
 use Rattle.std.specs.List.{list_any}
-use Rattle.cal_machine.specs.Table.{Table}
 use Rattle.cal_measure.specs.declared.requests.TaskRequests.{TaskRequests}
 use Rattle.cal_measure.specs.declared.spread.Time.{Time}
 use Rattle.cal_measure.specs.declared.spread.Time.TheVariants.{Known, More}
-use Rattle.cal_sweep.specs.Sweeps.{IsSweep, Varying}
 use Rattle.cal_sweep.specs.declared.objective.Objective.{Objective}
 use Rattle.cal_sweep.specs.declared.runs.SweptLoad.{SweptLoad}
 use Rattle.cal_sweep.specs.declared.runs.SweptRun.{SweptRun}
@@ -52,12 +50,3 @@ is_missed (Some objective) loads =
 -- the exit status: 1 where an objective is missed at the last load, and 0 else
 abbrev pub status_of_sweep : Option Objective → List SweptLoad → ℕ
 status_of_sweep objective loads = if is_missed objective loads then 1 else 0
-
--- a sweep of the table of an input, or of those that it gives, was made over these loads, and the
--- status is that of its runs
-pub record EndsSweep (input : List ℕ) (varying : Option Varying) (loads : List ℕ)
-    (objective : Option Objective) (status : ℕ) : Type 0 where
-  pub tables : List Table
-  pub swept : List SweptLoad
-  pub made : IsSweep input varying loads tables swept
-  pub ends : status ≡ status_of_sweep objective swept

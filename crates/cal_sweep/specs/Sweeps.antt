@@ -1,43 +1,52 @@
 -- The runs of a sweep.
 use Rattle.std.specs.Prelude.{◌≡◌, ℕ, List, [], ◌∷◌, map, Option, Some, None, Ok}
 use Rattle.cal_input.specs.declared.fault.RunFault.TheVariants.{Memory, Write}
+use Rattle.cal_load.specs.Clocks.{IsTiming}
+use Rattle.cal_load.specs.Made.{IsMadeOf, IsTimedBy}
+use Rattle.cal_load.specs.declared.made.Made.{Made}
+use Rattle.cal_load.specs.declared.making.TaskLoad.{TaskLoad}
 use Rattle.cal_machine.specs.Reading.{table_in}
 use Rattle.cal_machine.specs.Table.{Table}
-use Rattle.cal_tables.specs.Compared.{AreEachOf, AreToldFor}
+use Rattle.cal_tables.specs.Compared.{AreEachOf}
 use Rattle.cal_tables.specs.Joining.{table_part}
 use Rattle.cal_tables.specs.Measured.{IsMeasuredRun}
 use Rattle.cal_tables.specs.Varied.{AreVaried}
 use Rattle.cal_tables.specs.declared.comparing.Variation.{Variation}
 use Rattle.cal_tables.specs.declared.comparing.fault.ComparisonFault.{ComparisonFault}
 use Rattle.cal_tables.specs.declared.comparing.fault.ComparisonFault.TheVariants as faults
-use Rattle.cal_tables.specs.declared.measuring.RunNumbers.{RunNumbers}
-use Rattle.cal_trace.specs.declared.arrivals.Arrivals.{Arrivals}
 use Rattle.cal_sweep.specs.declared.runs.SweptLoad.{SweptLoad}
 use Rattle.cal_sweep.specs.declared.runs.SweptRun.{SweptRun}
+use Rattle.cal_sweep.specs.declared.words.Asked.{Asked}
+use Rattle.cal_sweep.specs.Words.{AreLoadedWith}
 
--- the numbers of a run of this table on the arrivals that a text tells
-pub record IsRunOn (table : Table) (trace : List ℕ) (numbers : RunNumbers) : Type 0 where
-  pub arrivals : Arrivals
-  pub told : AreToldFor table trace arrivals
-  pub measured : IsMeasuredRun table arrivals numbers
+-- the run has these counts, and the numbers of a run of this table on these arrivals
+pub record IsRunOn (table : Table) (made : Made) (run : SweptRun) : Type 0 where
+  pub counts : run.counts ≡ made.counts
+  pub measured : IsMeasuredRun table made.arrivals run.numbers
 
--- the numbers of a run are those of a run of this table on the arrivals that some text tells
-pub record IsSweptRun (table : Table) (run : SweptRun) : Type 0 where
-  pub trace : List ℕ
-  pub ran : IsRunOn table trace run.numbers
+-- a run of this table on arrivals that were made for it of what is asked for, with this load of the
+-- task that is swept: as many for each task as the counts of the run say, by the timing asked for
+pub record IsSweptRun (asked : Asked) (load : ℕ) (table : Table) (run : SweptRun) : Type 0 where
+  pub loads : List TaskLoad
+  pub asks : AreLoadedWith asked load loads
+  pub made : Made
+  pub are : IsMadeOf table loads made
+  pub timed : IsTiming asked.timing → IsTimedBy asked.timing made.arrivals
+  pub ran : IsRunOn table made run
 
--- as many runs as tables, each of the table at its place
-abbrev pub AreSweptRuns : List Table → List SweptRun → Type 0
-AreSweptRuns tables runs = AreEachOf IsSweptRun tables runs
+-- as many runs as tables, each of the table at its place with this load
+abbrev pub AreSweptRuns : Asked → ℕ → List Table → List SweptRun → Type 0
+AreSweptRuns asked load tables runs = AreEachOf (IsSweptRun asked load) tables runs
 
 -- the runs of this load: one of each table
-pub record IsSweptLoad (tables : List Table) (load : ℕ) (of_load : SweptLoad) : Type 0 where
+pub record IsSweptLoad (asked : Asked) (tables : List Table) (load : ℕ)
+    (of_load : SweptLoad) : Type 0 where
   pub at : of_load.load ≡ load
-  pub runs : AreSweptRuns tables of_load.runs.items
+  pub runs : AreSweptRuns asked load tables of_load.runs.items
 
 -- for each of these loads in turn, a run of each table
-abbrev pub AreSweptLoads : List Table → List ℕ → List SweptLoad → Type 0
-AreSweptLoads tables loads swept = AreEachOf (IsSweptLoad tables) loads swept
+abbrev pub AreSweptLoads : Asked → List Table → List ℕ → List SweptLoad → Type 0
+AreSweptLoads asked tables loads swept = AreEachOf (IsSweptLoad asked tables) loads swept
 
 -- a key and its values
 pub record Varying : Type 0 where
@@ -57,13 +66,13 @@ abbrev pub AreTablesOf : Option Varying → Table → List Table → Type 0
 AreTablesOf None table tables = tables ≡ table ∷ []
 AreTablesOf (Some varying) table tables = AreVaried table varying.key varying.values tables
 
--- a sweep of the table of an input, or of those that it gives, over these loads
-pub record IsSweep (input : List ℕ) (varying : Option Varying) (loads : List ℕ)
+-- the sweep that is asked for, of the table of an input or of those that it gives
+pub record IsSweep (input : List ℕ) (varying : Option Varying) (asked : Asked)
     (tables : List Table) (swept : List SweptLoad) : Type 0 where
   pub table : Table
   pub given : table_in (table_part input) ≡ Ok table
   pub varied : AreTablesOf varying table tables
-  pub are : AreSweptLoads tables loads swept
+  pub are : AreSweptLoads asked tables asked.loads.items swept
 
 -- the fault of a writer
 abbrev pub of_writer : ComparisonFault

@@ -3,8 +3,8 @@
 ghost use Rattle.std.specs.Prelude.{◌≡◌, ◌≢◌, ◌⊎◌, IfErr, IfOk, length};
 ghost use Rattle.cal_machine.specs.Reading.{table_in};
 ghost use Rattle.cal_sweep.specs.Faults.{IsFirstFault, SweepDecided};
-ghost use Rattle.cal_sweep.specs.Objectives.{EndsSweep, status_of_sweep};
-ghost use Rattle.cal_sweep.specs.Sweeps.{of_memory, of_writer, varying_of};
+ghost use Rattle.cal_sweep.specs.Objectives.{status_of_sweep};
+ghost use Rattle.cal_sweep.specs.Sweeps.{IsSweep, of_memory, of_writer, varying_of};
 ghost use Rattle.cal_tables.specs.Joining.{table_part};
 
 use crate::fault::SweepFault;
@@ -59,8 +59,17 @@ pub fn end_sweep<'a, W: Write, E: Write>(
     Ok(status)
 }
 
-/// Makes the runs that a job asks for, writes what came of them, and answers the exit status: 1
-/// where one of the runs of the last load misses the objective, and 0 else.
+/// A sweep that was written.
+#[derive(Drop)]
+pub struct EndedSweep {
+    /// The sweep.
+    pub sweep: Sweep,
+    /// The exit status: 1 where one of the runs of its last load misses the objective, and 0 else.
+    pub status: u8,
+}
+
+/// Makes the runs that a job asks for, writes what came of them, and answers them with the exit
+/// status.
 ///
 /// The faults are those of `swept`, and then `Write`. Nothing is written before all runs were made
 /// and the text is in memory.
@@ -69,10 +78,13 @@ pub fn answer_sweep<'a, W: Write, E: Write>(
     job: &SweepJob<'a>,
     output: &mut W,
     errors: &mut E,
-) -> Result<u8, SweepFault<'a>>
-    // A sweep of the input was made, and the status is that of its runs.
-    ensures status { IfOk result (EndsSweep job.now.input.now (varying_of job.now.names.variation)
-        job.now.asked.now.loads.items job.now.asked.now.objective) }
+) -> Result<EndedSweep, SweepFault<'a>>
+    ensures made { IfOk result (λ ended. IsSweep job.now.input.now
+        (varying_of job.now.names.variation) job.now.asked.now
+        ended.sweep.tables.items ended.sweep.loads.items) }
+    // The status is that of the runs of this very sweep.
+    ensures status { IfOk result (λ ended. ended.status ≡
+        status_of_sweep job.now.asked.now.objective ended.sweep.loads.items) }
     // The faults of the table, the names and the words for tasks come first.
     ensures refused { IfErr result (λ fault. fault ≢ SweepFault.Run of_writer →
         SweepDecided fault (IsFirstFault (table_in (table_part job.now.input.now))
@@ -82,5 +94,6 @@ pub fn answer_sweep<'a, W: Write, E: Write>(
         fault ≢ SweepFault.Run of_writer → output.new ≡ output.old) }
 {
     let sweep = swept(rt, job)?;
-    end_sweep(job, &sweep, output, errors)
+    let status = end_sweep(job, &sweep, output, errors)?;
+    Ok(EndedSweep { sweep, status })
 }

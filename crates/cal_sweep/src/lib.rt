@@ -17,7 +17,7 @@ mod table;
 mod verdict;
 mod words;
 
-pub use answer::{answer_sweep, end_sweep};
+pub use answer::{EndedSweep, answer_sweep, end_sweep};
 pub use fault::SweepFault;
 pub use job::SweepJob;
 pub use naming::SweepNames;

@@ -1,6 +1,6 @@
 //! The runs of a sweep, measured.
 
-ghost use Rattle.std.specs.Prelude.{◌≡◌, ◌∷◌, [], IfErr, IfOk, Ok, length, string_bytes};
+ghost use Rattle.std.specs.Prelude.{◌≡◌, ◌∷◌, [], IfErr, IfOk, Ok, length};
 ghost use Rattle.cal_machine.specs.Reading.{table_in};
 ghost use Rattle.cal_machine.specs.Table.{Table};
 ghost use Rattle.cal_load.specs.Known.{AreKnown};
@@ -8,18 +8,17 @@ ghost use Rattle.cal_sweep.specs.Faults.{AreCounted, IsFirstFault, SweepDecided}
 ghost use Rattle.cal_sweep.specs.Sweeps.{AreSweptLoads, AreSweptRuns, AreTablesOf, IsSweep};
 ghost use Rattle.cal_sweep.specs.Sweeps.{IsRunOn, IsSweptLoad, IsSweptRun, varying_of};
 ghost use Rattle.cal_tables.specs.Joining.{table_part};
+ghost use Rattle.cal_trace.specs.Arrivals.FitsTable.{FitsTable};
 
 use crate::fault::SweepFault;
 use crate::job::SweepJob;
 use crate::naming::are_counted;
-use cal_input::RunFault;
 use cal_load::{ArrivalPlan, Count, Made, are_known, made_arrivals};
 use cal_machine::Config;
 use cal_tables::{
     ComparisonFault, Reason, RunNumbers, Variation, measured_run, table_at, table_part,
     varied_tables,
 };
-use cal_trace::read_arrivals;
 use rayon::prelude::*;
 use std::alloc::{AllocError, Global};
 use std::thread::Threads;
@@ -51,25 +50,18 @@ pub struct Sweep {
     pub loads: Vec<SweptLoad>,
 }
 
-/// The numbers of a table's run on the arrivals that a text tells.
-fn numbers_on(alloc: Global, table: &Config, trace: &[u8]) -> Result<RunNumbers, RunFault>
-    ensures { IfOk result (IsRunOn table.now trace.now) }
-{
-    let arrivals = read_arrivals(alloc, table, trace)?;
-    measured_run(alloc, table, &arrivals)
-}
-
-/// The run of a table on arrivals that were made, measured: on exactly those that their text tells.
-/// A fault is that of the table at this place.
+/// The run of a table on arrivals that were made, measured. A fault is that of the table at this
+/// place.
 fn run_on(
     alloc: Global,
     table: &Config,
     place: usize,
     made: Made,
 ) -> Result<SweptRun, ComparisonFault>
-    ensures { IfOk result (λ run. IsRunOn table.now (string_bytes made.text) run.numbers) }
+    requires { FitsTable table.now made.arrivals }
+    ensures { IfOk result (IsRunOn table.now made) }
 {
-    match numbers_on(alloc, table, made.text.as_bytes()) {
+    match measured_run(alloc, table, &made.arrivals) {
         Ok(numbers) => Ok(SweptRun {
             counts: made.counts,
             numbers,
@@ -88,7 +80,7 @@ fn swept_run<'a>(
     place: usize,
     load: u64,
 ) -> Result<SweptRun, SweepFault<'a>>
-    ensures { IfOk result (IsSweptRun table.now) }
+    ensures { IfOk result (IsSweptRun job.now.asked.now load table.now) }
 {
     let asked = job.asked;
     let loads = asked.at(job.alloc, load)?;
@@ -108,7 +100,8 @@ fn swept_runs<'a>(
     tables: &[Config],
     load: u64,
 ) -> Result<Vec<SweptRun>, SweepFault<'a>>
-    ensures { IfOk result (λ runs. AreSweptRuns tables.now runs.items) }
+    ensures { IfOk result (λ runs.
+        AreSweptRuns job.now.asked.now load tables.now runs.items) }
 {
     let mut runs = Vec::new(job.alloc);
     for place in 0..tables.len() {
@@ -124,7 +117,7 @@ fn swept_load<'a>(
     tables: &[Config],
     load: u64,
 ) -> Result<SweptLoad, SweepFault<'a>>
-    ensures { IfOk result (IsSweptLoad tables.now load) }
+    ensures { IfOk result (IsSweptLoad job.now.asked.now tables.now load) }
 {
     let runs = swept_runs(job, tables, load)?;
     Ok(SweptLoad { load, runs })
@@ -140,14 +133,15 @@ fn answered_loads<'a>(
     loads: &[u64],
 ) -> Result<Result<Vec<SweptLoad>, SweepFault<'a>>, AllocError>
     ensures { IfOk result (λ answer. IfOk answer
-        (λ swept. AreSweptLoads tables.now loads.now swept.items)) }
+        (λ swept. AreSweptLoads job.now.asked.now tables.now loads.now swept.items)) }
 {
     loads
         .par_iter()
         .with_min_len(1)
         .map(
             |load: &u64| -> Result<SweptLoad, SweepFault>
-                ensures { IfOk result (IsSweptLoad tables.entry.now load.now) }
+                ensures { IfOk result
+                    (IsSweptLoad job.entry.now.asked.now tables.entry.now load.now) }
             { swept_load(job, tables, *load) },
         )
         .collect(rt, job.alloc)
@@ -160,7 +154,8 @@ fn swept_loads<'a>(
     tables: &[Config],
     loads: &[u64],
 ) -> Result<Vec<SweptLoad>, SweepFault<'a>>
-    ensures { IfOk result (λ swept. AreSweptLoads tables.now loads.now swept.items) }
+    ensures { IfOk result (λ swept.
+        AreSweptLoads job.now.asked.now tables.now loads.now swept.items) }
 {
     answered_loads(rt, job, tables, loads)?
 }
@@ -196,7 +191,7 @@ fn tables_of(
 /// makes the table faulty; then that of the first run that has one. `Memory` may come at any place.
 pub fn swept<'a>(rt: &(impl Threads + Sync), job: &SweepJob<'a>) -> Result<Sweep, SweepFault<'a>>
     ensures made { IfOk result (λ sweep. IsSweep job.now.input.now
-        (varying_of job.now.names.variation) job.now.asked.now.loads.items
+        (varying_of job.now.names.variation) job.now.asked.now
         sweep.tables.items sweep.loads.items) }
     // None is made with some names that are not as many as the tasks, nor for a task that is not
     // there.

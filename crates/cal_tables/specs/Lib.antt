@@ -9,5 +9,6 @@ pub mod Faulty
 pub mod Writing
 pub mod Laws
 pub mod Changed
+pub mod InputText
 pub mod Joining
 pub mod Rows

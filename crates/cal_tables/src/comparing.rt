@@ -163,7 +163,7 @@ pub fn write_input<W: Write>(
         fault ≢ ComparisonFault.Run RunFault.Write → writer.new ≡ writer.old) }
 {
     let text = input_text(alloc, input.bytes, input.variation, place)?;
-    match writer.write_all(text.as_bytes()) {
+    match writer.write_all(text.as_slice()) {
         Ok(()) => Ok(()),
         Err(_) => Err(ComparisonFault::from(RunFault::Write)),
     }

@@ -4,7 +4,8 @@ use crate::command_words::command_line::{
     all_words, flag_word, input_word, number_word, output_word, table_word, value_word,
 };
 use crate::command_words::help_texts;
-use cal_load::{LoadWords, Timing};
+use cal_load::{LoadWords, MOST_TICKS, Timing};
+use cal_trace::MOST_TURNS;
 use clap::{Arg, ArgAction, ArgMatches, Command};
 use std::alloc::{AllocError, Global};
 
@@ -87,13 +88,13 @@ fn pattern_word<'a>(alloc: Global) -> Arg<'a> {
 fn turns_word<'a>(alloc: Global) -> Arg<'a> {
     value_word(alloc, "turns", "N", "Turns of each thread, 1 to 174762")
         .default_value("1000")
-        .value_parser(clap::value_parser!(u64).range(1..=174_762))
+        .value_parser(clap::value_parser!(u64).range(1..=MOST_TURNS as i64))
 }
 
 fn ticks_word<'a>(alloc: Global) -> Arg<'a> {
     value_word(alloc, "ticks", "N", "Ticks of a turn, 1 to 1000000000")
         .default_value("10")
-        .value_parser(clap::value_parser!(u64).range(1..=1_000_000_000))
+        .value_parser(clap::value_parser!(u64).range(1..=MOST_TICKS as i64))
 }
 
 fn seed_word<'a>(alloc: Global) -> Arg<'a> {

@@ -14,6 +14,7 @@ use cal_load::{
 };
 use cal_machine::{Config, ConfigFault};
 use cal_tables::table_part;
+use cal_trace::{Arrivals, write_arrivals};
 use std::alloc::{AllocError, Global};
 use std::io::{Read, Write};
 
@@ -53,13 +54,6 @@ impl<'a> From<AllocError> for Unmade<'a> {
     }
 }
 
-/// What is written: what stands in front, and the rest.
-#[derive(Drop)]
-struct Answer {
-    front: Vec<u8>,
-    text: String,
-}
-
 /// Arrivals that words ask for.
 #[derive(Clone, Copy)]
 pub struct Arriving<'a> {
@@ -95,14 +89,14 @@ impl<'a> Arriving<'a> {
         let input = read_input(self.alloc, &mut reader)?;
         let input = input.as_slice();
         match self.made_answer(input, loads.as_slice()) {
-            Ok(answer) => write_answer(&answer, output),
+            Ok(answer) => write_answer(answer.as_slice(), output),
             Err(Unmade::Run(fault)) => end_refusal(self.alloc, table_alone(input), fault, errors),
             Err(Unmade::Word(fault)) => Ok(refuse_word(&fault, errors)),
         }
     }
 
     /// Makes these loads for the task table of an input.
-    fn made_answer(&self, input: &[u8], loads: &[TaskLoad]) -> Result<Answer, Unmade<'a>> {
+    fn made_answer(&self, input: &[u8], loads: &[TaskLoad]) -> Result<Vec<u8>, Unmade<'a>> {
         let words = &self.asked.load;
         let table = table_part(input);
         let config = Config::read(self.alloc, table)?;
@@ -118,46 +112,52 @@ impl<'a> Arriving<'a> {
     }
 
     /// What was made for a table, as it is written.
-    fn answer_of(&self, config: &Config, table: &[u8], made: Made) -> Result<Answer, Unmade<'a>> {
-        let mut front = Vec::new(self.alloc);
-        let text = match self.asked.form {
-            ArrivalForm::Arrivals => made.text,
+    fn answer_of(&self, config: &Config, table: &[u8], made: Made) -> Result<Vec<u8>, Unmade<'a>> {
+        let mut answer = Vec::new(self.alloc);
+        match self.asked.form {
+            ArrivalForm::Arrivals => put_arrivals(&made.arrivals, &mut answer)?,
             ArrivalForm::Input => {
-                put_table(table, &mut front)?;
-                made.text
+                put_table(table, &mut answer)?;
+                put_arrivals(&made.arrivals, &mut answer)?;
             }
             ArrivalForm::Summary => {
                 let turns = self.asked.load.timing.turns;
-                summary_of(self.alloc, config, made.counts.as_slice(), turns)?
+                let text = summary_of(self.alloc, config, made.counts.as_slice(), turns)?;
+                answer = text.into_bytes();
             }
-        };
+        }
         // An input is read up to this length.
-        if front.len().saturating_add(text.len()) > INPUT_LIMIT {
+        if answer.len() > INPUT_LIMIT {
             return Err(Unmade::Run(RunFault::Length));
         }
-        Ok(Answer { front, text })
+        Ok(answer)
     }
 }
 
 /// Writes what was made, and answers the exit status, 0. The fault is `Write`.
-fn write_answer<W: Write>(answer: &Answer, output: &mut W) -> Result<u8, RunFault>
+fn write_answer<W: Write>(answer: &[u8], output: &mut W) -> Result<u8, RunFault>
     ensures done { IfOk result (λ status. status ≡ 0) }
     ensures kind { IfErr result (λ fault. fault ≡ RunFault.Write) }
 {
-    if output.write_all(answer.front.as_slice()).is_err() {
-        return Err(RunFault::Write);
-    }
-    match output.write_all(answer.text.as_bytes()) {
+    match output.write_all(answer) {
         Ok(()) => Ok(0),
         Err(_) => Err(RunFault::Write),
     }
 }
 
-/// Puts a task table, whose last line is ended where it is not, and the separator line.
-fn put_table(table: &[u8], front: &mut Vec<u8>) -> Result<(), AllocError> {
-    front.extend_from_slice(table)?;
-    if !table.ends_with(b"\n") {
-        front.push(b'\n')?;
+/// Puts arrivals as a file. Fails only when out of memory.
+fn put_arrivals(arrivals: &Arrivals, answer: &mut Vec<u8>) -> Result<(), RunFault> {
+    match write_arrivals(arrivals, answer) {
+        Ok(()) => Ok(()),
+        Err(_) => Err(RunFault::Memory),
     }
-    front.extend_from_slice(b"---\n")
+}
+
+/// Puts a task table, whose last line is ended where it is not, and the separator line.
+fn put_table(table: &[u8], answer: &mut Vec<u8>) -> Result<(), AllocError> {
+    answer.extend_from_slice(table)?;
+    if !table.ends_with(b"\n") {
+        answer.push(b'\n')?;
+    }
+    answer.extend_from_slice(b"---\n")
 }

@@ -51,7 +51,7 @@ impl Sweeping<'_> {
             },
         };
         match answer_sweep(rt, &job, output, errors) {
-            Ok(status) => Ok(status),
+            Ok(ended) => Ok(ended.status),
             Err(fault) => self.refuse(input, variation, fault, errors),
         }
     }

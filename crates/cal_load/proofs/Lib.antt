@@ -1,0 +1,4 @@
+mod Assembled
+mod Built
+mod ClockLemmas
+mod Counted

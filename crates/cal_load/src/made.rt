@@ -1,0 +1,218 @@
+//! The arrivals of a plan.
+
+ghost use Rattle.std.specs.Prelude.{◌≡◌, ◌≢◌, ◌<◌, ◌≤◌, ◌+◌, ℕ, List, length, true, None};
+ghost use Rattle.std.specs.Prelude.{IfErr, IfOk, IfSome};
+ghost use Rattle.cal_machine.specs.Table.{Table};
+ghost use Rattle.cal_machine.specs.Tasks.{first_thread, task_at};
+ghost use Rattle.cal_load.specs.Clocks.{IsTiming};
+ghost use Rattle.cal_load.specs.Comings.{IsComingTo};
+ghost use Rattle.cal_load.specs.Counts.{came_in};
+ghost use Rattle.cal_load.specs.Made.{AreGathered, HasLoad, IsMadeOf, IsTimedBy};
+ghost use Rattle.cal_load.specs.Refused.{IsRefusedFor};
+ghost use Rattle.cal_load.specs.declared.making.TaskLoad.{TaskLoad};
+ghost use Rattle.cal_trace.specs.History.Ranges.{Each};
+
+use crate::clocks::{Timing, passes_of, turns_of};
+use crate::fault::{LoadFault, Why, refused};
+use crate::loads::FLAG;
+use crate::making::{Coming, TaskLoad};
+use crate::requests::put_queues;
+use cal_machine::{Config, Listed};
+use cal_trace::{Arrival, Arrivals};
+use rand_core::SeedableRng;
+use rand_xoshiro::Xoshiro256PlusPlus;
+use std::alloc::{AllocError, Global};
+
+/// The most requests of all tasks.
+pub const MOST_REQUESTS: u64 = 1_000_000;
+
+/// What came to a task.
+#[derive(Clone, Copy, Debug, PartialEq, Eq)]
+pub struct Count {
+    /// The number of the task.
+    pub task: usize,
+    /// Its load, in thousandths.
+    pub load: u64,
+    /// How many requests came.
+    pub came: u64,
+    /// How many of these come before a later turn than they came to, which was taken.
+    pub later: u64,
+    /// How many found no turn any more, and are left out.
+    pub left_out: u64,
+    /// The turns that all others take.
+    pub work: u64,
+}
+
+/// Arrivals that are to be made for a table.
+#[derive(Clone, Copy)]
+pub struct ArrivalPlan<'a> {
+    /// What comes to tasks: no two of these are of one task.
+    pub loads: &'a [TaskLoad],
+    /// How many passes and turns there are, and how far apart they are.
+    pub timing: Timing,
+    /// The seed of all that comes by chance.
+    pub seed: u64,
+}
+
+impl<'a> ArrivalPlan<'a> {
+    /// The load of a task, where it has one.
+    fn load_of(&self, task: usize) -> Option<&'a TaskLoad>
+        ensures some { IfSome result (λ load. load.now.task ≡ task
+            × HasLoad self.now.loads.now task load.now.load) }
+        ensures none { result ≡ None → Each (λ load. load.task ≢ task) self.now.loads.now }
+    {
+        for place in 0..self.loads.len() {
+            if self.loads[place].task == task {
+                return Some(&self.loads[place]);
+            }
+        }
+        None
+    }
+}
+
+/// Arrivals that were made.
+#[derive(Drop)]
+pub struct Made {
+    /// The arrivals.
+    pub arrivals: Arrivals,
+    /// What came to each task that has a load.
+    pub counts: Vec<Count>,
+}
+
+/// The generator of a task: one that is by 2^128 numbers further for each task more, so that no
+/// task changes what comes to another.
+fn generator(seed: u64, task: usize) -> Xoshiro256PlusPlus {
+    let mut rng = Xoshiro256PlusPlus::seed_from_u64(seed);
+    for _ in 0..task {
+        rng.jump();
+    }
+    rng
+}
+
+/// What came to the tasks so far.
+#[derive(Drop)]
+struct Gathered {
+    requests: Vec<Arrival>,
+    counts: Vec<Count>,
+    /// How many requests came in all.
+    came: u64,
+}
+
+/// What came to a task by its load.
+fn count_of(load: &TaskLoad, coming: &Coming) -> Count
+    ensures { result ≡ record {
+      task = load.now.task;
+      load = load.now.load;
+      came = coming.now.came;
+      later = coming.now.later;
+      left_out = coming.now.left_out;
+      work = coming.now.work;
+    } }
+{
+    Count {
+        task: load.task,
+        load: load.load,
+        came: coming.came,
+        later: coming.later,
+        left_out: coming.left_out,
+        work: coming.work,
+    }
+}
+
+impl Gathered {
+    /// Nothing yet.
+    fn new(alloc: Global) -> Gathered
+        ensures { (table : Table) (loads : List TaskLoad) (turns : ℕ) →
+            AreGathered table loads turns 0 result }
+    {
+        Gathered {
+            requests: Vec::new(alloc),
+            counts: Vec::new(alloc),
+            came: 0,
+        }
+    }
+
+    /// Takes what comes to the next task by its load, of whose threads this is the first. Answers
+    /// false where more than `MOST_REQUESTS` came then.
+    fn take(&mut self, load: &TaskLoad, first: usize, coming: &Coming) -> Result<bool, AllocError>
+        requires { first + length coming.now.queues.items ≤ 256 }
+        ensures { (table : Table) (loads : List TaskLoad) (turns : ℕ) →
+            load.now.task < length table.tasks →
+            first ≡ first_thread table.tasks load.now.task →
+            HasLoad loads load.now.task load.now.load →
+            IsComingTo (task_at table.tasks load.now.task).limit turns coming.now →
+            AreGathered table loads turns load.now.task self.old →
+            IfOk result (λ fits. fits ≡ true →
+            AreGathered table loads turns (load.now.task + 1) self.new) }
+    {
+        self.came = self.came.saturating_add(coming.came);
+        if self.came > MOST_REQUESTS {
+            return Ok(false);
+        }
+        put_queues(&mut self.requests, first, coming.queues.as_slice())?;
+        self.counts.push(count_of(load, coming))?;
+        Ok(true)
+    }
+}
+
+/// What comes to each task that has a load, by their numbers; nothing where it is more than
+/// `MOST_REQUESTS`. Fails only when out of memory.
+fn all_that_come(
+    alloc: Global,
+    config: &Config,
+    plan: &ArrivalPlan<'_>,
+    turns: u64,
+) -> Result<Option<Gathered>, AllocError>
+    ensures { IfOk result (λ answer. IfSome answer
+        (AreGathered config.now plan.now.loads.now turns (length config.now.tasks))) }
+{
+    config.limits();
+    let mut gathered = Gathered::new(alloc);
+    for task in 0..config.tasks() {
+        let Some(load) = plan.load_of(task) else {
+            continue;
+        };
+        let (first, threads) = config.threads_of(task);
+        let mut rng = generator(plan.seed, task);
+        let Some(coming) = load.come(alloc, &mut rng, threads, turns)? else {
+            return Ok(None);
+        };
+        if !gathered.take(load, first, &coming)? {
+            return Ok(None);
+        }
+    }
+    Ok(Some(gathered))
+}
+
+/// The arrivals of a plan for a table: so many passes and turns, and the requests of its loads. What
+/// comes to a task depends on the seed, its number, its limit and its load alone. A timing that no
+/// arrivals can have is taken as the nearest.
+///
+/// The fault is that of this word, that of the first load, where more than `MOST_REQUESTS` come.
+pub fn made_arrivals<'a>(
+    alloc: Global,
+    config: &Config,
+    plan: &ArrivalPlan<'_>,
+    word: &'a str,
+) -> Result<Made, LoadFault<'a>>
+    // They fit the table, and of each task they have as many requests as its count says.
+    ensures made { IfOk result (IsMadeOf config.now plan.now.loads.now) }
+    ensures timed { IsTiming plan.now.timing →
+        IfOk result (λ made. IsTimedBy plan.now.timing made.arrivals) }
+    ensures few { IfOk result (λ made. came_in made.counts.items ≤ MOST_REQUESTS) }
+    ensures fault { IfErr result
+        (IsRefusedFor FLAG.now word.now (Why.TooMany MOST_REQUESTS)) }
+{
+    let timing = plan.timing.nearest();
+    let Some(gathered) = all_that_come(alloc, config, plan, timing.turns)? else {
+        return Err(refused(FLAG, word, Why::TooMany(MOST_REQUESTS)));
+    };
+    Ok(Made {
+        arrivals: Arrivals {
+            passes: Listed::new(passes_of(alloc, timing)?),
+            turns: Listed::new(turns_of(alloc, timing)?),
+            requests: Listed::new(gathered.requests),
+        },
+        counts: gathered.counts,
+    })
+}

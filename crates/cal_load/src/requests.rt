@@ -1,0 +1,70 @@
+//! The requests of arrivals, thread by thread, each with the next id from 1.
+
+ghost use Rattle.std.specs.Prelude.{◌≡◌, ◌<◌, ◌≤◌, ◌+◌, ◌^◌, ℕ, All, OnOk, length};
+ghost use Rattle.cal_load.specs.Built.{AreBuilt, HasMoreFor};
+ghost use Rattle.cal_load.specs.Comings.{IsQueue, slots_in};
+
+use crate::making::{Queue, Slot};
+use cal_machine::Request;
+use cal_trace::Arrival;
+use std::alloc::AllocError;
+
+/// The request of a slot, for this thread and with this id.
+fn arrival_of(thread: u8, slot: Slot, id: u64) -> Arrival
+    // A caller's proof learns here that the id is of 64 bits.
+    ensures word { id < 2 ^ 64 }
+    ensures is { result ≡ record {
+      thread = thread;
+      turn = slot.turn;
+      request = record { id = id; work = slot.work; misses = 0 };
+    } }
+{
+    Arrival {
+        thread,
+        turn: slot.turn,
+        request: Request {
+            id,
+            work: slot.work,
+            misses: 0,
+        },
+    }
+}
+
+/// Puts what comes to a thread.
+fn put_queue(requests: &mut Vec<Arrival>, thread: u8, queue: &Queue) -> Result<(), AllocError>
+    ensures put { (threads turns : ℕ) → AreBuilt threads turns thread requests.old.items →
+        thread < threads → IsQueue turns queue.now →
+        OnOk result (AreBuilt threads turns (thread + 1) requests.new.items) }
+    ensures own { OnOk result (HasMoreFor thread (thread + 1) requests.old.items
+        requests.new.items) }
+    ensures many { OnOk result (length requests.new.items ≡
+        length requests.old.items + length queue.now.slots.items) }
+{
+    let slots = queue.slots.as_slice();
+    for place in 0..slots.len() {
+        let id = requests.len() as u64 + 1;
+        requests.push(arrival_of(thread, slots[place], id))?;
+    }
+    Ok(())
+}
+
+/// Puts what comes to some threads, of which this is the first.
+pub fn put_queues(
+    requests: &mut Vec<Arrival>,
+    first: usize,
+    queues: &[Queue],
+) -> Result<(), AllocError>
+    requires { first + length queues.now ≤ 256 }
+    ensures put { (threads turns : ℕ) → AreBuilt threads turns first requests.old.items →
+        first + length queues.now ≤ threads → All (IsQueue turns) queues.now →
+        OnOk result (AreBuilt threads turns (first + length queues.now) requests.new.items) }
+    ensures own { OnOk result (HasMoreFor first (first + length queues.now) requests.old.items
+        requests.new.items) }
+    ensures many { OnOk result (length requests.new.items ≡
+        length requests.old.items + slots_in queues.now) }
+{
+    for place in 0..queues.len() {
+        put_queue(requests, (first + place) as u8, &queues[place])?;
+    }
+    Ok(())
+}
