@@ -96,7 +96,11 @@ fn waits(
 fn works(alloc: Global, services: &[Service]) -> Result<Vec<u64>, AllocError>
     ensures { IfOk result (λ times. times.items ≡ map worked_of services.now) }
 {
-    services.iter().map(|service| service.worked).collect(alloc)
+    let mut times = Vec::new(alloc);
+    for service in services {
+        times.push(service.worked)?;
+    }
+    Ok(times)
 }
 
 /// How many thousandths of a time another one is, up to the greatest clock; of no time nothing.

@@ -57,20 +57,26 @@ impl Clocks {
     pub fn span(&self, span: Option<Span>) -> Option<ClockedSpan>
         ensures { span_in result ≡ span }
     {
-        span.map(|span| ClockedSpan {
-            span,
-            granted: self.granted[span.core as usize],
-            revoked: self.revoked[span.core as usize],
-        })
+        match span {
+            None => None,
+            Some(span) => Some(ClockedSpan {
+                span,
+                granted: self.granted[span.core as usize],
+                revoked: self.revoked[span.core as usize],
+            }),
+        }
     }
 
     /// A ban that a core is under, or that the next action ends.
     pub fn ban(&self, ban: Option<BanSpan>) -> Option<ClockedBan>
         ensures { ban_in result ≡ ban }
     {
-        ban.map(|ban| ClockedBan {
-            ban,
-            banned: self.banned[ban.core as usize],
-        })
+        match ban {
+            None => None,
+            Some(ban) => Some(ClockedBan {
+                ban,
+                banned: self.banned[ban.core as usize],
+            }),
+        }
     }
 }
