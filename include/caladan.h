@@ -37,8 +37,9 @@
  *
  * Since version 3: a handle may move from one thread to another, and one of another kind is taken for a closed
  * one. New are tables of rows (caladan_open_rows, and the same of a guard and an audit), what a policy of your
- * own chooses by (caladan_guard_judge, caladan_guard_kept, caladan_guard_ban, caladan_guard_last), caladan_kept
- * and caladan_next_clock.
+ * own chooses by (caladan_guard_judge, caladan_guard_kept, caladan_guard_ban, caladan_guard_last), caladan_kept,
+ * caladan_next_clock, and policies by number (caladan_open_policy, caladan_audit_open_policy, the answer
+ * CALADAN_NO_POLICY).
  * Since version 2: no pass answers CALADAN_NO_MEMORY any more, and a core may be given as any number, also
  * one above 255. New are the words of a look as one run (CALADAN_WORDS, caladan_look_words,
  * caladan_look_set_words) and CALADAN_IS_THIS_VERSION.
@@ -105,8 +106,13 @@ enum {
     CALADAN_NOT_PERMITTED = 18, /* an action is not permitted at its place */
     CALADAN_NO_JUDGEMENT = 19, /* a number that is no judgement of its look */
     CALADAN_ILLEGAL = 20,     /* a recorded pass is not legal */
-    CALADAN_LOST = 21         /* no page can show any more that the thread is gone */
+    CALADAN_LOST = 21,        /* no page can show any more that the thread is gone */
+    CALADAN_NO_POLICY = 22    /* no policy has this number */
 };
+
+/* The policies, by which passes are made and audited (docs/POLICY.md). The calls that name none go by
+ * CALADAN_POLICY_CALADAN [opened]. */
+enum { CALADAN_POLICY_CALADAN = 0 };
 
 /* A scheduler, or nothing. */
 typedef struct caladan {
@@ -251,6 +257,12 @@ uint32_t caladan_version(void);
  * first fault [opened], or NO_MEMORY. IS_OPEN of an open one [already]. Unless DONE the handle is as
  * before [refused]. Takes all the memory that passes need [not proved]. */
 uint8_t caladan_open(const uint8_t *table, size_t length, caladan *handle);
+
+/* The same for passes by the policy of a number, CALADAN_POLICY_..: all that is said below of the policy and of
+ * legal histories is said of that one [opened]. NO_POLICY of a number that no policy has [no_policy], whatever
+ * the table; IS_OPEN of an open handle, whatever the number [already]. Unless DONE the handle is as before
+ * [refused]. */
+uint8_t caladan_open_policy(const uint8_t *table, size_t length, uint32_t policy, caladan *handle);
 
 /* How many kernel threads the table has [count]; 0 of a closed handle [closed]. Nothing changes [same]. */
 size_t caladan_threads(caladan *handle);
@@ -570,6 +582,10 @@ CALADAN_PLACE(caladan_audit, at, 8);
  * already, refused]. */
 uint8_t caladan_audit_open(const uint8_t *table, size_t length, caladan_audit *audit);
 
+/* The same by the policy of a number, as caladan_open_policy takes it: what the audit says of a history is said
+ * by that policy [opened, no_policy, already, refused]. */
+uint8_t caladan_audit_open_policy(const uint8_t *table, size_t length, uint32_t policy, caladan_audit *audit);
+
 /* Opens the table of these rows, as caladan_open_rows does [tested]. */
 static inline uint8_t caladan_audit_open_rows(size_t cores, uint64_t bandwidth_limit, const caladan_table_row *rows, size_t count,
                                               caladan_audit *audit, caladan_wrong *wrong) {
@@ -772,8 +788,15 @@ static inline const char *caladan_answer_text(uint8_t answer) {
         "out of memory", "the handle is closed", "the handle is open", "no answer", "the count is wrong", "there is too little room",
         "a look does not fit", "the table has no such core, task or thread", "an action is none", "an action is not permitted",
         "a number is no judgement of its look", "a pass is not legal", "no page can show that the thread is gone",
+        "no policy has this number",
     };
     return answer < sizeof texts / sizeof *texts ? texts[answer] : "no answer";
+}
+
+/* The name of a policy, as caladan_sim takes it after --policy. */
+static inline const char *caladan_policy_text(uint32_t policy) {
+    static const char *const texts[] = {"caladan"};
+    return policy < sizeof texts / sizeof *texts ? texts[policy] : "no policy";
 }
 
 static inline const char *caladan_judgement_text(uint8_t judged) {

@@ -2,7 +2,7 @@
  * an audit one after the other, and prints 'legal', or 'illegal pass' and the first that is not, as
  * caladan_sim audit does. Exits with 1 where one is not legal, with 2 where the input is refused.
  *
- *   audit FILE..      reads each file as such an input, and prints its line; of one that is refused 'refused'
+ *   audit [--policy NAME] [FILE..]      reads each file as such an input, and prints its line; of one that is refused 'refused'
  */
 #include "trace.h"
 
@@ -16,7 +16,7 @@ static int hand_over(trace *from, caladan_audit *audit) {
 }
 
 /* The status of an input; where it is 1 *first is the first pass that is not legal. */
-static int audited(const input *in, uint64_t *first) {
+static int audited(const input *in, uint32_t policy, uint64_t *first) {
     const uint8_t *table = (const uint8_t *)in->text;
     caladan handle = CALADAN_CLOSED;
     caladan_audit audit = CALADAN_AUDIT_CLOSED;
@@ -26,7 +26,7 @@ static int audited(const input *in, uint64_t *first) {
     if (caladan_open(table, in->table_length, &handle) == CALADAN_DONE) {
         caladan_table(&handle, &machine);
         caladan_close(&handle);
-        if (caladan_audit_open(table, in->table_length, &audit)) return 2;
+        if (caladan_audit_open_policy(table, in->table_length, policy, &audit)) return 2;
         if (begin_trace(&from, in, true, machine) && hand_over(&from, &audit) == 0)
             status = caladan_audit_verdict(&audit, first) == CALADAN_ILLEGAL;
         caladan_audit_close(&audit);
@@ -34,9 +34,9 @@ static int audited(const input *in, uint64_t *first) {
     return status;
 }
 
-static int audit_file(FILE *file, uint64_t *first) {
+static int audit_file(FILE *file, uint32_t policy, uint64_t *first) {
     input in;
-    int status = file && read_input(file, &in) ? audited(&in, first) : 2;
+    int status = file && read_input(file, &in) ? audited(&in, policy, first) : 2;
     if (file) free(in.text);
     return status;
 }
@@ -49,16 +49,17 @@ static void print_line(int status, uint64_t first) {
 
 int main(int argc, char **argv) {
     uint64_t first = 0;
-    int status = 0;
-    if (argc < 2) {
-        status = audit_file(stdin, &first);
+    uint32_t policy = policy_asked(argc, argv);
+    int status = 0, files = argc > 1 && !strcmp(argv[1], "--policy") ? 3 : 1;
+    if (argc <= files) {
+        status = audit_file(stdin, policy, &first);
         if (status == 2) fputs("audit: the input is refused\n", stderr);
         else print_line(status, first);
         return status;
     }
-    for (int k = 1; k < argc; k++) {
+    for (int k = files; k < argc; k++) {
         FILE *file = fopen(argv[k], "rb");
-        int is = audit_file(file, &first);
+        int is = audit_file(file, policy, &first);
         if (file) fclose(file);
         print_line(is, first);
         if (is > status) status = is;

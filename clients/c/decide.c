@@ -1,5 +1,8 @@
 /* Reads a task table, a line ---, and a file of signals on standard input, makes the passes through
- * caladan.h, and prints the report of caladan_sim. Exits with 2 where the input is refused. */
+ * caladan.h, and prints the report of caladan_sim. Exits with 2 where the words or the input are refused.
+ *
+ *   decide [--policy NAME]
+ */
 #define _GNU_SOURCE
 #include "trace.h"
 
@@ -76,14 +79,16 @@ static int run(const input *in, caladan *handle) {
     return status;
 }
 
-int main(void) {
+int main(int argc, char **argv) {
     input in;
     caladan handle = CALADAN_CLOSED;
+    uint8_t answer = CALADAN_DONE;
     int status = 2;
+    if (argc != 1 && argc != 3) return refuse("the words");
     if (!read_input(stdin, &in)) {
         refuse("no separator, or too long");
-    } else if (caladan_open((const uint8_t *)in.text, in.table_length, &handle)) {
-        refuse("the table");
+    } else if ((answer = caladan_open_policy((const uint8_t *)in.text, in.table_length, policy_asked(argc, argv), &handle))) {
+        refuse(caladan_answer_text(answer));
     } else {
         status = run(&in, &handle);
         caladan_close(&handle);

@@ -29,6 +29,7 @@ static caladan_core_last last;
 static void is_no_scheduler(caladan *it) {
     size_t thread;
     CHECK(caladan_open_rows(2, 0, ROWS, 2, it, NULL) == CALADAN_IS_OPEN);
+    CHECK(caladan_open_policy(NULL, 0, CALADAN_POLICY_CALADAN, it) == CALADAN_IS_OPEN);
     CHECK(caladan_threads(it) == 0 && caladan_bandwidth_limit(it) == 0);
     CHECK(caladan_pass(it, 1, 0, looks, THREADS, judged, THREADS, actions, CALADAN_MOST_ACTIONS, &made) == CALADAN_IS_CLOSED && made == 0);
     CHECK(caladan_pass_each(it, 1, 0, looks, THREADS, judged, THREADS, actions, CALADAN_MOST_ACTIONS, &made) == CALADAN_IS_CLOSED && made == 0);
@@ -55,6 +56,7 @@ static void is_no_guard(caladan_guard *it) {
 
 static void is_no_audit(caladan_audit *it) {
     CHECK(caladan_audit_open_rows(2, 0, ROWS, 2, it, NULL) == CALADAN_IS_OPEN);
+    CHECK(caladan_audit_open_policy(NULL, 0, CALADAN_POLICY_CALADAN, it) == CALADAN_IS_OPEN);
     CHECK(caladan_audit_pass(it, 1, 0, looks, THREADS, judged, THREADS, none, 0) == CALADAN_IS_CLOSED);
     CHECK(caladan_audit_verdict(it, &first) == CALADAN_IS_CLOSED && caladan_audit_close(it) == CALADAN_IS_CLOSED && it->open);
 }

@@ -165,10 +165,41 @@ static int audited(void) {
     return 0;
 }
 
+/* A number that no policy has is refused before the table is read, and after an open handle. */
+static int by_policy(void) {
+    static const uint32_t none[] = {77, 256, 65536, UINT32_MAX};
+    const uint8_t *table = (const uint8_t *)TABLE;
+    const size_t length = strlen(TABLE);
+    caladan handle = CALADAN_CLOSED;
+    caladan_audit audit = CALADAN_AUDIT_CLOSED;
+    uint64_t pass;
+    for (size_t k = 0; k < sizeof none / sizeof *none; k++) {
+        WANT(caladan_open_policy(table, length, none[k], &handle), CALADAN_NO_POLICY);
+        WANT(caladan_audit_open_policy(table, length, none[k], &audit), CALADAN_NO_POLICY);
+        WANT(caladan_open_policy(NULL, 0, none[k], &handle), CALADAN_NO_POLICY);
+        WANT(caladan_audit_open_policy(NULL, 0, none[k], &audit), CALADAN_NO_POLICY);
+        WANT(handle.open || audit.open, 0);
+        WANT(strcmp(caladan_policy_text(none[k]), "no policy"), 0);
+    }
+    WANT(caladan_open_policy((const uint8_t *)"cores", 5, CALADAN_POLICY_CALADAN, &handle), CALADAN_NOT_TOML);
+    WANT(caladan_audit_open_policy((const uint8_t *)"cores", 5, CALADAN_POLICY_CALADAN, &audit), CALADAN_NOT_TOML);
+    WANT(caladan_open_policy(table, length, CALADAN_POLICY_CALADAN, &handle), CALADAN_DONE);
+    WANT(caladan_audit_open_policy(table, length, CALADAN_POLICY_CALADAN, &audit), CALADAN_DONE);
+    WANT(caladan_open_policy(table, length, CALADAN_POLICY_CALADAN, &handle), CALADAN_IS_OPEN);
+    WANT(caladan_open_policy(table, length, none[0], &handle), CALADAN_IS_OPEN);
+    WANT(caladan_audit_open_policy(table, length, none[0], &audit), CALADAN_IS_OPEN);
+    WANT(caladan_threads(&handle), 1);
+    WANT(verdict_of(&audit, &pass), CALADAN_DONE);
+    WANT(strcmp(caladan_policy_text(CALADAN_POLICY_CALADAN), "caladan"), 0);
+    WANT(strcmp(caladan_answer_text(CALADAN_NO_POLICY), "no policy has this number"), 0);
+    WANT(caladan_close(&handle) + caladan_audit_close(&audit), 0);
+    return 0;
+}
+
 int main(void) {
     WANT(caladan_version(), CALADAN_VERSION);
     WANT(CALADAN_IS_THIS_VERSION(), 1);
-    if (closed() || nothing() || opened() || audited()) return 1;
+    if (closed() || nothing() || opened() || audited() || by_policy()) return 1;
     puts("refusals: ok");
     return 0;
 }

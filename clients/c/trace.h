@@ -16,6 +16,16 @@ typedef struct input {
     size_t length, table_length, trace_length;
 } input;
 
+/* What the words `--policy NAME` after a program's name ask for: the number of the policy, and of a name that is none a
+ * number that no policy has. Without them it is Caladan's. */
+static inline uint32_t policy_asked(int argc, char **argv) {
+    enum { MANY = 256 };
+    uint32_t number = 0;
+    if (argc < 3 || strcmp(argv[1], "--policy")) return CALADAN_POLICY_CALADAN;
+    while (number < MANY && strcmp(caladan_policy_text(number), argv[2])) number++;
+    return number;
+}
+
 /* Finds the first line that is exactly ---. */
 static inline bool split_input(input *in) {
     size_t line = 0;

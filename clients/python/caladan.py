@@ -90,7 +90,7 @@ ANSWER_TEXTS = ("done", "the table is not TOML", "the table has an unknown key",
                 "there are too many threads", "out of memory", "the handle is closed", "the handle is open", "no answer",
                 "the count is wrong", "there is too little room", "a look does not fit", "the table has no such core, task or thread",
                 "an action is none", "an action is not permitted", "a number is no judgement of its look", "a pass is not legal",
-                "no page can show that the thread is gone")
+                "no page can show that the thread is gone", "no policy has this number")
 WHY = ("", "too many", "does not fit", "not left", "banned", "at limit", "at cap", "at guarantee", "ring full",
        "second command", "banned held", "over cap")
 

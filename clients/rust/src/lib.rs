@@ -155,6 +155,7 @@ const ANSWERS: &[&str] = &[
     "a number is no judgement of its look",
     "a pass is not legal",
     "no page can show that the thread is gone",
+    "no policy has this number",
 ];
 
 const WHY: &[&str] = &[

@@ -1,17 +1,19 @@
 -- The command of the program, and what it makes of the words that ask for a job.
 use Rattle.std.proofs.Common.{◌≡◌, Bool, List, codes, true, false, cond, Option, Some, None, inl, inr, refl, sym, ap, ap₂, ◌∙◌}
-use Rattle.std.specs.Prelude.{map, bytes_eq, Contains, get_or, option_map, option_and_then, Decides}
+use Rattle.std.specs.Prelude.{map, bytes_eq, Contains, get_or, option_map, option_and_then, unwrap_or, Decides}
 use Rattle.std.proofs.lemmas.List.{get_or-map}
 use Rattle.std.proofs.lemmas.Slice.Eq.{bytes_eq-Decides}
-use Rattle.clap.specs.Matches.{found_of, one_text, subcommand_name_of}
+use Rattle.clap.specs.Matches.{first_value, found_of, one_text, subcommand_name_of}
 use Rattle.clap.specs.Simple.{is_simple, subcommand_of, subcommand_rows_of}
 use Rattle.clap.specs.Takes.{takes}
-use Rattle.clap.specs.Walk.{Row, Text, one_of, rows_of}
+use Rattle.clap.specs.Walk.{Row, Text, first_of, one_of, rows_of}
 use Rattle.clap.specs.declared.parser.matches.ArgMatches.{ArgMatches}
 use Rattle.clap.specs.declared.parser.matches.ArgMatches.TheViews.{out-ArgMatches}
 use Rattle.clap.proofs.OnLiterals.{clap_on_literals}
-use Rattle.clap.proofs.WalkLemmas.{one_text-rows}
-use Rattle.cal_engine.specs.CommandWords.{answer_of, asking, AsksFor, Explains, FlagSays, FlagsAsk, job_of, Names, program, with_one_more}
+use Rattle.clap.proofs.WalkLemmas.{first_value-rows, one_text-rows}
+use Rattle.cal_policy.specs.declared.policy.Policy.{Policy}
+use Rattle.cal_policy.specs.declared.policy.Policy.TheVariants.{Caladan}
+use Rattle.cal_engine.specs.CommandWords.{answer_of, asking, AsksBy, Explains, FlagSays, FlagsAsk, job_of, Names, policy_asked, policy_of, program, with_among}
 use Rattle.cal_engine.specs.declared.command_words.command_line.Job.{Job}
 use Rattle.cal_engine.specs.declared.command_words.command_line.Job.TheVariants as job
 use Rattle.cal_engine.specs.declared.jobs.running.RunAnswer.{RunAnswer}
@@ -44,22 +46,36 @@ explained_by None = Some false
 explained_by (Some p) = said (one_of (codes "explain") p.1)
 
 -- the program takes each way to ask
-each_is_taken : (explained : Bool) → map (λ (way : Way). takes program way.0) (asking explained) ≡ map (λ (way : Way). true) (asking explained)
-unfolding clap_on_literals with_one_more
-each_is_taken false = refl
-each_is_taken true = refl
+each_is_taken : (policy : Option Policy) (explained : Bool) → map (λ (way : Way). takes program way.0) (asking policy explained) ≡ map (λ (way : Way). true) (asking policy explained)
+unfolding clap_on_literals with_among
+each_is_taken None false = refl
+each_is_taken None true = refl
+each_is_taken (Some Caladan) false = refl
+each_is_taken (Some Caladan) true = refl
 
 -- the program makes of each way what is asked for
-each_is_named : (explained : Bool) → map (λ (way : Way). named_by (subcommand_of program way.0)) (asking explained) ≡ map (λ (way : Way). Some way.1) (asking explained)
-unfolding clap_on_literals with_one_more
-each_is_named false = refl
-each_is_named true = refl
+each_is_named : (policy : Option Policy) (explained : Bool) → map (λ (way : Way). named_by (subcommand_of program way.0)) (asking policy explained) ≡ map (λ (way : Way). Some way.1) (asking policy explained)
+unfolding clap_on_literals with_among
+each_is_named None false = refl
+each_is_named None true = refl
+each_is_named (Some Caladan) false = refl
+each_is_named (Some Caladan) true = refl
 
 -- the program finds in each way whether it is explained
-each_is_explained : (explained : Bool) → map (λ (way : Way). explained_by (subcommand_of program way.0)) (asking explained) ≡ map (λ (way : Way). Some explained) (asking explained)
-unfolding clap_on_literals with_one_more
-each_is_explained false = refl
-each_is_explained true = refl
+each_is_explained : (policy : Option Policy) (explained : Bool) → map (λ (way : Way). explained_by (subcommand_of program way.0)) (asking policy explained) ≡ map (λ (way : Way). Some explained) (asking policy explained)
+unfolding clap_on_literals with_among
+each_is_explained None false = refl
+each_is_explained None true = refl
+each_is_explained (Some Caladan) false = refl
+each_is_explained (Some Caladan) true = refl
+
+-- the program finds in each way the policy
+each_is_by : (policy : Option Policy) (explained : Bool) → map (λ (way : Way). policy_asked (subcommand_of program way.0)) (asking policy explained) ≡ map (λ (way : Way). Some (unwrap_or policy Caladan)) (asking policy explained)
+unfolding clap_on_literals with_among
+each_is_by None false = refl
+each_is_by None true = refl
+each_is_by (Some Caladan) false = refl
+each_is_by (Some Caladan) true = refl
 
 -- what two functions make of an element, where they make the same of the list
 at_element : {A B : Type 0} (f g : A → B) (xs : List A) → map f xs ≡ map g xs → (x : A) → Contains xs x → f x ≡ g x
@@ -106,24 +122,30 @@ named_by_names : (found : Option (Text × List Row)) (named : Option Job) → na
 named_by_names None named e = cc
 named_by_names (Some p) named e = named_with_names p named _ _ _ refl refl refl e
 
-pub asked_is_named : (explained : Bool) (words : List Text) (named : Option Job) → AsksFor explained words named → Names (subcommand_of program words) named
-unfolding AsksFor
-asked_is_named explained words named asks =
-    named_by_names _ named (at_element (λ (way : Way). named_by (subcommand_of program way.0)) (λ (way : Way). Some way.1) (asking explained) (each_is_named explained) (words, named) asks)
+pub asked_is_named : (policy : Option Policy) (explained : Bool) (words : List Text) (named : Option Job) → AsksBy policy explained words named → Names (subcommand_of program words) named
+unfolding AsksBy
+asked_is_named policy explained words named asks =
+    named_by_names _ named (at_element (λ (way : Way). named_by (subcommand_of program way.0)) (λ (way : Way). Some way.1) (asking policy explained) (each_is_named policy explained) (words, named) asks)
 
-pub asked_is_taken : (explained : Bool) (words : List Text) (named : Option Job) → AsksFor explained words named → takes program words ≡ true
-unfolding AsksFor
-asked_is_taken explained words named asks =
-    at_element (λ (way : Way). takes program way.0) (λ (way : Way). true) (asking explained) (each_is_taken explained) (words, named) asks
+pub asked_is_taken : (policy : Option Policy) (explained : Bool) (words : List Text) (named : Option Job) → AsksBy policy explained words named → takes program words ≡ true
+unfolding AsksBy
+asked_is_taken policy explained words named asks =
+    at_element (λ (way : Way). takes program way.0) (λ (way : Way). true) (asking policy explained) (each_is_taken policy explained) (words, named) asks
+
+pub asked_is_by : (policy : Option Policy) (explained : Bool) (words : List Text) (named : Option Job) → AsksBy policy explained words named →
+    policy_asked (subcommand_of program words) ≡ Some (unwrap_or policy Caladan)
+unfolding AsksBy
+asked_is_by policy explained words named asks =
+    at_element (λ (way : Way). policy_asked (subcommand_of program way.0)) (λ (way : Way). Some (unwrap_or policy Caladan)) (asking policy explained) (each_is_by policy explained) (words, named) asks
 
 explained_by_explains : (found : Option (Text × List Row)) (explained : Bool) → explained_by found ≡ Some explained → Explains found explained
 explained_by_explains None explained e = cc
 explained_by_explains (Some p) explained e = said_is _ explained e
 
-pub asked_is_explained : (explained : Bool) (words : List Text) (named : Option Job) → AsksFor explained words named → Explains (subcommand_of program words) explained
-unfolding AsksFor
-asked_is_explained explained words named asks =
-    explained_by_explains _ explained (at_element (λ (way : Way). explained_by (subcommand_of program way.0)) (λ (way : Way). Some explained) (asking explained) (each_is_explained explained) (words, named) asks)
+pub asked_is_explained : (policy : Option Policy) (explained : Bool) (words : List Text) (named : Option Job) → AsksBy policy explained words named → Explains (subcommand_of program words) explained
+unfolding AsksBy
+asked_is_explained policy explained words named asks =
+    explained_by_explains _ explained (at_element (λ (way : Way). explained_by (subcommand_of program way.0)) (λ (way : Way). Some explained) (asking policy explained) (each_is_explained policy explained) (words, named) asks)
 
 -- the flag that is read is the one that the arguments say
 pub flag_read : (run : ArgMatches) (name : Text) (flag : Bool) → (one_text (found_of run) name ≡ None → flag ≡ false) →
@@ -170,3 +192,16 @@ pub is_explained : (m run : ArgMatches) (flag : Bool) →
     ((explained : Bool) → FlagSays (one_of (codes "explain") (rows_of (found_of run))) explained → flag ≡ explained) →
     (explained : Bool) → Explains (subcommand_rows_of m) explained → flag ≡ explained
 is_explained m run flag is_rows read explained says = explained_found (subcommand_rows_of m) (rows_of (found_of run)) flag is_rows read explained says
+
+policy_found : (found : Option (Text × List Row)) (rows : List Row) (name : Option Text) → Some rows ≡ option_map (λ (p : Text × List Row). p.1) found →
+    name ≡ first_of (codes "policy") rows → policy_of name ≡ policy_asked found
+policy_found None rows name is_rows is = absurd (cc)
+policy_found (Some p) rows name is_rows is =
+    let same_rows : rows ≡ p.1 = cc in
+    ap policy_of (is ∙ ap (first_of (codes "policy")) same_rows)
+
+-- the policy of the name that is read is the one that the subcommand asks for
+pub policy_is_asked : (m run : ArgMatches) (name : Option Text) →
+    Some (rows_of (found_of run)) ≡ option_map (λ (p : Text × List Row). p.1) (subcommand_rows_of m) →
+    name ≡ first_value (found_of run) (codes "policy") → policy_of name ≡ policy_asked (subcommand_rows_of m)
+policy_is_asked m run name is_rows is = policy_found (subcommand_rows_of m) (rows_of (found_of run)) name is_rows (is ∙ first_value-rows (found_of run) (codes "policy"))

@@ -22,7 +22,9 @@ use Rattle.cal_policy.specs.Judgement.Judging.{judged, is_foreign, IsFitLook, Is
 use Rattle.cal_policy.specs.declared.history.input.Input.{Input}
 use Rattle.cal_policy.proofs.HistoryLemmas.OneMore.{shown_push}
 use Rattle.cal_policy.proofs.JudgementLemmas.Judged.{look_of-judged}
-use Rattle.cal_policy.specs.Pass.{pass_of, IsPass, IsLegal}
+use Rattle.cal_policy.specs.declared.policy.Policy.{Policy}
+use Rattle.cal_policy.specs.declared.policy.Policy.TheVariants.{Caladan}
+use Rattle.cal_policy.specs.Policies.{pass_by, IsLegalBy, IsPassBy}
 use Rattle.cal_policy.specs.Setting.{setting}
 use Rattle.cal_trace.proofs.SignalLemmas.LastShown.{shown-push}
 use Rattle.cal_trace.specs.Signals as signals
@@ -34,11 +36,11 @@ use Rattle.cal_policy.proofs.PassLemmas.Legality.{legal_none, legal_more}
 use Rattle.cal_engine.specs.Deciding.{input_of, decided_pass, decided_after}
 
 -- one decided pass more
-pub decided_after-append : (table : Table) (history : List PassEntry) (passes : List SignalPass) (pass : SignalPass)
-    → decided_after table history (passes ++ pass ∷ []) ≡ decided_after table history passes ++ decided_pass table (decided_after table history passes) pass ∷ []
+pub decided_after-append : (policy : Policy) (table : Table) (history : List PassEntry) (passes : List SignalPass) (pass : SignalPass)
+    → decided_after policy table history (passes ++ pass ∷ []) ≡ decided_after policy table history passes ++ decided_pass policy table (decided_after policy table history passes) pass ∷ []
 unfolding decided_after
-decided_after-append table history [] pass = refl
-decided_after-append table history (p ∷ passes) pass = decided_after-append table (history ++ decided_pass table history p ∷ []) passes pass
+decided_after-append policy table history [] pass = refl
+decided_after-append policy table history (p ∷ passes) pass = decided_after-append policy table (history ++ decided_pass policy table history p ∷ []) passes pass
 
 -- each with its number
 slice_get-enumerate_from : {X : Type 0} (n : ℕ) (xs : List X) (k : ℕ) → slice_get (enumerate_from n xs) k ≡ option_map (λ x. (n + k, x)) (slice_get xs k)
@@ -97,12 +99,12 @@ shown_in_pass table history pass k = rw (judged_at table history pass.looks k) (
     by (Some found) = by_look found.look
 
 -- and after one pass more
-pub SameShown-append : (table : Table) (history : List PassEntry) (passes : List SignalPass) (pass : SignalPass) → SameShown (looks_of history) passes
-    → SameShown (looks_of (history ++ decided_pass table history pass ∷ [])) (passes ++ pass ∷ [])
+pub SameShown-append : (policy : Policy) (table : Table) (history : List PassEntry) (passes : List SignalPass) (pass : SignalPass) → SameShown (looks_of history) passes
+    → SameShown (looks_of (history ++ decided_pass policy table history pass ∷ [])) (passes ++ pass ∷ [])
 unfolding decided_pass
-SameShown-append table history passes pass same k =
-    let longer : looks_of (history ++ decided_pass table history pass ∷ []) ≡ looks_of history ++ judged_looks table history pass.looks ∷ [] =
-    map-append (λ (entry : PassEntry). entry.input.seen) history (decided_pass table history pass ∷ []) in
+SameShown-append policy table history passes pass same k =
+    let longer : looks_of (history ++ decided_pass policy table history pass ∷ []) ≡ looks_of history ++ judged_looks table history pass.looks ∷ [] =
+    map-append (λ (entry : PassEntry). entry.input.seen) history (decided_pass policy table history pass ∷ []) in
     ap (λ looks. last_shown looks k) longer
     ∙ shown_push (looks_of history) (judged_looks table history pass.looks) k
     ∙ ap (λ o. unwrap_or o (last_shown (looks_of history) k)) (shown_in_pass table history pass k)
@@ -149,36 +151,49 @@ judged_is_input table history passes pass same fits = record {
       sym found.1.1 ∙ ap (λ look. judged table.cores (actions_of history) k look) (sym (look_of-judged table.cores (actions_of history) k found.0.look) ∙ ap look_of found.1.1);
 }
 
+-- what a policy does on an input that the pass may be given is its pass
+made_is_pass : (policy : Policy) (table : Table) (history : List PassEntry) (input : Input) → IsInput table history input
+    → IsPassBy policy table history (record { input = input; actions = pass_by policy (setting table history input) })
+made_is_pass Caladan table history input is = record { input = is; actions = refl }
+
+-- nothing is a history of it, and with a pass of it a history is its own again
+pub none_by : (policy : Policy) (table : Table) → IsLegalBy policy table []
+none_by Caladan table = legal_none table
+
+more_by : (policy : Policy) (table : Table) (history : List PassEntry) (entry : PassEntry) → IsLegalBy policy table history → IsPassBy policy table history entry
+    → IsLegalBy policy table (history ++ entry ∷ [])
+more_by Caladan table history entry legal pass = legal_more table history entry legal pass
+
 -- and the pass decided on it is one
-pub decided_is_pass : (table : Table) (history : List PassEntry) (passes : List SignalPass) (pass : SignalPass) → SameShown (looks_of history) passes
-    → IsFittingPass (threads_of_table table) passes pass → IsPass table history (decided_pass table history pass)
+pub decided_is_pass : (policy : Policy) (table : Table) (history : List PassEntry) (passes : List SignalPass) (pass : SignalPass) → SameShown (looks_of history) passes
+    → IsFittingPass (threads_of_table table) passes pass → IsPassBy policy table history (decided_pass policy table history pass)
 unfolding decided_pass
-decided_is_pass table history passes pass same fits = record { input = judged_is_input table history passes pass same fits; actions = refl }
+decided_is_pass policy table history passes pass same fits = made_is_pass policy table history (input_of table history pass) (judged_is_input table history passes pass same fits)
 
 -- what holds of a history that was decided on the first of these passes
-pub record IsDecided (table : Table) (passes : List SignalPass) (history : List PassEntry) : Type 0 where
-  pub legal : IsLegal table history
+pub record IsDecided (policy : Policy) (table : Table) (passes : List SignalPass) (history : List PassEntry) : Type 0 where
+  pub legal : IsLegalBy policy table history
   pub shown : SameShown (looks_of history) passes
-  pub done : history ≡ decided_after table [] passes
+  pub done : history ≡ decided_after policy table [] passes
 
-pub IsDecided-none : (table : Table) → IsDecided table [] []
+pub IsDecided-none : (policy : Policy) (table : Table) → IsDecided policy table [] []
 unfolding decided_after
-IsDecided-none table = record { legal = legal_none table; shown = SameShown-none; done = refl }
+IsDecided-none policy table = record { legal = none_by policy table; shown = SameShown-none; done = refl }
 
-pub IsDecided-append : (table : Table) (passes : List SignalPass) (history : List PassEntry) (pass : SignalPass) → IsFittingPass (threads_of_table table) passes pass
-    → IsDecided table passes history → IsDecided table (passes ++ pass ∷ []) (history ++ decided_pass table history pass ∷ [])
-IsDecided-append table passes history pass fits so_far = record {
-  legal = legal_more table history (decided_pass table history pass) so_far.legal (decided_is_pass table history passes pass so_far.shown fits);
-  shown = SameShown-append table history passes pass so_far.shown;
+pub IsDecided-append : (policy : Policy) (table : Table) (passes : List SignalPass) (history : List PassEntry) (pass : SignalPass) → IsFittingPass (threads_of_table table) passes pass
+    → IsDecided policy table passes history → IsDecided policy table (passes ++ pass ∷ []) (history ++ decided_pass policy table history pass ∷ [])
+IsDecided-append policy table passes history pass fits so_far = record {
+  legal = more_by policy table history (decided_pass policy table history pass) so_far.legal (decided_is_pass policy table history passes pass so_far.shown fits);
+  shown = SameShown-append policy table history passes pass so_far.shown;
   done =
-      ap (λ h. h ++ decided_pass table h pass ∷ []) so_far.done ∙ sym (decided_after-append table [] passes pass);
+      ap (λ h. h ++ decided_pass policy table h pass ∷ []) so_far.done ∙ sym (decided_after-append policy table [] passes pass);
 }
 
 -- the pass that was made on the judged input is the decided one
-pub made_pass : (table : Table) (history : List PassEntry) (pass : SignalPass) (input : Input) (acts : List Action) → input ≡ input_of table history pass
-    → acts ≡ pass_of (setting table history input) → ◌≡◌ {A = PassEntry} (record { input = input; actions = acts }) (decided_pass table history pass)
+pub made_pass : (policy : Policy) (table : Table) (history : List PassEntry) (pass : SignalPass) (input : Input) (acts : List Action) → input ≡ input_of table history pass
+    → acts ≡ pass_by policy (setting table history input) → ◌≡◌ {A = PassEntry} (record { input = input; actions = acts }) (decided_pass policy table history pass)
 unfolding decided_pass
-made_pass table history pass input acts same_input same_acts =
-    let P : Input → Type 0 = λ (i : Input). ◌≡◌ {A = PassEntry} (record { input = i; actions = pass_of (setting table history i) }) (decided_pass table history pass) in
+made_pass policy table history pass input acts same_input same_acts =
+    let P : Input → Type 0 = λ (i : Input). ◌≡◌ {A = PassEntry} (record { input = i; actions = pass_by policy (setting table history i) }) (decided_pass policy table history pass) in
     let decided_one : P input = subst P (sym same_input) refl in
     ap (λ (made : List Action). let e : PassEntry = record { input = input; actions = made } in e) same_acts ∙ decided_one

@@ -7,7 +7,8 @@ use Rattle.std.proofs.KnownBytes.{Appends-trans}
 use Rattle.std.proofs.lemmas.Grind.{flat_map-append}
 use Rattle.std.proofs.lemmas.List.{length-map, length-take, nil_from_length, take_min}
 use Rattle.cal_machine.specs.Table.{Table}
-use Rattle.cal_policy.specs.Pass.{IsLegal}
+use Rattle.cal_policy.specs.Policies.{IsLegalBy}
+use Rattle.cal_policy.specs.declared.policy.Policy.{Policy}
 use Rattle.cal_policy.specs.declared.history.entry.PassEntry.{PassEntry}
 use Rattle.cal_run.specs.Outcome.{figures_of}
 use Rattle.cal_trace.specs.History.Text.{begun_text, end_fields, entry_rows, header_row, history_text, lines_of}
@@ -16,10 +17,21 @@ use Rattle.cal_trace.specs.declared.arrivals.Arrivals.{Arrivals}
 use Rattle.cal_trace.proofs.HistoryLemmas.Lines.{begun_ends}
 use Rattle.cal_engine.specs.Running.{AreFirstPasses}
 
--- a legal history of the first passes that are given
-pub first_passes : (table : Table) (arrivals : Arrivals) (p : ℕ) (history : List PassEntry) → IsLegal table history → map figures_of history ≡ take p arrivals.passes
-    → AreFirstPasses (record { table = table; arrivals = arrivals }) history
-first_passes table arrivals p history legal given =
+-- a history of the policy, where that and the table are the same
+pub legal_alike : (policy by : Policy) (table other : Table) (history : List PassEntry) → policy ≡ by → table ≡ other → IsLegalBy policy table history → IsLegalBy by other history
+legal_alike policy by table other history same is legal =
+    subst (λ (p : Policy). IsLegalBy p other history) same (subst (λ (t : Table). IsLegalBy policy t history) is legal)
+
+-- the first passes, where the policy and the table are the same
+pub first_alike : (policy by : Policy) (table other : Table) (arrivals : Arrivals) (history : List PassEntry) → policy ≡ by → table ≡ other
+    → AreFirstPasses policy (record { table = table; arrivals = arrivals }) history → AreFirstPasses by (record { table = other; arrivals = arrivals }) history
+first_alike policy by table other arrivals history same is first =
+    record { legal = legal_alike policy by table other history same is first.legal; given = first.given }
+
+-- a history of the policy of the first passes that are given
+pub first_passes : (policy : Policy) (table : Table) (arrivals : Arrivals) (p : ℕ) (history : List PassEntry) → IsLegalBy policy table history
+    → map figures_of history ≡ take p arrivals.passes → AreFirstPasses policy (record { table = table; arrivals = arrivals }) history
+first_passes policy table arrivals p history legal given =
     let many : length history ≡ min p (length arrivals.passes) = sym (length-map history figures_of) ∙ ap (λ l. length l) given ∙ length-take p arrivals.passes in
     record { legal = legal; given = given ∙ sym (take_min p arrivals.passes) ∙ ap (λ n. take n arrivals.passes) (sym many) }
 

@@ -6,10 +6,12 @@ use Rattle.cal_machine.specs.Tasks.{threads_in}
 use Rattle.cal_policy.specs.Book.{board_in}
 use Rattle.cal_policy.specs.State.{IsStateAfter}
 use Rattle.cal_policy.specs.Judgement.OpenInput.{judged_input}
-use Rattle.cal_policy.specs.Pass.{pass_of, IsLegal}
+use Rattle.cal_policy.specs.Policies.{pass_by, IsLegalBy}
 use Rattle.cal_policy.specs.Setting.{setting}
 use Rattle.cal_policy.specs.declared.history.entry.PassEntry.{PassEntry}
 use Rattle.cal_policy.specs.declared.history.input.Input.{Input}
+use Rattle.cal_policy.specs.declared.policy.Policy.{Policy}
+use Rattle.cal_policy.specs.declared.policy.Policy.TheVariants.{Caladan}
 use Rattle.cal_trace.specs.History.Text.{begun_text}
 use Rattle.cal_trace.specs.Report.{passes_text, IsReportOf}
 use Rattle.cal_trace.specs.Rows.{rows_of}
@@ -30,35 +32,40 @@ abbrev pub input_of : Table → List PassEntry → SignalPass → Input
 input_of table history pass = judged_input table history pass.now pass.bandwidth pass.looks
 
 -- the pass itself: what the policy does on that input
-unfoldable pub decided_pass : Table → List PassEntry → SignalPass → PassEntry
-decided_pass table history pass = record {
+unfoldable pub decided_pass : Policy → Table → List PassEntry → SignalPass → PassEntry
+decided_pass policy table history pass = record {
   input = input_of table history pass;
-  actions = pass_of (setting table history (input_of table history pass));
+  actions = pass_by policy (setting table history (input_of table history pass));
 }
 
 -- this history, and then these passes, each decided after all before it
-unfoldable pub decided_after : Table → List PassEntry → List SignalPass → List PassEntry
-decided_after table history [] = history
-decided_after table history (pass ∷ passes) =
-    decided_after table (history ++ decided_pass table history pass ∷ []) passes
+unfoldable pub decided_after : Policy → Table → List PassEntry → List SignalPass → List PassEntry
+decided_after policy table history [] = history
+decided_after policy table history (pass ∷ passes) =
+    decided_after policy table (history ++ decided_pass policy table history pass ∷ []) passes
 
 -- the history that signals lead to
-abbrev pub decided : Table → List SignalPass → List PassEntry
-decided table passes = decided_after table [] passes
+abbrev pub decided : Policy → Table → List SignalPass → List PassEntry
+decided policy table passes = decided_after policy table [] passes
 
 -- the table and the passes that are decided on these signals
-abbrev pub decided_on : Table → Result (List SignalPass) TraceFault → Result Run RunFault
-decided_on table (Err f) = Err (fault.Trace f)
-decided_on table (Ok passes) = Ok (record { table = table; history = decided table passes })
+abbrev pub decided_on : Policy → Table → Result (List SignalPass) TraceFault → Result Run RunFault
+decided_on policy table (Err f) = Err (fault.Trace f)
+decided_on policy table (Ok passes) =
+    Ok (record { table = table; history = decided policy table passes })
 
-abbrev pub decided_run : Result Parts RunFault → Result Run RunFault
-decided_run (Err f) = Err f
-decided_run (Ok parts) =
-    decided_on parts.table (signals_of (threads_in parts.table.tasks) (rows_of parts.trace))
+abbrev pub decided_run : Policy → Result Parts RunFault → Result Run RunFault
+decided_run policy (Err f) = Err f
+decided_run policy (Ok parts) =
+    decided_on policy parts.table (signals_of (threads_in parts.table.tasks) (rows_of parts.trace))
 
--- the run that an input of signals asks for, or its first fault
+-- the run that an input of signals asks for by a policy, or its first fault
+abbrev pub decided_run_by : Policy → List ℕ → Result Run RunFault
+decided_run_by policy input = decided_run policy (parts_of input)
+
+-- the same by Caladan's
 abbrev pub decided_run_of : List ℕ → Result Run RunFault
-decided_run_of input = decided_run (parts_of input)
+decided_run_of input = decided_run_by Caladan input
 
 -- the decider has come to the end of this history, of which this is kept
 pub record HasDecided (keeps : List PassEntry → Type 0) (history : List PassEntry)
@@ -66,11 +73,11 @@ pub record HasDecided (keeps : List PassEntry → Type 0) (history : List PassEn
   pub agrees : IsStateAfter (board_in decider.book) history
   pub kept : keeps history
 
--- it has come to the end of a run on this table, whose history is legal
+-- it has come to the end of a run on this table, whose history is its policy's
 pub record HasDecidedRun (keeps : List PassEntry → Type 0) (table : Table) (decider : Decider)
     (run : Run) : Type 0 where
   pub same_table : run.table ≡ table
-  pub legal : IsLegal table run.history
+  pub legal : IsLegalBy decider.book.policy table run.history
   pub decided : HasDecided keeps run.history decider
 
 -- there is a run, and the decider has come to its end

@@ -1,8 +1,11 @@
--- A law over the definitions alone.
+-- Laws over the definitions alone.
 use Rattle.std.specs.Prelude.{◌≡◌, ◌++◌, ℕ, List, Ok}
-use Rattle.cal_machine.specs.Table.{Table}
+use Rattle.cal_machine.specs.Table.{Table, IsTable}
+use Rattle.cal_policy.specs.Judgement.Orderly.{IsOrderly}
 use Rattle.cal_policy.specs.Pass.{IsLegal}
+use Rattle.cal_policy.specs.Policies.{IsLegalBy}
 use Rattle.cal_policy.specs.declared.history.entry.PassEntry.{PassEntry}
+use Rattle.cal_policy.specs.declared.policy.Policy.{Policy}
 use Rattle.cal_trace.specs.History.Ranges.{IsSized}
 use Rattle.cal_trace.specs.History.Text.{history_text}
 use Rattle.cal_input.specs.Parts.{parts_of}
@@ -19,3 +22,8 @@ WithTableIsReadBack =
     IsSized history →
     recorded_run_of (front_of fronts.Table given ++ history_text history)
     ≡ Ok (record { table = table; history = history })
+
+-- a history of any policy is orderly
+abbrev pub HistoriesAreOrderly : Type 0
+HistoriesAreOrderly = (policy : Policy) (table : Table) (history : List PassEntry) →
+    IsTable table → IsLegalBy policy table history → IsOrderly table history

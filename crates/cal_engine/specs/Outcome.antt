@@ -2,7 +2,8 @@
 use Rattle.std.specs.Prelude.{◌++◌, ℕ, List, [], ◌∷◌, codes, decimal, Option, Result, Ok, Err}
 use Rattle.std.specs.Io.KnownBytes.{Appends}
 use Rattle.std.specs.List.{concat}
-use Rattle.cal_policy.specs.Verdict.{IsVerdict}
+use Rattle.cal_policy.specs.Policies.{IsVerdictBy}
+use Rattle.cal_policy.specs.declared.policy.Policy.{Policy}
 use Rattle.cal_policy.specs.declared.verdict.Verdict.{Verdict}
 use Rattle.cal_policy.specs.declared.verdict.Verdict.TheVariants.{Legal, Illegal}
 use Rattle.cal_trace.specs.History.Text.{history_text}
@@ -48,18 +49,20 @@ abbrev pub Reports : {T : Type 0} → Result T RunFault → Result Run RunFault 
 Reports (Ok _) outcome old new = Reported outcome old new
 Reports (Err f) outcome old new = Failed f outcome
 
--- the verdict is that of the history, and it was written
-pub record IsAudit (run : Run) (verdict : Verdict) (old new : Option (List ℕ)) : Type 0 where
-  pub right : IsVerdict run.table run.history verdict
+-- the verdict is that of the history by the policy, and it was written
+pub record IsAudit (policy : Policy) (run : Run) (verdict : Verdict) (old new : Option (List ℕ))
+    : Type 0 where
+  pub right : IsVerdictBy policy run.table run.history verdict
   pub written : Appends old new (audit_text run verdict)
 
 -- there is a run, and it was audited
-abbrev pub Audited : Verdict → Result Run RunFault → Option (List ℕ) → Option (List ℕ) → Type 0
-Audited verdict (Err f) old new = ⊥
-Audited verdict (Ok run) old new = IsAudit run verdict old new
+abbrev pub Audited : Policy → Verdict → Result Run RunFault → Option (List ℕ) →
+    Option (List ℕ) → Type 0
+Audited policy verdict (Err f) old new = ⊥
+Audited policy verdict (Ok run) old new = IsAudit policy run verdict old new
 
 -- the run was audited, or the fault says what it must of the input
-abbrev pub Audits : Result Verdict RunFault → Result Run RunFault → Option (List ℕ) →
+abbrev pub Audits : Policy → Result Verdict RunFault → Result Run RunFault → Option (List ℕ) →
     Option (List ℕ) → Type 0
-Audits (Ok verdict) outcome old new = Audited verdict outcome old new
-Audits (Err f) outcome old new = Failed f outcome
+Audits policy (Ok verdict) outcome old new = Audited policy verdict outcome old new
+Audits policy (Err f) outcome old new = Failed f outcome

@@ -2,11 +2,12 @@
 use Rattle.std.specs.Prelude.{◌≡◌, ◌++◌, ℕ, List, length, map, take, Bool, true, false, Option}
 use Rattle.std.specs.Prelude.{Result, Ok, Err, IsOk}
 use Rattle.std.specs.Io.KnownBytes.{Appends}
-use Rattle.cal_policy.specs.Pass.{IsLegal}
+use Rattle.cal_policy.specs.Policies.{IsLegalBy}
 use Rattle.cal_policy.specs.declared.history.entry.PassEntry.{PassEntry}
+use Rattle.cal_policy.specs.declared.policy.Policy.{Policy}
 use Rattle.cal_trace.specs.History.Text.{begun_text, history_text}
 use Rattle.cal_trace.specs.Report.Summary.{summary_text}
-use Rattle.cal_run.specs.Outcome.{IsRun, figures_of}
+use Rattle.cal_run.specs.Outcome.{IsRunBy, figures_of}
 use Rattle.cal_run.specs.declared.outcome.Outcome.{Outcome}
 use Rattle.cal_input.specs.Answers.{Failed}
 use Rattle.cal_input.specs.Parts.{RunInput}
@@ -45,36 +46,38 @@ abbrev pub written_text : RunAnswer → List ℕ → RunInput → Outcome → Li
 written_text answer given input outcome =
     front_of (run_front answer) given ++ run_text answer input outcome
 
--- a run on this came to some outcome, and this is the text of that
-pub record IsTextOfRun (answer : RunAnswer) (input : RunInput) (text : List ℕ) : Type 0 where
+-- a run on this by a policy came to some outcome, and this is the text of that
+pub record IsTextOfRun (policy : Policy) (answer : RunAnswer) (input : RunInput) (text : List ℕ)
+    : Type 0 where
   pub outcome : Outcome
-  pub run : IsRun input.table input.arrivals outcome
+  pub run : IsRunBy policy input.table input.arrivals outcome
   pub made : text ≡ run_text answer input outcome
 
 -- the input gives a run, and this is the text of one
-abbrev pub TellsRun : RunAnswer → Result RunInput RunFault → List ℕ → Type 0
-TellsRun answer (Err f) text = ⊥
-TellsRun answer (Ok input) text = IsTextOfRun answer input text
+abbrev pub TellsRun : Policy → RunAnswer → Result RunInput RunFault → List ℕ → Type 0
+TellsRun policy answer (Err f) text = ⊥
+TellsRun policy answer (Ok input) text = IsTextOfRun policy answer input text
 
--- a run on what this text gives came to some outcome, and all that is to be written of that was
--- written
-pub record IsWrittenRun (answer : RunAnswer) (given : List ℕ) (input : RunInput)
+-- a run by a policy on what this text gives came to some outcome, and all that is to be written of
+-- that was written
+pub record IsWrittenRun (policy : Policy) (answer : RunAnswer) (given : List ℕ) (input : RunInput)
     (old new : Option (List ℕ)) : Type 0 where
   pub outcome : Outcome
-  pub run : IsRun input.table input.arrivals outcome
+  pub run : IsRunBy policy input.table input.arrivals outcome
   pub written : Appends old new (written_text answer given input outcome)
 
 -- the input gives a run, and it was made and written
-abbrev pub WritesRun : RunAnswer → List ℕ → Result RunInput RunFault → Option (List ℕ) →
-    Option (List ℕ) → Type 0
-WritesRun answer given (Err f) old new = ⊥
-WritesRun answer given (Ok input) old new = IsWrittenRun answer given input old new
+abbrev pub WritesRun : Policy → RunAnswer → List ℕ → Result RunInput RunFault →
+    Option (List ℕ) → Option (List ℕ) → Type 0
+WritesRun policy answer given (Err f) old new = ⊥
+WritesRun policy answer given (Ok input) old new = IsWrittenRun policy answer given input old new
 
--- a run was made and written and nothing else, or the fault says what it must of the input
-abbrev pub Runs : {T : Type 0} → RunAnswer → Result T RunFault → List ℕ → Result RunInput RunFault
-    → Option (List ℕ) → Option (List ℕ) → Type 0
-Runs answer (Ok _) given input old new = WritesRun answer given input old new
-Runs answer (Err f) given input old new = Failed f input
+-- a run by a policy was made and written and nothing else, or the fault says what it must of the
+-- input
+abbrev pub Runs : {T : Type 0} → Policy → RunAnswer → Result T RunFault → List ℕ →
+    Result RunInput RunFault → Option (List ℕ) → Option (List ℕ) → Type 0
+Runs policy answer (Ok _) given input old new = WritesRun policy answer given input old new
+Runs policy answer (Err f) given input old new = Failed f input
 
 -- what is written of a run pass by pass: its history
 abbrev pub is_told : RunAnswer → Bool
@@ -82,34 +85,39 @@ is_told History = true
 is_told WithTable = true
 is_told _ = false
 
--- a legal history whose passes have the clocks and the bandwidth figures of the first passes that
--- are given; that its looks are those of a run is not said
-pub record AreFirstPasses (input : RunInput) (history : List PassEntry) : Type 0 where
-  pub legal : IsLegal input.table history
-  pub given : map figures_of history ≡ take (length history) input.arrivals.passes
+-- a history of the policy whose passes have the clocks and the bandwidth figures of the first passes
+-- that are given; that its looks are those of a run is not said
+pub record AreFirstPasses (policy : Policy) (input : RunInput) (history : List PassEntry) : Type 0
+  where
+    pub legal : IsLegalBy policy input.table history
+    pub given : map figures_of history ≡ take (length history) input.arrivals.passes
 
--- a run on this came to some outcome, and after this its history was written
-pub record IsTold (head : List ℕ) (input : RunInput) (old new : Option (List ℕ)) : Type 0 where
+-- a run on this by a policy came to some outcome, and after this its history was written
+pub record IsTold (policy : Policy) (head : List ℕ) (input : RunInput) (old new : Option (List ℕ))
+    : Type 0 where
   pub outcome : Outcome
-  pub run : IsRun input.table input.arrivals outcome
+  pub run : IsRunBy policy input.table input.arrivals outcome
   pub written : Appends old new (head ++ history_text outcome.history)
 
 -- memory was refused to a run on this while it was told: after this its history was written as far
 -- as it was made, all but the last row
-pub record IsBegunTold (head : List ℕ) (input : RunInput) (old new : Option (List ℕ)) : Type 0 where
+pub record IsBegunTold (policy : Policy) (head : List ℕ) (input : RunInput)
+    (old new : Option (List ℕ)) : Type 0 where
   pub history : List PassEntry
-  pub first : AreFirstPasses input history
+  pub first : AreFirstPasses policy input history
   pub written : Appends old new (head ++ begun_text history)
 
 -- the input gives a run, which was made and told
-abbrev pub Tells : List ℕ → Result RunInput RunFault → Option (List ℕ) → Option (List ℕ) → Type 0
-Tells head (Err f) old new = ⊥
-Tells head (Ok input) old new = IsTold head input old new
+abbrev pub Tells : Policy → List ℕ → Result RunInput RunFault → Option (List ℕ) →
+    Option (List ℕ) → Type 0
+Tells policy head (Err f) old new = ⊥
+Tells policy head (Ok input) old new = IsTold policy head input old new
 
 -- the input gives a run, of which this much was written where memory was refused in its midst
-abbrev pub Begins : List ℕ → Result RunInput RunFault → Option (List ℕ) → Option (List ℕ) → Type 0
-Begins head (Err f) old new = ⊥
-Begins head (Ok input) old new = IsBegunTold head input old new
+abbrev pub Begins : Policy → List ℕ → Result RunInput RunFault → Option (List ℕ) →
+    Option (List ℕ) → Type 0
+Begins policy head (Err f) old new = ⊥
+Begins policy head (Ok input) old new = IsBegunTold policy head input old new
 
 -- What a fault of a run in threads says of the input: that there is one for a run where a thread
 -- could not be started, since threads start after reading; any other says what it must.
@@ -117,9 +125,10 @@ abbrev pub FailedInThreads : {X : Type 0} → RunFault → Result X RunFault →
 FailedInThreads fault.Spawn input = IsOk input
 FailedInThreads f input = Failed f input
 
--- a run was made in threads and written and nothing else, or the fault says what it must of the
--- input
-abbrev pub RunsInThreads : {T : Type 0} → RunAnswer → Result T RunFault → List ℕ →
+-- a run by a policy was made in threads and written and nothing else, or the fault says what it must
+-- of the input
+abbrev pub RunsInThreads : {T : Type 0} → Policy → RunAnswer → Result T RunFault → List ℕ →
     Result RunInput RunFault → Option (List ℕ) → Option (List ℕ) → Type 0
-RunsInThreads answer (Ok _) given input old new = WritesRun answer given input old new
-RunsInThreads answer (Err f) given input old new = FailedInThreads f input
+RunsInThreads policy answer (Ok _) given input old new =
+    WritesRun policy answer given input old new
+RunsInThreads policy answer (Err f) given input old new = FailedInThreads f input

@@ -1,6 +1,6 @@
-//! A law over the definitions alone, the contract of a function that does nothing.
+//! Laws over the definitions alone, each the contract of a function that does nothing.
 
-ghost use Rattle.cal_engine.specs.Laws.{WithTableIsReadBack};
+ghost use Rattle.cal_engine.specs.Laws.{HistoriesAreOrderly, WithTableIsReadBack};
 
 use cal_trace::legal_is_read_back;
 
@@ -11,3 +11,8 @@ pub fn with_table_is_read_back()
 {
     legal_is_read_back();
 }
+
+/// A history of any policy is orderly.
+pub(crate) fn histories_are_orderly()
+    ensures { HistoriesAreOrderly }
+{}

@@ -19,15 +19,17 @@ pub use cal_input::{
     INPUT_LIMIT, RunFault, fault_line, fault_line_as, read_input, read_parts, recorded_passes,
     run_input, split_input, status,
 };
-pub use cal_policy::Verdict;
+pub use cal_policy::{Policy, Verdict};
 pub use command_words::command_line::{Asked, Job, VERSION, asked_by, words};
 pub use command_words::words_given::given_words;
 pub use jobs::answer::write_after_front;
-pub use jobs::auditing::run_audit;
-pub use jobs::deciding::{decide, decided_history, decided_run};
+pub use jobs::auditing::{run_audit, run_audit_by};
+pub use jobs::deciding::{
+    decide, decide_by, decided_history, decided_history_by, decided_run, decided_run_by,
+};
 pub use jobs::front::Front;
-pub use jobs::running::{RunAnswer, run_lockstep};
-pub use jobs::simulating::run_sim;
+pub use jobs::running::{RunAnswer, run_lockstep, run_lockstep_by};
+pub use jobs::simulating::{run_sim, run_sim_by};
 pub use laws::with_table_is_read_back;
-pub use program::{do_job, run_program};
+pub use program::{do_job, do_job_by, run_program};
 pub use shell::{end_with, refuse_words, words_after_first};

@@ -2,20 +2,22 @@
 //! out.
 
 ghost use Rattle.std.specs.Prelude.{◌≡◌, ◌≢◌, ◌⊎◌, IfErr, IfOk, IfSome, drop, false, map};
-ghost use Rattle.std.specs.Prelude.{string_bytes};
-ghost use Rattle.cal_engine.specs.CommandWords.{Asks};
-ghost use Rattle.cal_engine.specs.Program.{is_told_job, verdict_status, BeginsJob, DoesJob};
-ghost use Rattle.cal_engine.specs.Program.{EndsJob};
+ghost use Rattle.std.specs.Prelude.{Bool, Option, Some, string_bytes, unwrap_or};
+ghost use Rattle.cal_policy.specs.declared.policy.Policy.{Policy as PolicyOf};
+ghost use Rattle.cal_policy.specs.declared.policy.Policy.TheVariants.{Caladan};
+ghost use Rattle.cal_engine.specs.CommandWords.{AsksBy};
+ghost use Rattle.cal_engine.specs.Program.{is_told_job, verdict_status, BeginsJob, BeginsJobBy};
+ghost use Rattle.cal_engine.specs.Program.{DoesJob, DoesJobBy, EndsJobBy};
 ghost use Rattle.cal_engine.specs.declared.command_words.command_line.Job.{Job as JobOf};
 
-use crate::command_words::command_line::{Job, words};
-use crate::jobs::auditing::run_audit;
-use crate::jobs::deciding::decide;
-use crate::jobs::running::run_lockstep;
-use crate::jobs::simulating::run_sim;
+use crate::command_words::command_line::{Job, asked_by};
+use crate::jobs::auditing::run_audit_by;
+use crate::jobs::deciding::decide_by;
+use crate::jobs::running::run_lockstep_by;
+use crate::jobs::simulating::run_sim_by;
 use crate::shell::{end_with, refuse_words, words_after_first};
 use cal_input::RunFault;
-use cal_policy::Verdict;
+use cal_policy::{Policy, Verdict};
 use std::alloc::Global;
 use std::io::{Read, Write};
 use std::sync::Wait;
@@ -37,10 +39,13 @@ pub fn run_program<H: Threads + Wait + Sync, R: Read + Drop, W: Write, E: Write>
     output: &mut W,
     errors: &mut E,
 ) -> u8
-    // What the words ask for was done on the input, and the status is that of the answer.
-    ensures job { IfSome (R.remaining reader) (λ input. (job : JobOf) →
-        Asks (map string_bytes (drop 1 named.now)) job →
-        EndsJob job result input (W.contents output.old) (W.contents output.new)) }
+    // What the words ask for was done on the input by the policy that they name, else by Caladan's,
+    // and the status is that of the answer.
+    ensures job { IfSome (R.remaining reader) (λ input.
+        (policy : Option PolicyOf) → (explained : Bool) → (job : JobOf) →
+        AsksBy policy explained (map string_bytes (drop 1 named.now)) (Some job) →
+        EndsJobBy (unwrap_or policy Caladan) job result input (W.contents output.old)
+        (W.contents output.new)) }
     // Where the words or the input are refused nothing is written on the output.
     ensures refused { result ≡ 2 → output.new ≡ output.old }
 {
@@ -60,25 +65,27 @@ fn answer_words<H: Threads + Wait + Sync, R: Read + Drop, W: Write, E: Write>(
     output: &mut W,
     errors: &mut E,
 ) -> Result<u8, RunFault>
-    ensures job { IfSome (R.remaining reader) (λ input. (job : JobOf) →
-        Asks (map string_bytes (drop 1 named.now)) job →
-        DoesJob job result input (W.contents output.old) (W.contents output.new)) }
+    ensures job { IfSome (R.remaining reader) (λ input.
+        (policy : Option PolicyOf) → (explained : Bool) → (job : JobOf) →
+        AsksBy policy explained (map string_bytes (drop 1 named.now)) (Some job) →
+        DoesJobBy (unwrap_or policy Caladan) job result input (W.contents output.old)
+        (W.contents output.new)) }
     ensures refused { IfOk result (λ status. status ≡ 2 → output.new ≡ output.old) }
     ensures untouched { IfErr result (λ fault. fault ≢ RunFault.Write →
         fault ≢ RunFault.Memory → output.new ≡ output.old) }
 {
     let given = words_after_first(alloc, named)?;
-    match words(alloc, given.as_slice()) {
-        Ok(job) => do_job(rt, alloc, job, reader, output),
+    match asked_by(alloc, given.as_slice()) {
+        Ok(asked) => do_job_by(rt, alloc, asked.policy, asked.job, reader, output),
         Err(error) => refuse_words(&error, output, errors),
     }
 }
 
-/// Reads an input to its end, does a job on it, and answers the exit status where there is no fault:
-/// 1 after the audit of an illegal history, and else 0. The answer goes to `output`, and the faults
-/// are those of the job: of `decide`, `run_lockstep`, `run_sim` or `run_audit`.
+/// Reads an input to its end, does a job on it by `Policy::Caladan`, and answers the exit status where
+/// there is no fault: 1 after the audit of an illegal history, and else 0. The answer goes to
+/// `output`, and the faults are those of the job: of `decide`, `run_lockstep`, `run_sim` or
+/// `run_audit`.
 /// Only a run in threads uses `rt`, and waits, at its joins.
-#[tactic(auto, using(crate::proofs::BegunJobs::unbegun))]
 pub fn do_job<H: Threads + Wait + Sync, R: Read + Drop, W: Write>(
     rt: &H,
     alloc: Global,
@@ -102,21 +109,50 @@ pub fn do_job<H: Threads + Wait + Sync, R: Read + Drop, W: Write>(
         (output.new ≡ output.old) ⊎ IfSome (R.remaining reader) (λ input.
         BeginsJob job input (W.contents output.old) (W.contents output.new))) }
 {
+    do_job_by(rt, alloc, Policy::Caladan, job, reader, output)
+}
+
+/// `do_job` by this policy.
+#[tactic(auto, using(crate::proofs::BegunJobs::unbegun))]
+pub fn do_job_by<H: Threads + Wait + Sync, R: Read + Drop, W: Write>(
+    rt: &H,
+    alloc: Global,
+    policy: Policy,
+    job: Job,
+    reader: R,
+    output: &mut W,
+) -> Result<u8, RunFault>
+    // The job was done on this input, and the status is that of its answer; or the fault says what it
+    // must of the input.
+    ensures job { IfSome (R.remaining reader) (λ input.
+        DoesJobBy policy job result input (W.contents output.old) (W.contents output.new)) }
+    // 2 is the status of refused words and inputs alone.
+    ensures status { IfOk result (λ status. status ≢ 2) }
+    // After any fault but Write nothing is written on the output, but of a run that is told where
+    // memory was refused in its midst.
+    ensures untouched { IfErr result (λ fault. fault ≢ RunFault.Write →
+        (fault ≡ RunFault.Memory → is_told_job job ≡ false) → output.new ≡ output.old) }
+    // Where memory was refused in the midst of a run that is told, whole passes of its history were
+    // written.
+    ensures begun { IfErr result (λ fault. fault ≡ RunFault.Memory →
+        (output.new ≡ output.old) ⊎ IfSome (R.remaining reader) (λ input.
+        BeginsJobBy policy job input (W.contents output.old) (W.contents output.new))) }
+{
     match job {
         Job::Decide => {
-            decide(alloc, reader, output)?;
+            decide_by(alloc, policy, reader, output)?;
             Ok(0)
         }
         Job::Lockstep(answer) => {
-            run_lockstep(alloc, reader, answer, output)?;
+            run_lockstep_by(alloc, policy, reader, answer, output)?;
             Ok(0)
         }
         Job::Sim(answer) => {
-            run_sim(rt, alloc, reader, answer, output)?;
+            run_sim_by(rt, alloc, policy, reader, answer, output)?;
             Ok(0)
         }
         Job::Audit => {
-            let verdict = run_audit(alloc, reader, output)?;
+            let verdict = run_audit_by(alloc, policy, reader, output)?;
             Ok(verdict_status(verdict))
         }
     }

@@ -1,15 +1,17 @@
 //! The words of caladan_sim, among them the option `--explain`.
 
-ghost use Rattle.std.specs.Prelude.{◌≡◌, ◌≢◌, Bool, IfErr, IfOk, IfSome, Some, drop, map};
-ghost use Rattle.std.specs.Prelude.{string_bytes};
-ghost use Rattle.cal_engine.specs.CommandWords.{AsksFor};
-ghost use Rattle.cal_engine.specs.Program.{exit_status, EndsJob};
+ghost use Rattle.std.specs.Prelude.{◌≡◌, ◌≢◌, Bool, IfErr, IfOk, IfSome, Option, Some, drop, map};
+ghost use Rattle.std.specs.Prelude.{string_bytes, unwrap_or};
+ghost use Rattle.cal_policy.specs.declared.policy.Policy.{Policy as PolicyOf};
+ghost use Rattle.cal_policy.specs.declared.policy.Policy.TheVariants.{Caladan};
+ghost use Rattle.cal_engine.specs.CommandWords.{AsksBy};
+ghost use Rattle.cal_engine.specs.Program.{exit_status, EndsJobBy};
 ghost use Rattle.cal_engine.specs.declared.command_words.command_line.Job.{Job as JobOf};
 
 use crate::ending::end_explained;
 use crate::explaining::RefusedInput;
 use crate::grammar::TraceKind;
-use cal_engine::{Job, asked_by, do_job, end_with, refuse_words, words_after_first};
+use cal_engine::{Asked, Job, asked_by, do_job_by, end_with, refuse_words, words_after_first};
 use cal_input::{RunFault, read_input};
 use std::alloc::Global;
 use std::io::{Read, Write};
@@ -27,11 +29,13 @@ pub fn run_explained<H: Threads + Wait + Sync, R: Read + Drop, W: Write, E: Writ
     output: &mut W,
     errors: &mut E,
 ) -> u8
-    // What the words ask for, with `--explain` or without it, was done on the input, and the status
-    // is that of the answer.
-    ensures job { IfSome (R.remaining reader) (λ input. (explained : Bool) → (job : JobOf) →
-        AsksFor explained (map string_bytes (drop 1 named.now)) (Some job) →
-        EndsJob job result input (W.contents output.old) (W.contents output.new)) }
+    // What the words ask for, with `--explain` or without it, was done on the input by the policy that
+    // they name, else by Caladan's, and the status is that of the answer.
+    ensures job { IfSome (R.remaining reader) (λ input.
+        (policy : Option PolicyOf) → (explained : Bool) → (job : JobOf) →
+        AsksBy policy explained (map string_bytes (drop 1 named.now)) (Some job) →
+        EndsJobBy (unwrap_or policy Caladan) job result input (W.contents output.old)
+        (W.contents output.new)) }
     // Where the words or the input are refused nothing is written on the output.
     ensures refused { result ≡ 2 → output.new ≡ output.old }
 {
@@ -51,17 +55,19 @@ fn answer_words<H: Threads + Wait + Sync, R: Read + Drop, W: Write, E: Write>(
     output: &mut W,
     errors: &mut E,
 ) -> Result<u8, RunFault>
-    ensures job { IfSome (R.remaining reader) (λ input. (explained : Bool) → (job : JobOf) →
-        AsksFor explained (map string_bytes (drop 1 named.now)) (Some job) →
-        EndsJob job (exit_status result) input (W.contents output.old) (W.contents output.new)) }
+    ensures job { IfSome (R.remaining reader) (λ input.
+        (policy : Option PolicyOf) → (explained : Bool) → (job : JobOf) →
+        AsksBy policy explained (map string_bytes (drop 1 named.now)) (Some job) →
+        EndsJobBy (unwrap_or policy Caladan) job (exit_status result) input
+        (W.contents output.old) (W.contents output.new)) }
     ensures refused { IfOk result (λ status. status ≡ 2 → output.new ≡ output.old) }
     ensures untouched { IfErr result (λ fault. fault ≢ RunFault.Write →
         fault ≢ RunFault.Memory → output.new ≡ output.old) }
 {
     let given = words_after_first(alloc, named)?;
     match asked_by(alloc, given.as_slice()) {
-        Ok(asked) if asked.explained => explained_job(rt, alloc, asked.job, reader, output, errors),
-        Ok(asked) => do_job(rt, alloc, asked.job, reader, output),
+        Ok(asked) if asked.explained => explained_job(rt, alloc, asked, reader, output, errors),
+        Ok(asked) => do_job_by(rt, alloc, asked.policy, asked.job, reader, output),
         Err(error) => refuse_words(&error, output, errors),
     }
 }
@@ -71,25 +77,26 @@ fn answer_words<H: Threads + Wait + Sync, R: Read + Drop, W: Write, E: Write>(
 fn explained_job<H: Threads + Wait + Sync, R: Read + Drop, W: Write, E: Write>(
     rt: &H,
     alloc: Global,
-    job: Job,
+    asked: Asked,
     mut reader: R,
     output: &mut W,
     errors: &mut E,
 ) -> Result<u8, RunFault>
     ensures job { IfSome (R.remaining reader) (λ input.
-        EndsJob job (exit_status result) input (W.contents output.old) (W.contents output.new)) }
+        EndsJobBy asked.policy asked.job (exit_status result) input (W.contents output.old)
+        (W.contents output.new)) }
     ensures refused { IfOk result (λ status. status ≡ 2 → output.new ≡ output.old) }
     ensures untouched { IfErr result (λ fault. fault ≢ RunFault.Write →
         fault ≢ RunFault.Memory → output.new ≡ output.old) }
 {
     let input = read_input(alloc, &mut reader)?;
     let input = input.as_slice();
-    match do_job(rt, alloc, job, input, output) {
+    match do_job_by(rt, alloc, asked.policy, asked.job, input, output) {
         Ok(status) => Ok(status),
         Err(fault) => {
             let refused = RefusedInput {
                 input,
-                wanted: &[trace_of(job)],
+                wanted: &[trace_of(asked.job)],
                 tables: 1,
                 files: None,
             };

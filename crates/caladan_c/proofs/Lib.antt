@@ -1,4 +1,5 @@
 pub mod HandleLemmas
+mod Policies
 mod Passed
 mod Guarding
 mod OneMore

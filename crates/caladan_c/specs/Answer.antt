@@ -5,7 +5,7 @@ use Rattle.caladan_c.specs.declared.answer.Finding.TheVariants.{Stopped, Illegal
 use Rattle.caladan_c.specs.declared.answer.Refusal.{Refusal}
 use Rattle.caladan_c.specs.declared.answer.Refusal.TheVariants.{Memory, Closed, Open, WrongCount}
 use Rattle.caladan_c.specs.declared.answer.Refusal.TheVariants.{NoRoom, Unfit, NoSuch, NoAction}
-use Rattle.caladan_c.specs.declared.answer.Refusal.TheVariants.{NoJudgement, Lost}
+use Rattle.caladan_c.specs.declared.answer.Refusal.TheVariants.{NoJudgement, Lost, NoPolicy}
 
 -- why a call did nothing
 abbrev pub refusal_number : Refusal → ℕ
@@ -19,6 +19,7 @@ refusal_number NoSuch = 16
 refusal_number NoAction = 17
 refusal_number NoJudgement = 19
 refusal_number Lost = 21
+refusal_number NoPolicy = 22
 
 -- what a call found wrong in what it was given
 abbrev pub finding_number : Finding → ℕ

@@ -4,9 +4,10 @@ use Rattle.std.specs.Prelude.{Err}
 use Rattle.std.specs.Option.{IsSomeAnd}
 use Rattle.cal_machine.specs.Table.{Table}
 use Rattle.cal_machine.specs.declared.fault.ConfigFault.{ConfigFault}
-use Rattle.cal_policy.specs.Auditor.{IsAuditOf}
 use Rattle.cal_policy.specs.declared.auditor.Auditor.{Auditor}
 use Rattle.cal_policy.specs.declared.history.entry.PassEntry.{PassEntry}
+use Rattle.cal_policy.specs.declared.policy.Policy.{Policy}
+use Rattle.cal_policy.specs.Policies.{IsAuditBy}
 use Rattle.caladan_c.specs.Opening.{number_of}
 use Rattle.caladan_c.specs.Recorded.{IsToldOf}
 use Rattle.caladan_c.specs.declared.found.Found.{Found}
@@ -17,25 +18,27 @@ pub record AuditView : Type 0 where
   pub table : Table
   pub auditor : Auditor
 
--- it was handed these passes, and what it says is true of them
-abbrev pub HasAudited : AuditView → List PassEntry → Type 0
-HasAudited audit history = IsAuditOf audit.table history audit.auditor
+-- it was handed these passes, and what it says by this policy is true of them
+abbrev pub HasAudited : Policy → AuditView → List PassEntry → Type 0
+HasAudited policy audit history = IsAuditBy policy audit.table history audit.auditor
 
--- an audit of this table, of no pass
-pub record IsNewAudit (read : Table) (audit : AuditView) : Type 0 where
+-- an audit of this table by this policy, of no pass
+pub record IsNewAudit (policy : Policy) (read : Table) (audit : AuditView) : Type 0 where
   pub table : audit.table ≡ read
-  pub audits : HasAudited audit []
+  pub audits : HasAudited policy audit []
 
--- the number follows from the text: 0 and an audit of its table, or its first fault's
-abbrev pub SaysAudit : Result Table ConfigFault → ℕ → Option AuditView → Type 0
-SaysAudit (Ok table) number kept = (number ≡ 0) × IsSomeAnd kept (IsNewAudit table)
-SaysAudit (Err fault) number kept = number ≡ number_of fault
+-- the number follows from the text: 0 and an audit of its table by this policy, or its first
+-- fault's
+abbrev pub SaysAudit : Policy → Result Table ConfigFault → ℕ → Option AuditView → Type 0
+SaysAudit policy (Ok table) number kept =
+    (number ≡ 0) × IsSomeAnd kept (IsNewAudit policy table)
+SaysAudit policy (Err fault) number kept = number ≡ number_of fault
 
 -- the audit took this entry as the next pass of its history
 pub record TookNext (old : AuditView) (entry : PassEntry) (new : AuditView) : Type 0 where
   pub table : new.table ≡ old.table
-  pub audits : (h : List PassEntry) → length h < 2 ^ 64 → HasAudited old h →
-      HasAudited new (h ++ entry ∷ [])
+  pub audits : (policy : Policy) (h : List PassEntry) → length h < 2 ^ 64 →
+      HasAudited policy old h → HasAudited policy new (h ++ entry ∷ [])
 
 -- what was recorded is a pass, and the audit took it as the next one of its history
 pub record TookRecorded (old : AuditView) (now bandwidth : ℕ) (looks : List Found) (judged : List ℕ)

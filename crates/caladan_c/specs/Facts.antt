@@ -12,12 +12,13 @@ use Rattle.cal_policy.specs.declared.history.action.Action.TheVariants.{Free}
 use Rattle.cal_policy.specs.declared.history.entry.PassEntry.{PassEntry}
 use Rattle.cal_policy.specs.declared.history.input.Input.{Input}
 use Rattle.cal_policy.specs.declared.history.look.Seen.TheVariants as seen
+use Rattle.cal_policy.specs.declared.policy.Policy.{Policy}
 use Rattle.cal_policy.specs.Board.{placement_of}
 use Rattle.cal_policy.specs.History.{actions_of, looks_of, holder_of}
 use Rattle.cal_policy.specs.History.Looks.{kept_by}
 use Rattle.cal_policy.specs.Judgement.Gone.{shown_when_gone, IsKeptOfGone}
 use Rattle.cal_policy.specs.Judgement.OneByOne.{sent_as_u64}
-use Rattle.cal_policy.specs.Pass.{pass_of}
+use Rattle.cal_policy.specs.Policies.{pass_by}
 use Rattle.cal_policy.specs.Setting.{setting}
 use Rattle.cal_machine.specs.TableTasks.{threads_of_table, owner_of}
 use Rattle.cal_guard.specs.Permitted.{ArePermitted}
@@ -77,7 +78,7 @@ found_shown shown = record {
 -- the look of a thread that is gone: a pass takes it as it is and keeps it, and every pass with it
 -- frees each core that the thread holds or leaves. It has no room, and no pass grants a core to a
 -- thread whose ring has none (cal_laws: `commands_go_where_is_room`)
-pub record IsLookOfGone (table : Table) (history : List PassEntry) (k : ℕ)
+pub record IsLookOfGone (policy : Policy) (table : Table) (history : List PassEntry) (k : ℕ)
     (look : Found) : Type 0 where
   pub is : look ≡ found_shown (shown_when_gone history k)
   pub kept : IsKeptOfGone table history k
@@ -85,7 +86,7 @@ pub record IsLookOfGone (table : Table) (history : List PassEntry) (k : ℕ)
       (shown_when_gone history k).number (shown_when_gone history k).rec) →
       (c : ℕ) (p : placements.Placement) → c < table.cores →
       placement_of (holder_of (actions_of history) c) ≡ Some p → p.thread ≡ k →
-      Contains (pass_of (setting table history input)) (Free c)
+      Contains (pass_by policy (setting table history input)) (Free c)
 
 -- the same where somebody else chooses the actions: a pass takes it as it is and keeps it, and on
 -- every input with it the pass is permitted that frees one core which the thread holds or leaves,

@@ -6,6 +6,7 @@ pub mod Found
 pub mod Told
 pub mod Cores
 pub mod OneByOne
+pub mod PolicyNumbers
 pub mod Passing
 pub mod Opening
 pub mod Recorded

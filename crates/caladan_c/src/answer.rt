@@ -30,6 +30,8 @@ pub enum Refusal {
     NoJudgement = 19,
     /// No page can show that the thread is gone.
     Lost = 21,
+    /// No policy has this number.
+    NoPolicy = 22,
 }
 
 /// What a call found wrong in what it was given. `finding as u8` is its number.

@@ -3,11 +3,12 @@
 ghost use Rattle.std.specs.Prelude.{IfOk, List, []};
 ghost use Rattle.cal_machine.specs.Outcome.{Gives};
 ghost use Rattle.cal_machine.specs.Reading.{table_in};
-ghost use Rattle.cal_policy.specs.Verdict.{IsVerdict};
+ghost use Rattle.cal_policy.specs.Policies.{IsVerdictBy};
+ghost use Rattle.cal_policy.specs.declared.policy.Policy.{Policy as PolicyOf};
 ghost use Rattle.cal_policy.specs.declared.history.entry.PassEntry.{PassEntry};
 
 use cal_machine::{Config, ConfigFault};
-use cal_policy::{Auditor, PassEntry, Verdict};
+use cal_policy::{Auditor, PassEntry, Policy, Verdict};
 use std::alloc::Global;
 use std::marker::Model;
 
@@ -32,13 +33,13 @@ impl Model for Audit {
 ghost use Rattle.caladan_c.specs.AuditView.{HasAudited, TookNext};
 
 impl Audit {
-    /// An audit of this table that was handed no pass, or the table's fault.
-    pub fn open(alloc: Global, table: &[u8]) -> Result<Audit, ConfigFault>
+    /// An audit of this table by this policy that was handed no pass, or the table's fault.
+    pub fn open(alloc: Global, table: &[u8], policy: Policy) -> Result<Audit, ConfigFault>
         ensures table { Gives (λ audit. audit.table) result (table_in table.now) }
-        ensures new { IfOk result (λ audit. HasAudited audit []) }
+        ensures new { IfOk result (λ audit. HasAudited policy audit []) }
     {
         let config = Config::read(alloc, table)?;
-        let auditor = Auditor::open(alloc, &config)?;
+        let auditor = Auditor::open_by(alloc, &config, policy)?;
         Ok(Audit { config, auditor })
     }
 
@@ -51,7 +52,8 @@ impl Audit {
 
     /// What the audit says of the passes so far.
     pub fn verdict(&self) -> Verdict
-        ensures { (h : List PassEntry) → HasAudited self.now h → IsVerdict self.now.table h result }
+        ensures { (policy : PolicyOf) (h : List PassEntry) → HasAudited policy self.now h →
+            IsVerdictBy policy self.now.table h result }
     {
         self.auditor.verdict()
     }

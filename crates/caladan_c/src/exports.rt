@@ -52,21 +52,42 @@ macro_rules! did {
     };
 }
 
-/// Has a closed handle keep what was opened: 0, or the table's fault.
+/// Has a handle keep what was opened: 0, or the table's fault.
+macro_rules! kept_as {
+    ($Kind:ident: $handle:ident, $alloc:ident; $opened:expr) => {
+        match $opened {
+            Ok(opened) => match Box::new($alloc, Kept::$Kind(opened)) {
+                Ok(kept) => {
+                    *$handle = Handle::of(kept);
+                    0
+                }
+                Err(_) => Refusal::Memory as u8,
+            },
+            Err(fault) => fault as u8,
+        }
+    };
+}
+
+/// The same of a closed handle; an open one keeps what it keeps.
 macro_rules! opened {
     ($Kind:ident: $handle:ident, $alloc:ident; $opened:expr) => {
         if $handle.is_open() {
             Refusal::Open as u8
         } else {
-            match $opened {
-                Ok(opened) => match Box::new($alloc, Kept::$Kind(opened)) {
-                    Ok(kept) => {
-                        *$handle = Handle::of(kept);
-                        0
-                    }
-                    Err(_) => Refusal::Memory as u8,
-                },
-                Err(fault) => fault as u8,
+            kept_as!($Kind: $handle, $alloc; $opened)
+        }
+    };
+}
+
+/// The same by the policy of a number, where one has it.
+macro_rules! opened_by {
+    ($Kind:ident: $handle:ident, $alloc:ident, $number:ident; $policy:ident => $opened:expr) => {
+        if $handle.is_open() {
+            Refusal::Open as u8
+        } else {
+            match policy_numbered($number) {
+                Some($policy) => kept_as!($Kind: $handle, $alloc; $opened),
+                None => Refusal::NoPolicy as u8,
             }
         }
     };

@@ -22,6 +22,7 @@ mod gone;
 mod handed_in;
 mod input;
 mod judging;
+mod policy_numbers;
 mod recorded;
 mod told;
 mod walk;

@@ -14,12 +14,11 @@ use crate::answer::Refusal;
 use crate::handed_in::HandedIn;
 use crate::told::judgement::tell_looks;
 use crate::walk::{Basis, take_looks};
+use cal_guard::{each_policy_is_permitted, permitted_settled_is_no_news};
 use cal_machine::{Config, ConfigFault};
-use cal_policy::laws::{
-    legal_is_short, one_pass_more_is_legal, open_pass_fits, settled_is_no_news,
-};
+use cal_policy::laws::{legal_is_short, nothing_is_legal, one_pass_more_is_legal, open_pass_fits};
 use cal_policy::state::Board;
-use cal_policy::{Action, Actions, Book, OpenPass};
+use cal_policy::{Action, Actions, Book, OpenPass, Policy};
 use std::alloc::Global;
 use std::marker::Model;
 
@@ -45,23 +44,25 @@ impl Model for Scheduler {
     ghost invariant = { λ s. IsReady s.config (board_in s.book) };
 }
 
-ghost use Rattle.cal_policy.specs.Book.{board_in, AfterLegal};
-ghost use Rattle.cal_policy.specs.Pass.{IsLegal};
+ghost use Rattle.cal_policy.specs.Book.{board_in};
+ghost use Rattle.cal_policy.specs.Policies.{IsLegalBy};
 ghost use Rattle.cal_policy.specs.State.{IsReady, IsStateAfter};
-ghost use Rattle.caladan_c.specs.Passing.{MadePass};
+ghost use Rattle.caladan_c.specs.Passing.{AfterOwn, MadePass};
 ghost use Rattle.caladan_c.specs.Told.{AreJudgements};
 ghost use Rattle.caladan_c.specs.declared.answer.Refusal.TheVariants.{Unfit};
 
 impl Scheduler {
-    /// A scheduler of this table that has made no pass, or the table's fault. It takes all the
-    /// memory that its passes need.
-    pub fn open(alloc: Global, table: &[u8]) -> Result<Scheduler, ConfigFault>
+    /// A scheduler of this table by this policy that has made no pass, or the table's fault. It
+    /// takes all the memory that its passes need.
+    pub fn open(alloc: Global, table: &[u8], policy: Policy) -> Result<Scheduler, ConfigFault>
         ensures table { Gives (λ scheduler. scheduler.table) result (table_in table.now) }
-        ensures new { IfOk result (λ scheduler. IsLegal scheduler.table []
-            × IsStateAfter (board_in scheduler.book) []) }
+        ensures policy { IfOk result (λ scheduler. scheduler.book.policy ≡ policy) }
+        ensures legal { IfOk result (λ scheduler. IsLegalBy policy scheduler.table []) }
+        ensures new { IfOk result (λ scheduler. IsStateAfter (board_in scheduler.book) []) }
     {
+        nothing_is_legal();
         let config = Config::read(alloc, table)?;
-        let book = Book::open(alloc, &config)?;
+        let book = Book::open_by(alloc, &config, policy)?;
         let made = Actions::reserved(alloc)?;
         let looks = Box::new(alloc, OpenPass::new())?;
         Ok(Scheduler {
@@ -107,11 +108,11 @@ impl Scheduler {
     pub fn pass(&mut self, given: HandedIn<'_>, judged: &mut [u8]) -> Result<(), Refusal>
         requires count { length given.looks.now ≡ threads_of_table self.old.table }
         requires room { threads_of_table self.old.table ≤ length judged.old }
-        ensures passed { IfOk result (λ _. AfterLegal self.old.table self.old.book (λ h.
+        ensures passed { IfOk result (λ _. AfterOwn self.old.table self.old.book (λ h.
             MadePass self.old h (input_given self.old.table h given.entry) self.new)) }
-        ensures judged { IfOk result (λ _. AfterLegal self.old.table self.old.book (λ h.
+        ensures judged { IfOk result (λ _. AfterOwn self.old.table self.old.book (λ h.
             AreJudgements (input_given self.old.table h given.entry).seen judged.new)) }
-        ensures unfit { result ≡ Err Unfit → AfterLegal self.old.table self.old.book (λ h.
+        ensures unfit { result ≡ Err Unfit → AfterOwn self.old.table self.old.book (λ h.
             IsInput self.old.table h (input_given self.old.table h given.entry) → ⊥) }
         ensures why { IfErr result (λ why. why ≡ Unfit) }
         ensures refused { OnErr result ((self.new ≡ self.old) × (judged.new ≡ judged.old)) }
@@ -125,7 +126,8 @@ impl Scheduler {
             given.looks,
         )?;
         self.config.limits();
-        settled_is_no_news();
+        each_policy_is_permitted();
+        permitted_settled_is_no_news();
         open_pass_fits();
         legal_is_short();
         one_pass_more_is_legal();

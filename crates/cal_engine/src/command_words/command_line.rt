@@ -1,21 +1,28 @@
 //! What the words of a command line ask for.
 
 ghost use Rattle.std.specs.Prelude.{◌≡◌, Bool, false, map, IfOk, None, Option, Some, true};
+ghost use Rattle.std.specs.Prelude.{option_map, unwrap_or};
 ghost use Rattle.clap.specs.Words.{app_of, subcommand_rows_of};
 ghost use Rattle.clap.specs.declared.builder.command.Command.TheViews.{out-Command};
-ghost use Rattle.clap.specs.Simple.{new_app, with_subcommand};
+ghost use Rattle.clap.specs.Simple.{new_app, subcommand_of, with_subcommand};
+ghost use Rattle.clap.specs.Takes.{takes};
 ghost use Rattle.clap.specs.Matches.{found_of};
 ghost use Rattle.clap.specs.Values.{kind_of};
 ghost use Rattle.clap.specs.Walk.{rows_of, rule_of};
 ghost use Rattle.clap.specs.declared.error.kind.ErrorKind.TheVariants as kind;
-ghost use Rattle.cal_engine.specs.CommandWords.{AsksFor, AsksTwo, Explains, FlagsAsk, IsAsked};
-ghost use Rattle.cal_engine.specs.CommandWords.{IsConflict, IsJob, Names, answer_of, bare_program};
-ghost use Rattle.cal_engine.specs.CommandWords.{flag, job_of, lone_word, program, run_word};
+ghost use Rattle.cal_policy.specs.declared.policy.Policy.{Policy as PolicyOf};
+ghost use Rattle.cal_policy.specs.declared.policy.Policy.TheVariants.{Caladan};
+ghost use Rattle.cal_engine.specs.CommandWords.{AsksBy, AsksTwo, Explains, FlagsAsk, IsAsked};
+ghost use Rattle.cal_engine.specs.CommandWords.{IsConflict, IsJob, IsNoPolicy, Names, answer_of};
+ghost use Rattle.cal_engine.specs.CommandWords.{bare_program, flag, job_of, lone_word};
+ghost use Rattle.cal_engine.specs.CommandWords.{policy_asked, policy_of, policy_word, program};
+ghost use Rattle.cal_engine.specs.CommandWords.{run_word};
 ghost use Rattle.cal_engine.specs.declared.command_words.command_line.Job.{Job as JobOf};
 ghost use Rattle.cal_engine.specs.declared.jobs.running.RunAnswer.{RunAnswer as RunAnswerOf};
 
 use crate::command_words::help_texts::{self, Help};
 use crate::jobs::running::RunAnswer;
+use cal_policy::Policy;
 use clap::error::ErrorKind;
 use clap::{Arg, ArgAction, ArgMatches, Command, Error};
 use std::alloc::{AllocError, Global};
@@ -45,14 +52,17 @@ pub enum Job {
 pub struct Asked {
     /// What the program is to do with its input.
     pub job: Job,
+    /// The policy that it is to go by: `--policy NAME` after the word, else `Policy::Caladan`.
+    pub policy: Policy,
     /// Whether it is to say why the input is refused, if it is: `--explain` after the word.
     pub explained: bool,
 }
 
 /// The job that the words after the program's name ask for, as `asked_by` says.
 pub fn words<'a>(alloc: Global, words: &'a [&'a str]) -> Result<Job, Error>
-    ensures job { (explained : Bool) → (job : Job) →
-        AsksFor explained (map (λ word. word.now) words.now) (Some job) → IsJob job result }
+    ensures job { (policy : Option PolicyOf) (explained : Bool) → (job : Job) →
+        AsksBy policy explained (map (λ word. word.now) words.now) (Some job) →
+        IsJob job result }
     ensures two { (explained : Bool) →
         AsksTwo explained (map (λ word. word.now) words.now) → IsConflict result }
 {
@@ -64,22 +74,80 @@ pub fn words<'a>(alloc: Global, words: &'a [&'a str]) -> Result<Job, Error>
 
 /// What the words after the program's name ask for; no words are `Job::Decide`.
 ///
-/// The error is clap's own. A word that is not in the table is refused; more than one of
-/// `--summary`, `--report` and `--table` is an error of the kind `ArgumentConflict`; a request for
-/// help is an error of the kind `DisplayHelp`, one for the version of the kind `DisplayVersion`,
-/// whose texts go to the standard output; out of memory has the kind `OutOfMemory`.
+/// The error is clap's own. A word that is not in the table is refused; a name after `--policy` that
+/// no policy has is an error of the kind `InvalidValue`; more than one of `--summary`, `--report` and
+/// `--table` is one of the kind `ArgumentConflict`; a request for help is an error of the kind
+/// `DisplayHelp`, one for the version of the kind `DisplayVersion`, whose texts go to the standard
+/// output; out of memory has the kind `OutOfMemory`.
 pub fn asked_by<'a>(alloc: Global, words: &'a [&'a str]) -> Result<Asked, Error>
-    ensures job { (explained : Bool) → (job : Job) →
-        AsksFor explained (map (λ word. word.now) words.now) (Some job) →
-        IsAsked job explained result }
+    ensures job { (policy : Option PolicyOf) (explained : Bool) → (job : Job) →
+        AsksBy policy explained (map (λ word. word.now) words.now) (Some job) →
+        IsAsked job (unwrap_or policy Caladan) explained result }
     ensures two { (explained : Bool) →
         AsksTwo explained (map (λ word. word.now) words.now) → IsConflict result }
+    // Words that are in the table, but for the name of a policy.
+    ensures no_policy { takes program (map (λ word. word.now) words.now) ≡ true →
+        policy_asked (subcommand_of program (map (λ word. word.now) words.now)) ≡ None →
+        IsNoPolicy result }
 {
     let matches = program(alloc)?.try_get_matches_from(words)?;
-    let explained = is_explained(&matches);
-    match job_named(&matches) {
-        Some(job) => Ok(Asked { job, explained }),
-        None => Err(conflict(alloc, &matches)?),
+    asked_of(alloc, &matches)
+}
+
+/// What a parsed command line asks for.
+fn asked_of(alloc: Global, matches: &ArgMatches) -> Result<Asked, Error>
+    ensures job { (policy : PolicyOf) (explained : Bool) → (job : JobOf) →
+        policy_asked (subcommand_rows_of matches.now) ≡ Some policy →
+        Explains (subcommand_rows_of matches.now) explained →
+        Names (subcommand_rows_of matches.now) (Some job) → IsAsked job policy explained result }
+    ensures two { (policy : PolicyOf) →
+        policy_asked (subcommand_rows_of matches.now) ≡ Some policy →
+        Names (subcommand_rows_of matches.now) None → IsConflict result }
+    ensures no_policy { policy_asked (subcommand_rows_of matches.now) ≡ None →
+        IsNoPolicy result }
+{
+    match policy_asked(matches) {
+        Some(policy) => asked_with(alloc, matches, policy),
+        None => Err(no_policy(alloc, matches)?),
+    }
+}
+
+/// The same by this policy, which it asks for.
+fn asked_with(alloc: Global, matches: &ArgMatches, policy: Policy) -> Result<Asked, Error>
+    ensures job { (explained : Bool) → (job : JobOf) →
+        Explains (subcommand_rows_of matches.now) explained →
+        Names (subcommand_rows_of matches.now) (Some job) → IsAsked job policy explained result }
+    ensures two { Names (subcommand_rows_of matches.now) None → IsConflict result }
+{
+    let explained = is_explained(matches);
+    match job_named(matches) {
+        Some(job) => Ok(Asked {
+            job,
+            policy,
+            explained,
+        }),
+        None => Err(conflict(alloc, matches)?),
+    }
+}
+
+/// The policy of the name that stands after the subcommand's `--policy`, `Policy::Caladan` where that
+/// does not; none where no policy has the name.
+fn policy_asked(matches: &ArgMatches) -> Option<Policy>
+    ensures { result ≡ policy_asked (subcommand_rows_of matches.now) }
+{
+    match matches.subcommand() {
+        Some((_, own)) => policy_of(own.get_str("policy")),
+        None => Some(Policy::Caladan),
+    }
+}
+
+/// The policy of this name, `Policy::Caladan` without one; none where no policy has it.
+fn policy_of(name: Option<&str>) -> Option<Policy>
+    ensures { result ≡ policy_of (option_map (λ text. text.now) name.entry) }
+{
+    match name {
+        Some(name) => Policy::named(name),
+        None => Some(Policy::Caladan),
     }
 }
 
@@ -94,6 +162,24 @@ fn is_explained(matches: &ArgMatches) -> bool
     }
 }
 
+/// That no policy has the name that stands after `--policy`. Fails only when out of memory.
+fn no_policy(alloc: Global, matches: &ArgMatches) -> Result<Error, AllocError>
+    ensures { IfOk result (λ error. kind_of error ≡ kind.InvalidValue) }
+{
+    let (word, name) = match matches.subcommand() {
+        Some((word, own)) => (word, own.get_str("policy").unwrap_or("")),
+        None => ("", ""),
+    };
+    let said = not_a_policy(alloc, name)?;
+    refused(alloc, word, ErrorKind::InvalidValue, said.as_str())
+}
+
+/// What is said of a name that no policy has. Fails only when out of memory.
+fn not_a_policy(alloc: Global, name: &str) -> Result<String, AllocError> {
+    let names = POLICIES;
+    format!(in alloc; "invalid value '{name}' for '--policy <NAME>'\n  [possible values: {names}]")
+}
+
 /// That more than one answer is asked for at once, after the word for a run. Fails only when out of
 /// memory.
 fn conflict(alloc: Global, matches: &ArgMatches) -> Result<Error, AllocError>
@@ -103,9 +189,16 @@ fn conflict(alloc: Global, matches: &ArgMatches) -> Result<Error, AllocError>
         Some((word, flags)) => (word, conflict_of(flags)),
         None => ("", conflict_of(matches)),
     };
+    refused(alloc, word, ErrorKind::ArgumentConflict, said)
+}
+
+/// The error of this kind of what stands after a word. Fails only when out of memory.
+fn refused(alloc: Global, word: &str, why: ErrorKind, said: &str) -> Result<Error, AllocError>
+    ensures { IfOk result (λ error. kind_of error ≡ why) }
+{
     let called = format!(in alloc; "caladan_sim {word}")?;
     let mut command = run_word(alloc, word, help_texts::NOTHING)?.bin_name(called.as_str())?;
-    command.error(ErrorKind::ArgumentConflict, said)
+    command.error(why, said)
 }
 
 /// Which flags ask for two answers.
@@ -176,12 +269,14 @@ fn plain_word<'a>(alloc: Global, word: &'a str, help: Help) -> Command<'a>
         .after_long_help(help.after)
 }
 
-/// A word that asks for its job alone, after which `--explain` may stand.
+/// A word that asks for its job alone, after which `--policy` and `--explain` may stand.
 fn lone_word<'a>(alloc: Global, word: &'a str, help: Help) -> Result<Command<'a>, AllocError>
     ensures shape { IfOk result (λ command. app_of command ≡ lone_word word.entry.now) }
     ensures local { IfOk result (λ command. (out-Command command).has_globals ≡ false) }
 {
-    plain_word(alloc, word, help).arg(flag(alloc, "explain", EXPLAIN))
+    plain_word(alloc, word, help)
+        .arg(policy_word(alloc))?
+        .arg(flag(alloc, "explain", EXPLAIN))
 }
 
 /// A word for a run, after which the flag for its summary, its report or its table may stand too.
@@ -201,7 +296,23 @@ fn run_word<'a>(alloc: Global, word: &'a str, help: Help) -> Result<Command<'a>,
             "table",
             "Put the task table and the line --- in front",
         ))?
+        .arg(policy_word(alloc))?
         .arg(flag(alloc, "explain", EXPLAIN))
+}
+
+/// The names of the policies, as help and refusals list them.
+const POLICIES: &str = "caladan";
+
+/// The option `--policy`, after which the name of a policy stands.
+fn policy_word<'a>(alloc: Global) -> Arg<'a>
+    ensures shape { rule_of result ≡ policy_word }
+    ensures local { result.global ≡ false }
+{
+    Arg::new(alloc, "policy")
+        .long("policy")
+        .action(ArgAction::Set)
+        .value_name("NAME")
+        .help("The policy to go by: caladan [default: caladan]")
 }
 
 /// What help says of `--explain`.

@@ -3,16 +3,16 @@
 ghost use Rattle.std.specs.Prelude.{◌≡◌, List, length, IfOk, IfErr};
 ghost use Rattle.std.specs.List.{AllZip};
 ghost use Rattle.cal_kthread.specs.declared.journal.entry.Entry.{Entry};
-ghost use Rattle.cal_policy.specs.Pass.{IsLegal};
+ghost use Rattle.cal_policy.specs.Policies.{IsLegalBy};
 ghost use Rattle.cal_run.specs.Outcome.{outcome_of};
 ghost use Rattle.cal_trace.specs.Report.Summary.{IsTallyOf, summary_text};
 ghost use Rattle.cal_engine.specs.Running.{run_text};
 
 use crate::jobs::accepted::AcceptedInput;
 use crate::jobs::running::RunAnswer;
+use crate::laws::histories_are_orderly;
 use cal_input::RunFault;
 use cal_kthread::{Journal, RequestList};
-use cal_policy::laws::legal_is_orderly;
 use cal_run::{RunEnd, TalliedEnd};
 use cal_trace::{Arrivals, write_history, write_report, write_summary, write_tallied_summary};
 use std::alloc::Global;
@@ -24,14 +24,14 @@ pub(crate) fn run_text(
     accepted: &AcceptedInput<'_>,
     end: &RunEnd,
 ) -> Result<Vec<u8>, RunFault>
-    requires legal { IsLegal accepted.now.config.now end.now.history }
+    requires legal { IsLegalBy accepted.now.policy accepted.now.config.now end.now.history }
     ensures text { IfOk result (λ text. text.items ≡ run_text answer
         (record { table = accepted.now.config.now; arrivals = accepted.now.arrivals.now })
         (outcome_of end.now)) }
     ensures kind { IfErr result (λ fault. fault ≡ RunFault.Memory) }
 {
     accepted.config.limits();
-    legal_is_orderly();
+    histories_are_orderly();
     let mut text = Vec::new(alloc);
     let written = match answer {
         RunAnswer::History | RunAnswer::WithTable => {

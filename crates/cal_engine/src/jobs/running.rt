@@ -1,6 +1,7 @@
 //! Whole runs on the arrivals of an input.
 
 ghost use Rattle.std.specs.Prelude.{◌≡◌, ◌≢◌, ◌⊎◌, Err, IfOk, IfErr, IfSome, OnOk, false};
+ghost use Rattle.cal_policy.specs.declared.policy.Policy.TheVariants.{Caladan};
 ghost use Rattle.cal_trace.specs.Arrivals.FitsTable.{FitsTable};
 ghost use Rattle.cal_input.specs.Answers.{Decided, Failed};
 ghost use Rattle.cal_input.specs.Parts.{run_input_of, within_limit};
@@ -14,7 +15,8 @@ use crate::jobs::front::Front;
 use crate::jobs::run_text::{run_text, tallied_summary};
 use crate::jobs::telling::tell_lockstep;
 use cal_input::{RunFault, read_input, run_input};
-use cal_run::{lockstep_end, lockstep_tallied};
+use cal_policy::Policy;
+use cal_run::{lockstep_end_by, lockstep_tallied_by};
 use std::alloc::Global;
 use std::io::{Read, Write};
 
@@ -31,24 +33,25 @@ pub enum RunAnswer {
     Report,
 }
 
-/// Reads an input of a task table and arrivals to its end, makes a whole run of them on one thread,
-/// and writes what is asked for and nothing else: its history as a file, its summary or its report.
-/// Nothing is written before the input was accepted. A history is written pass by pass, each as soon
-/// as its round was made, and no pass is kept; a summary or a report is in memory first.
+/// Reads an input of a task table and arrivals to its end, makes a whole run of them on one thread by
+/// `Policy::Caladan`, and writes what is asked for and nothing else: its history as a file, its
+/// summary or its report. Nothing is written before the input was accepted. A history is written pass
+/// by pass, each as soon as its round was made, and no pass is kept; a summary or a report is in
+/// memory first.
 ///
 /// The faults come in this order: `Read` or `Length`, whichever comes first, `Separator`, `Config`,
 /// `Trace`, `Write`. `Memory` may come at any place, and only where memory was refused: of a history
 /// nothing was written then, or what stands before it, its first row and whole passes.
 pub fn run_lockstep<R: Read + Drop, W: Write>(
     alloc: Global,
-    mut reader: R,
+    reader: R,
     answer: RunAnswer,
     writer: &mut W,
 ) -> Result<(), RunFault>
     // The text of a run on the input was written and nothing else, or the fault is the input's
     // first.
     ensures exact { IfSome (R.remaining reader) (λ input.
-        Runs answer result input (within_limit input (run_input_of input))
+        Runs Caladan answer result input (within_limit input (run_input_of input))
         (W.contents writer.old) (W.contents writer.new)) }
     // Nothing is written before the input was accepted, and but for a history nothing before the
     // run was made.
@@ -57,7 +60,35 @@ pub fn run_lockstep<R: Read + Drop, W: Write>(
     // Where memory was refused in the midst of the run, whole passes of its history were written.
     ensures begun { IfErr result (λ fault. fault ≡ RunFault.Memory →
         (writer.new ≡ writer.old) ⊎ IfSome (R.remaining reader) (λ input.
-        Begins (front_of (run_front answer) input) (within_limit input (run_input_of input))
+        Begins Caladan (front_of (run_front answer) input) (within_limit input (run_input_of input))
+        (W.contents writer.old) (W.contents writer.new))) }
+    // No thread is started, and no gate asked.
+    ensures alone { IfErr result (λ fault. (fault ≢ RunFault.Spawn) × (fault ≢ RunFault.Gate)) }
+{
+    run_lockstep_by(alloc, Policy::Caladan, reader, answer, writer)
+}
+
+/// `run_lockstep` by this policy.
+pub fn run_lockstep_by<R: Read + Drop, W: Write>(
+    alloc: Global,
+    policy: Policy,
+    mut reader: R,
+    answer: RunAnswer,
+    writer: &mut W,
+) -> Result<(), RunFault>
+    // The text of a run on the input was written and nothing else, or the fault is the input's
+    // first.
+    ensures exact { IfSome (R.remaining reader) (λ input.
+        Runs policy answer result input (within_limit input (run_input_of input))
+        (W.contents writer.old) (W.contents writer.new)) }
+    // Nothing is written before the input was accepted, and but for a history nothing before the
+    // run was made.
+    ensures untouched { IfErr result (λ fault. fault ≢ RunFault.Write →
+        (fault ≡ RunFault.Memory → is_told answer ≡ false) → writer.new ≡ writer.old) }
+    // Where memory was refused in the midst of the run, whole passes of its history were written.
+    ensures begun { IfErr result (λ fault. fault ≡ RunFault.Memory →
+        (writer.new ≡ writer.old) ⊎ IfSome (R.remaining reader) (λ input.
+        Begins policy (front_of (run_front answer) input) (within_limit input (run_input_of input))
         (W.contents writer.old) (W.contents writer.new))) }
     // No thread is started, and no gate asked.
     ensures alone { IfErr result (λ fault. (fault ≢ RunFault.Spawn) × (fault ≢ RunFault.Gate)) }
@@ -66,9 +97,9 @@ pub fn run_lockstep<R: Read + Drop, W: Write>(
     let given = input.as_slice();
     let front = run_front(answer);
     if is_told(answer) {
-        return told_input(alloc, front, given, writer);
+        return told_input(alloc, policy, front, given, writer);
     }
-    let text = lockstep_text(alloc, answer, given)?;
+    let text = lockstep_text(alloc, policy, answer, given)?;
     write_after_front(front, given, text.as_slice(), writer)
 }
 
@@ -86,15 +117,16 @@ fn is_told(answer: RunAnswer) -> bool
 /// what stands before it. The faults are those of `run_lockstep` for an input in memory.
 fn told_input<W: Write>(
     alloc: Global,
+    policy: Policy,
     front: Front,
     input: &[u8],
     writer: &mut W,
 ) -> Result<(), RunFault>
-    ensures told { OnOk result (Tells (front_of front input.now) (run_input_of input.now)
+    ensures told { OnOk result (Tells policy (front_of front input.now) (run_input_of input.now)
         (W.contents writer.old) (W.contents writer.new)) }
     ensures begun { IfErr result (λ fault. fault ≡ RunFault.Memory →
-        (writer.new ≡ writer.old) ⊎ Begins (front_of front input.now) (run_input_of input.now)
-        (W.contents writer.old) (W.contents writer.new)) }
+        (writer.new ≡ writer.old) ⊎ Begins policy (front_of front input.now)
+        (run_input_of input.now) (W.contents writer.old) (W.contents writer.new)) }
     ensures fault { IfErr result (λ fault. Failed fault (run_input_of input.now)) }
     ensures untouched { IfErr result (λ fault. fault ≢ RunFault.Write →
         fault ≢ RunFault.Memory → writer.new ≡ writer.old) }
@@ -104,6 +136,7 @@ fn told_input<W: Write>(
         input,
         config: &config,
         arrivals: &arrivals,
+        policy,
     };
     tell_lockstep(alloc, front, &accepted, writer)
 }
@@ -119,8 +152,13 @@ pub(crate) fn run_front(answer: RunAnswer) -> Front
 }
 
 /// What is written of a run on one thread on the arrivals of an input, in memory.
-fn lockstep_text(alloc: Global, answer: RunAnswer, input: &[u8]) -> Result<Vec<u8>, RunFault>
-    ensures text { IfOk result (λ text. TellsRun answer (run_input_of input.now) text.items) }
+fn lockstep_text(
+    alloc: Global,
+    policy: Policy,
+    answer: RunAnswer,
+    input: &[u8],
+) -> Result<Vec<u8>, RunFault>
+    ensures text { IfOk result (λ text. TellsRun policy answer (run_input_of input.now) text.items) }
     ensures fault { IfErr result (λ fault. Decided fault (run_input_of input.now ≡ Err fault)) }
 {
     let (config, arrivals) = run_input(alloc, input)?;
@@ -128,6 +166,7 @@ fn lockstep_text(alloc: Global, answer: RunAnswer, input: &[u8]) -> Result<Vec<u
         input,
         config: &config,
         arrivals: &arrivals,
+        policy,
     };
     lockstep_on(alloc, answer, &accepted)
 }
@@ -140,20 +179,20 @@ fn lockstep_on(
     accepted: &AcceptedInput<'_>,
 ) -> Result<Vec<u8>, RunFault>
     requires fits { FitsTable accepted.now.config.now accepted.now.arrivals.now }
-    ensures text { IfOk result (λ text. IsTextOfRun answer
+    ensures text { IfOk result (λ text. IsTextOfRun accepted.now.policy answer
         (record { table = accepted.now.config.now; arrivals = accepted.now.arrivals.now })
         text.items) }
     ensures kind { IfErr result (λ fault. fault ≡ RunFault.Memory) }
 {
-    let (config, arrivals) = (accepted.config, accepted.arrivals);
+    let (config, arrivals, policy) = (accepted.config, accepted.arrivals, accepted.policy);
     match answer {
         // A summary counts what the threads do, so neither passes nor journals are kept.
         RunAnswer::Summary => {
-            let end = lockstep_tallied(alloc, config, arrivals)?;
+            let end = lockstep_tallied_by(alloc, config, policy, arrivals)?;
             tallied_summary(alloc, arrivals, &end)
         }
         _ => {
-            let end = lockstep_end(alloc, config, arrivals)?;
+            let end = lockstep_end_by(alloc, config, policy, arrivals)?;
             run_text(alloc, answer, accepted, &end)
         }
     }

@@ -19,8 +19,7 @@ use crate::jobs::answer::write_answer;
 use crate::jobs::front::{Front, write_front};
 use cal_input::RunFault;
 use cal_policy::PassEntry;
-use cal_policy::laws::nothing_is_legal;
-use cal_run::{Parts, end_told, open_unwatched, rounds_to_make, told_round};
+use cal_run::{Parts, end_told, open_unwatched_by, rounds_to_make, told_round};
 use cal_trace::{Arrivals, write_history_end, write_history_header, write_history_pass};
 use std::alloc::Global;
 use std::io::Write;
@@ -39,17 +38,18 @@ pub(crate) fn tell_lockstep<W: Write>(
     writer: &mut W,
 ) -> Result<(), RunFault>
     requires fits { FitsTable accepted.now.config.now accepted.now.arrivals.now }
-    ensures told { OnOk result (IsTold (front_of front accepted.now.input.now)
+    ensures told { OnOk result (IsTold accepted.now.policy (front_of front accepted.now.input.now)
         (record { table = accepted.now.config.now; arrivals = accepted.now.arrivals.now })
         (W.contents writer.old) (W.contents writer.new)) }
     ensures begun { IfErr result (λ fault. fault ≡ RunFault.Memory →
-        (writer.new ≡ writer.old) ⊎ IsBegunTold (front_of front accepted.now.input.now)
+        (writer.new ≡ writer.old)
+        ⊎ IsBegunTold accepted.now.policy (front_of front accepted.now.input.now)
         (record { table = accepted.now.config.now; arrivals = accepted.now.arrivals.now })
         (W.contents writer.old) (W.contents writer.new)) }
     ensures kind { IfErr result (λ fault. (fault ≡ RunFault.Memory) ⊎ (fault ≡ RunFault.Write)) }
 {
     let (config, arrivals) = (accepted.config, accepted.arrivals);
-    let mut parts = open_unwatched(alloc, config, arrivals)?;
+    let mut parts = open_unwatched_by(alloc, config, accepted.policy, arrivals)?;
     let mut text = head_text(alloc, front, accepted.input)?;
     write_answer(text.as_slice(), writer)?;
     tell_rounds(&mut parts, arrivals, &mut text, writer)?;
@@ -87,18 +87,19 @@ fn tell_rounds<W: Write>(
     ensures made { IfOk result (λ _. AreAfterRounds parts.old.scheduler.table arrivals.now
         (max (length arrivals.now.passes) (length arrivals.now.turns)) parts.new) }
     ensures most { IfOk result (λ _. parts.new.watch.most ≡ parts.old.watch.most) }
-    ensures first { IfOk result (λ _. AreFirstPasses
+    ensures policy { IfOk result (λ _. parts.new.scheduler.policy ≡ parts.old.scheduler.policy) }
+    ensures first { IfOk result (λ _. AreFirstPasses parts.old.scheduler.policy
         (record { table = parts.old.scheduler.table; arrivals = arrivals.now })
         parts.new.scheduler.history) }
     ensures told { OnOk result (Appends (W.contents writer.old) (W.contents writer.new)
         (lines_of (flat_map entry_rows parts.new.scheduler.history))) }
     ensures stopped { IfErr result (λ fault. fault ≡ RunFault.Memory → (history : List EntryOfPass)
-        × AreFirstPasses (record { table = parts.old.scheduler.table; arrivals = arrivals.now })
-        history × Appends (W.contents writer.old) (W.contents writer.new)
+        × AreFirstPasses parts.old.scheduler.policy
+        (record { table = parts.old.scheduler.table; arrivals = arrivals.now }) history
+        × Appends (W.contents writer.old) (W.contents writer.new)
         (lines_of (flat_map entry_rows history))) }
     ensures kind { IfErr result (λ fault. (fault ≡ RunFault.Memory) ⊎ (fault ≡ RunFault.Write)) }
 {
-    nothing_is_legal();
     for r in 0..rounds_to_make(arrivals) {
         let entry = told_round(parts, arrivals, r)?;
         tell_entry(entry, text, writer)?;

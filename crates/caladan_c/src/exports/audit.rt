@@ -5,17 +5,20 @@ ghost use Rattle.std.specs.Prelude.{◌≡◌, ◌≢◌, ◌⊎◌, IfOk, IfErr
 ghost use Rattle.std.specs.Prelude.{true, false};
 ghost use Rattle.std.specs.Option.{is_some, ForSome, IsSomeAnd};
 ghost use Rattle.cal_machine.specs.Reading.{table_in};
-ghost use Rattle.cal_policy.specs.Verdict.{IsVerdict};
+ghost use Rattle.cal_policy.specs.Policies.{IsVerdictBy};
+ghost use Rattle.cal_policy.specs.declared.policy.Policy.{Policy as PolicyOf};
+ghost use Rattle.cal_policy.specs.declared.policy.Policy.TheVariants.{Caladan};
 ghost use Rattle.cal_policy.specs.declared.history.entry.PassEntry.{PassEntry};
 ghost use Rattle.cal_policy.specs.declared.verdict.Verdict.TheVariants.{Legal, Illegal};
 ghost use Rattle.caladan_c.specs.Answer.{refusal_number, finding_number};
 ghost use Rattle.caladan_c.specs.AuditView.{HasAudited, SaysAudit, TookRecorded};
 ghost use Rattle.caladan_c.specs.Recorded.{AreNoJudgements, AreNoActions};
 ghost use Rattle.caladan_c.specs.declared.answer.Refusal.TheVariants.{Closed, Memory, NoAction};
-ghost use Rattle.caladan_c.specs.declared.answer.Refusal.TheVariants.{NoJudgement, Open};
+ghost use Rattle.caladan_c.specs.declared.answer.Refusal.TheVariants.{NoJudgement, NoPolicy, Open};
 ghost use Rattle.caladan_c.specs.declared.answer.Refusal.TheVariants.{WrongCount};
 ghost use Rattle.caladan_c.specs.declared.answer.Finding.TheVariants as findings;
 ghost use Rattle.caladan_c.specs.Kinds.{audit_in};
+ghost use Rattle.caladan_c.specs.PolicyNumbers.{policy_numbered};
 
 use crate::answer::{Finding, Refusal};
 use crate::audit::Audit;
@@ -23,21 +26,42 @@ use crate::found::Found;
 use crate::handed_in::HandedIn;
 use crate::handle::Handle;
 use crate::handle::kept::Kept;
+use crate::policy_numbers::policy_numbered;
 use crate::recorded::entry_of;
 use crate::told::Told;
-use cal_policy::Verdict;
+use cal_policy::{Policy, Verdict};
 use std::alloc::Global;
 
-/// Opens an audit of the table that a text spells, in a closed handle: 0, or the table's fault, 1
-/// to 9.
+/// Opens an audit by `Policy::Caladan` of the table that a text spells, in a closed handle: 0, or
+/// the table's fault, 1 to 9.
 #[unsafe(no_mangle)]
 pub extern "C" fn caladan_audit_open(alloc: Global, table: &[u8], handle: &mut Handle) -> u8
     ensures already { is_some handle.old.pointer.kept ≡ true → result ≡ refusal_number Open }
     ensures opened { is_some handle.old.pointer.kept ≡ false → result ≢ refusal_number Memory →
-        SaysAudit (table_in table.now) result (audit_in handle.new) }
+        SaysAudit Caladan (table_in table.now) result (audit_in handle.new) }
     ensures refused { result ≢ 0 → handle.new ≡ handle.old }
 {
-    opened!(Audit: handle, alloc; Audit::open(alloc, table))
+    opened!(Audit: handle, alloc; Audit::open(alloc, table, Policy::Caladan))
+}
+
+/// Opens an audit by the policy of a number of the table that a text spells, in a closed handle: 0,
+/// or the table's fault, 1 to 9; 22 no policy has the number.
+#[unsafe(no_mangle)]
+pub extern "C" fn caladan_audit_open_policy(
+    alloc: Global,
+    table: &[u8],
+    policy: u32,
+    handle: &mut Handle,
+) -> u8
+    ensures already { is_some handle.old.pointer.kept ≡ true → result ≡ refusal_number Open }
+    ensures no_policy { is_some handle.old.pointer.kept ≡ false → policy_numbered policy ≡ None →
+        result ≡ refusal_number NoPolicy }
+    ensures opened { is_some handle.old.pointer.kept ≡ false → result ≢ refusal_number Memory →
+        ForSome (policy_numbered policy) (λ by.
+        SaysAudit by (table_in table.now) result (audit_in handle.new)) }
+    ensures refused { result ≢ 0 → handle.new ≡ handle.old }
+{
+    opened_by!(Audit: handle, alloc, policy; by => Audit::open(alloc, table, by))
 }
 
 impl Audit {
@@ -109,11 +133,13 @@ pub extern "C" fn caladan_audit_pass(
 #[unsafe(no_mangle)]
 pub extern "C" fn caladan_audit_verdict(alloc: Global, handle: &mut Handle, pass: &mut u64) -> u8
     ensures closed { is_some (audit_in handle.old) ≡ false → result ≡ refusal_number Closed }
-    ensures legal { result ≡ 0 → ForSome (audit_in handle.old) (λ a. (h : List PassEntry) →
-        HasAudited a h → IsVerdict a.table h Legal) }
+    ensures legal { result ≡ 0 → ForSome (audit_in handle.old) (λ a.
+        (policy : PolicyOf) (h : List PassEntry) → HasAudited policy a h →
+        IsVerdictBy policy a.table h Legal) }
     ensures illegal { result ≡ finding_number findings.Illegal →
-        ForSome (audit_in handle.old) (λ a. (h : List PassEntry) → HasAudited a h →
-        IsVerdict a.table h (Illegal pass.new)) }
+        ForSome (audit_in handle.old) (λ a.
+        (policy : PolicyOf) (h : List PassEntry) → HasAudited policy a h →
+        IsVerdictBy policy a.table h (Illegal pass.new)) }
     ensures answers { ForSome (audit_in handle.old) (λ _. (result ≡ 0) ⊎
         (result ≡ finding_number findings.Illegal)) }
     ensures other { result ≢ finding_number findings.Illegal → pass.new ≡ pass.old }

@@ -14,11 +14,13 @@ ghost use Rattle.cal_machine.specs.TableTasks.{threads_of_table};
 ghost use Rattle.caladan_c.specs.Answer.{refusal_number};
 ghost use Rattle.caladan_c.specs.Found.{input_of_found, input_given};
 ghost use Rattle.caladan_c.specs.Opening.{SaysScheduler};
-ghost use Rattle.cal_policy.specs.Book.{AfterLegal};
-ghost use Rattle.caladan_c.specs.Passing.{MadePass, HasRoomToTell, IsShort};
+ghost use Rattle.caladan_c.specs.Passing.{AfterOwn, MadePass, HasRoomToTell, IsShort};
 ghost use Rattle.caladan_c.specs.Told.{AreTold, AreJudgements, counts_of, told_holder_of};
 ghost use Rattle.caladan_c.specs.declared.answer.Refusal.TheVariants.{Closed, Memory, NoRoom, Open};
-ghost use Rattle.caladan_c.specs.declared.answer.Refusal.TheVariants.{NoSuch, Unfit, WrongCount};
+ghost use Rattle.caladan_c.specs.declared.answer.Refusal.TheVariants.{NoPolicy, NoSuch, Unfit};
+ghost use Rattle.caladan_c.specs.declared.answer.Refusal.TheVariants.{WrongCount};
+ghost use Rattle.cal_policy.specs.declared.policy.Policy.TheVariants.{Caladan};
+ghost use Rattle.caladan_c.specs.PolicyNumbers.{policy_numbered};
 ghost use Rattle.caladan_c.specs.Kinds.{scheduler_in};
 
 use crate::answer::Refusal;
@@ -26,23 +28,45 @@ use crate::found::Found;
 use crate::handed_in::HandedIn;
 use crate::handle::Handle;
 use crate::handle::kept::Kept;
+use crate::policy_numbers::policy_numbered;
 use crate::scheduler::Scheduler;
 use crate::told::counts::{Counts, counts_of_task};
 use crate::told::holder::{ToldHolder, holder_on, tell_holder};
 use crate::told::{Told, tell_all};
-use cal_policy::MOST_ACTIONS;
+use cal_policy::{MOST_ACTIONS, Policy};
 use std::alloc::Global;
 
-/// Opens the table that a text spells, in a closed handle: 0, or the table's fault, 1 to 9. It
-/// takes all the memory that the passes need.
+/// Opens the table that a text spells for passes by `Policy::Caladan`, in a closed handle: 0, or
+/// the table's fault, 1 to 9. It takes all the memory that the passes need.
 #[unsafe(no_mangle)]
 pub extern "C" fn caladan_open(alloc: Global, table: &[u8], handle: &mut Handle) -> u8
     ensures already { is_some handle.old.pointer.kept ≡ true → result ≡ refusal_number Open }
     ensures opened { is_some handle.old.pointer.kept ≡ false → result ≢ refusal_number Memory →
-        SaysScheduler (table_in table.now) result (scheduler_in handle.new) }
+        SaysScheduler Caladan (table_in table.now) result (scheduler_in handle.new) }
     ensures refused { result ≢ 0 → handle.new ≡ handle.old }
 {
-    opened!(Scheduler: handle, alloc; Scheduler::open(alloc, table))
+    opened!(Scheduler: handle, alloc; Scheduler::open(alloc, table, Policy::Caladan))
+}
+
+/// Opens the table that a text spells for passes by the policy of a number, in a closed handle: 0,
+/// or the table's fault, 1 to 9; 22 no policy has the number. It takes all the memory that the
+/// passes need.
+#[unsafe(no_mangle)]
+pub extern "C" fn caladan_open_policy(
+    alloc: Global,
+    table: &[u8],
+    policy: u32,
+    handle: &mut Handle,
+) -> u8
+    ensures already { is_some handle.old.pointer.kept ≡ true → result ≡ refusal_number Open }
+    ensures no_policy { is_some handle.old.pointer.kept ≡ false → policy_numbered policy ≡ None →
+        result ≡ refusal_number NoPolicy }
+    ensures opened { is_some handle.old.pointer.kept ≡ false → result ≢ refusal_number Memory →
+        ForSome (policy_numbered policy) (λ by.
+        SaysScheduler by (table_in table.now) result (scheduler_in handle.new)) }
+    ensures refused { result ≢ 0 → handle.new ≡ handle.old }
+{
+    opened_by!(Scheduler: handle, alloc, policy; by => Scheduler::open(alloc, table, by))
 }
 
 /// How many kernel threads the table has: each pass is given as many looks. 0 of a closed handle.
@@ -74,12 +98,12 @@ impl Scheduler {
         judged: &mut [u8],
         actions: &mut [Told],
     ) -> Result<usize, Refusal>
-        ensures passed { IfOk result (λ made. AfterLegal self.old.table self.old.book (λ h.
+        ensures passed { IfOk result (λ made. AfterOwn self.old.table self.old.book (λ h.
             MadePass self.old h (input_given self.old.table h given.entry) self.new × AreTold
             self.new.made made actions.new)) }
-        ensures judged { IfOk result (λ _. AfterLegal self.old.table self.old.book (λ h.
+        ensures judged { IfOk result (λ _. AfterOwn self.old.table self.old.book (λ h.
             AreJudgements (input_given self.old.table h given.entry).seen judged.new)) }
-        ensures unfit { result ≡ Err Unfit → AfterLegal self.old.table self.old.book (λ h.
+        ensures unfit { result ≡ Err Unfit → AfterOwn self.old.table self.old.book (λ h.
             IsInput self.old.table h (input_given self.old.table h given.entry) → ⊥) }
         ensures wrong_count { length given.entry.looks.now ≢ threads_of_table self.old.table →
             result ≡ Err WrongCount }
@@ -123,14 +147,14 @@ pub extern "C" fn caladan_pass(
 ) -> u8
     ensures closed { is_some (scheduler_in handle.old) ≡ false → result ≡ refusal_number Closed }
     ensures passed { result ≡ 0 → ForSome (scheduler_in handle.old) (λ s.
-        AfterLegal s.table s.book (λ h. IsSomeAnd (scheduler_in handle.new) (λ after.
+        AfterOwn s.table s.book (λ h. IsSomeAnd (scheduler_in handle.new) (λ after.
         MadePass s h (input_of_found s.table h now bandwidth looks.now) after × AreTold after.made
         made.new actions.new))) }
     ensures judged { result ≡ 0 → ForSome (scheduler_in handle.old) (λ s.
-        AfterLegal s.table s.book (λ h.
+        AfterOwn s.table s.book (λ h.
         AreJudgements (input_of_found s.table h now bandwidth looks.now).seen judged.new)) }
     ensures unfit { result ≡ refusal_number Unfit → ForSome (scheduler_in handle.old) (λ s.
-        AfterLegal s.table s.book (λ h.
+        AfterOwn s.table s.book (λ h.
         IsInput s.table h (input_of_found s.table h now bandwidth looks.now) → ⊥)) }
     ensures wrong_count { ForSome (scheduler_in handle.old) (λ s.
         length looks.now ≢ threads_of_table s.table → result ≡ refusal_number WrongCount) }
@@ -165,7 +189,7 @@ pub extern "C" fn caladan_holder(
 ) -> u8
     ensures closed { is_some (scheduler_in handle.old) ≡ false → result ≡ refusal_number Closed }
     ensures told { result ≡ 0 → ForSome (scheduler_in handle.old) (λ s.
-        AfterLegal s.table s.book (λ h.
+        AfterOwn s.table s.book (λ h.
         holder.new ≡ told_holder_of (kept_holder (holder_of (actions_of h) core)))) }
     ensures there { ForSome (scheduler_in handle.old) (λ s. core < s.table.cores → result ≡ 0) }
     ensures no_core { ForSome (scheduler_in handle.old) (λ s. s.table.cores ≤ core →
@@ -188,7 +212,7 @@ pub extern "C" fn caladan_task(
 ) -> u8
     ensures closed { is_some (scheduler_in handle.old) ≡ false → result ≡ refusal_number Closed }
     ensures told { result ≡ 0 → ForSome (scheduler_in handle.old) (λ s.
-        AfterLegal s.table s.book (λ h. counts.new ≡ counts_of s.table (actions_of h) task)) }
+        AfterOwn s.table s.book (λ h. counts.new ≡ counts_of s.table (actions_of h) task)) }
     ensures there { ForSome (scheduler_in handle.old) (λ s. task < length s.table.tasks →
         result ≡ 0) }
     ensures no_task { ForSome (scheduler_in handle.old) (λ s. length s.table.tasks ≤ task →

@@ -3,15 +3,13 @@
 ghost use Rattle.std.specs.Prelude.{◌≡◌, ◌≤◌, length};
 ghost use Rattle.cal_machine.specs.TableTasks.{threads_of_table};
 ghost use Rattle.caladan_c.specs.OneByOne.{input_given_each, AreSaid};
-ghost use Rattle.caladan_c.specs.Passing.{MadePass};
-ghost use Rattle.cal_policy.specs.Book.{AfterLegal};
+ghost use Rattle.caladan_c.specs.Passing.{AfterOwn, MadePass};
 
 use super::Scheduler;
 use crate::handed_in::HandedIn;
 use crate::walk::{Basis, take_each};
-use cal_policy::laws::{
-    legal_is_short, one_pass_more_is_legal, open_pass_fits, settled_is_no_news,
-};
+use cal_guard::{each_policy_is_permitted, permitted_settled_is_no_news};
+use cal_policy::laws::{legal_is_short, one_pass_more_is_legal, open_pass_fits};
 
 impl Scheduler {
     /// Makes the next pass, each look by itself: a look that is unfit, ahead or foreign is taken as
@@ -20,13 +18,14 @@ impl Scheduler {
     pub fn pass_each(&mut self, given: HandedIn<'_>, judged: &mut [u8])
         requires count { length given.looks.now ≡ threads_of_table self.old.table }
         requires room { threads_of_table self.old.table ≤ length judged.old }
-        ensures passed { AfterLegal self.old.table self.old.book (λ h.
+        ensures passed { AfterOwn self.old.table self.old.book (λ h.
             MadePass self.old h (input_given_each self.old.table h given.entry) self.new) }
-        ensures said { AfterLegal self.old.table self.old.book (λ h.
+        ensures said { AfterOwn self.old.table self.old.book (λ h.
             AreSaid self.old.table.cores h given.entry.looks.now judged.new) }
     {
         self.config.limits();
-        settled_is_no_news();
+        each_policy_is_permitted();
+        permitted_settled_is_no_news();
         open_pass_fits();
         legal_is_short();
         one_pass_more_is_legal();

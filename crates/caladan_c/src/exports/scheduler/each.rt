@@ -6,11 +6,10 @@ ghost use Rattle.cal_machine.specs.TableTasks.{threads_of_table};
 ghost use Rattle.caladan_c.specs.Answer.{refusal_number};
 ghost use Rattle.caladan_c.specs.OneByOne.{input_of_each, input_given_each, AreSaid};
 ghost use Rattle.caladan_c.specs.OneByOne.{IsFirstUnfit, AllFit};
-ghost use Rattle.caladan_c.specs.Passing.{MadePass, HasRoomToTell, IsShort};
+ghost use Rattle.caladan_c.specs.Passing.{AfterOwn, MadePass, HasRoomToTell, IsShort};
 ghost use Rattle.caladan_c.specs.Told.{AreTold};
 ghost use Rattle.caladan_c.specs.declared.answer.Refusal.TheVariants.{Closed, NoRoom, Unfit};
 ghost use Rattle.caladan_c.specs.declared.answer.Refusal.TheVariants.{WrongCount};
-ghost use Rattle.cal_policy.specs.Book.{AfterLegal};
 ghost use Rattle.caladan_c.specs.Kinds.{scheduler_in};
 
 use crate::answer::Refusal;
@@ -33,10 +32,10 @@ impl Scheduler {
         judged: &mut [u8],
         actions: &mut [Told],
     ) -> Result<usize, Refusal>
-        ensures passed { IfOk result (λ made. AfterLegal self.old.table self.old.book (λ h.
+        ensures passed { IfOk result (λ made. AfterOwn self.old.table self.old.book (λ h.
             MadePass self.old h (input_given_each self.old.table h given.entry) self.new × AreTold
             self.new.made made actions.new)) }
-        ensures judged { IfOk result (λ _. AfterLegal self.old.table self.old.book (λ h.
+        ensures judged { IfOk result (λ _. AfterOwn self.old.table self.old.book (λ h.
             AreSaid self.old.table.cores h given.entry.looks.now judged.new)) }
         ensures wrong_count { length given.entry.looks.now ≢ threads_of_table self.old.table →
             result ≡ Err WrongCount }
@@ -79,11 +78,11 @@ pub extern "C" fn caladan_pass_each(
 ) -> u8
     ensures closed { is_some (scheduler_in handle.old) ≡ false → result ≡ refusal_number Closed }
     ensures passed { result ≡ 0 → ForSome (scheduler_in handle.old) (λ s.
-        AfterLegal s.table s.book (λ h. IsSomeAnd (scheduler_in handle.new) (λ after.
+        AfterOwn s.table s.book (λ h. IsSomeAnd (scheduler_in handle.new) (λ after.
         MadePass s h (input_of_each s.table h now bandwidth looks.now) after × AreTold after.made
         made.new actions.new))) }
     ensures judged { result ≡ 0 → ForSome (scheduler_in handle.old) (λ s.
-        AfterLegal s.table s.book (λ h. AreSaid s.table.cores h looks.now judged.new)) }
+        AfterOwn s.table s.book (λ h. AreSaid s.table.cores h looks.now judged.new)) }
     ensures wrong_count { ForSome (scheduler_in handle.old) (λ s.
         length looks.now ≢ threads_of_table s.table → result ≡ refusal_number WrongCount) }
     ensures no_room { ForSome (scheduler_in handle.old) (λ s.
@@ -117,9 +116,9 @@ pub extern "C" fn caladan_first_unfit(
 ) -> u8
     ensures closed { is_some (scheduler_in handle.old) ≡ false → result ≡ refusal_number Closed }
     ensures first { result ≡ refusal_number Unfit → ForSome (scheduler_in handle.old) (λ s.
-        AfterLegal s.table s.book (λ h. IsFirstUnfit h looks.now thread.new)) }
+        AfterOwn s.table s.book (λ h. IsFirstUnfit h looks.now thread.new)) }
     ensures none { result ≡ 0 → ForSome (scheduler_in handle.old) (λ s.
-        AfterLegal s.table s.book (λ h. AllFit h looks.now)) }
+        AfterOwn s.table s.book (λ h. AllFit h looks.now)) }
     ensures wrong_count { ForSome (scheduler_in handle.old) (λ s.
         length looks.now ≢ threads_of_table s.table → result ≡ refusal_number WrongCount) }
     ensures answers { ForSome (scheduler_in handle.old) (λ s.

@@ -7,8 +7,8 @@ ghost use Rattle.cal_machine.specs.TableTasks.{threads_of_table};
 ghost use Rattle.caladan_c.specs.Answer.{refusal_number};
 ghost use Rattle.cal_policy.specs.History.{looks_of};
 ghost use Rattle.cal_policy.specs.History.Looks.{kept_by};
+ghost use Rattle.caladan_c.specs.Passing.{AfterOwn};
 ghost use Rattle.caladan_c.specs.Facts.{machine_of, row_of, state_of, found_kept, IsLookOfGone};
-ghost use Rattle.cal_policy.specs.Book.{AfterLegal};
 ghost use Rattle.caladan_c.specs.declared.answer.Refusal.TheVariants.{Closed, Lost, NoSuch};
 ghost use Rattle.caladan_c.specs.Kinds.{scheduler_in};
 
@@ -75,7 +75,7 @@ pub extern "C" fn caladan_thread(
 ) -> u8
     ensures closed { is_some (scheduler_in handle.old) ≡ false → result ≡ refusal_number Closed }
     ensures told { result ≡ 0 → ForSome (scheduler_in handle.old) (λ s.
-        AfterLegal s.table s.book (λ h. state.new ≡ state_of s.table h thread)) }
+        AfterOwn s.table s.book (λ h. state.new ≡ state_of s.table h thread)) }
     ensures there { ForSome (scheduler_in handle.old) (λ s. thread < threads_of_table s.table →
         result ≡ 0) }
     ensures no_thread { ForSome (scheduler_in handle.old) (λ s. threads_of_table s.table ≤ thread →
@@ -98,7 +98,7 @@ pub extern "C" fn caladan_kept(
 ) -> u8
     ensures closed { is_some (scheduler_in handle.old) ≡ false → result ≡ refusal_number Closed }
     ensures told { result ≡ 0 → ForSome (scheduler_in handle.old) (λ s.
-        AfterLegal s.table s.book (λ h. look.new ≡ found_kept (kept_by (looks_of h) thread))) }
+        AfterOwn s.table s.book (λ h. look.new ≡ found_kept (kept_by (looks_of h) thread))) }
     ensures there { ForSome (scheduler_in handle.old) (λ s. thread < threads_of_table s.table →
         result ≡ 0) }
     ensures no_thread { ForSome (scheduler_in handle.old) (λ s. threads_of_table s.table ≤ thread →
@@ -122,9 +122,9 @@ pub extern "C" fn caladan_gone(
 ) -> u8
     ensures closed { is_some (scheduler_in handle.old) ≡ false → result ≡ refusal_number Closed }
     ensures told { result ≡ 0 → ForSome (scheduler_in handle.old) (λ s.
-        AfterLegal s.table s.book (λ h. IsLookOfGone s.table h thread look.new)) }
+        AfterOwn s.table s.book (λ h. IsLookOfGone s.book.policy s.table h thread look.new)) }
     ensures lost { result ≡ refusal_number Lost → ForSome (scheduler_in handle.old) (λ s.
-        AfterLegal s.table s.book (λ h. can_be_gone h thread ≡ false)) }
+        AfterOwn s.table s.book (λ h. can_be_gone h thread ≡ false)) }
     ensures there { ForSome (scheduler_in handle.old) (λ s. thread < threads_of_table s.table →
         (result ≡ 0) ⊎ (result ≡ refusal_number Lost)) }
     ensures no_thread { ForSome (scheduler_in handle.old) (λ s. threads_of_table s.table ≤ thread →

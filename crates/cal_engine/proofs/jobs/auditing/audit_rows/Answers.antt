@@ -26,7 +26,7 @@ loop-audit-preserved c = record {
       record {
         given = before.given ++ c.in-Some.entry ∷ [];
         has = rw c.in-Some.is at (c.in_ok-entry.ensures.gives extent trace before.given before.has);
-        takes = c.in_ok-take.ensures.takes before.given few before.takes;
+        takes = c.in_ok-take.ensures.takes c.args.policy before.given few before.takes;
       };
 }
 
@@ -43,4 +43,4 @@ returns-clause-audits c = λ trace start.
     let table = c.args.config.now in
     let before = c.loop-audit.invariant.auditing trace start in
     let gives = rw c.in_default.is at (c.in_ok-entry.ensures.gives (extent_of table) trace before.given before.has) in
-    audited table (history_of (extent_of table) (rows_of trace)) before.given c.loop-audit.audit gives before.takes
+    audited c.args.policy table (history_of (extent_of table) (rows_of trace)) before.given c.loop-audit.audit gives before.takes

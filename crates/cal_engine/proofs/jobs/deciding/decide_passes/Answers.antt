@@ -18,11 +18,12 @@ pub loop-decider-init : goal.loop-decider-init
 loop-decider-init g c = record {
   ready = c.requires.ready;
   of = c.in_ok-decider.ensures.of;
+  by = c.in_ok-decider.ensures.policy;
   deciding = λ trace has. record {
     given = [];
     history = [];
     has = has;
-    so_far = IsDecided-none c.args.config.now;
+    so_far = IsDecided-none c.args.policy c.args.config.now;
     decided = record { agrees = c.in_ok-decider.ensures.agrees; kept = c.requires.opened };
     count = refl;
   };
@@ -40,9 +41,12 @@ pub loop-decider-preserved : goal.loop-decider-preserved
 loop-decider-preserved g c = record {
   ready = rw c.in-Some.is at c.in_ok-pass.ensures.ready;
   of = c.in_ok-hand_on.ensures.of;
+  by = c.in_ok-hand_on.ensures.policy ∙ c.loop-decider.invariant.by;
   deciding = λ trace start.
       let table = c.args.config.now in
       let threads = threads_in table.tasks in
+      let policy = c.args.policy in
+      let by = c.loop-decider.invariant.by in
       let before = c.loop-decider.invariant.deciding trace start in
       let given = before.given in
       let h = before.history in
@@ -53,11 +57,11 @@ loop-decider-preserved g c = record {
       let few : length h + 1 < 2 ^ 64 = omega (arith, before.count, length-append given (pass ∷ []), few_given threads trace (given ++ pass ∷ []) c.next.new.self has) in
       record {
         given = given ++ pass ∷ [];
-        history = h ++ decided_pass table h pass ∷ [];
+        history = h ++ decided_pass policy table h pass ∷ [];
         has = has;
-        so_far = IsDecided-append table given h pass fits before.so_far;
-        decided = c.in_ok-hand_on.ensures.decided h before.so_far.legal input few before.decided;
-        count = length-append h (decided_pass table h pass ∷ []) ∙ ap (λ n. n + 1) before.count ∙ sym (length-append given (pass ∷ []));
+        so_far = IsDecided-append policy table given h pass fits before.so_far;
+        decided = rw by at (c.in_ok-hand_on.ensures.decided h (rw by before.so_far.legal) input few before.decided);
+        count = length-append h (decided_pass policy table h pass ∷ []) ∙ ap (λ n. n + 1) before.count ∙ sym (length-append given (pass ∷ []));
       };
 }
 
@@ -67,7 +71,7 @@ returns-in_err-pass-clause-decided g c = λ trace start.
     let threads = threads_in table.tasks in
     let before = c.loop-decider.invariant.deciding trace start in
     let same : c.from_residual-in_err-pass.result ≡ Err (fault.Trace c.in_err-pass.field-0.0) = search rules in
-    rw same (refused_signals table (signals_of threads (rows_of trace)) c.in_err-pass.field-0.0 (c.in_err-pass.ensures.gives threads trace before.given before.has))
+    rw same (refused_signals c.args.policy table (signals_of threads (rows_of trace)) c.in_err-pass.field-0.0 (c.in_err-pass.ensures.gives threads trace before.given before.has))
 
 pub returns-clause-decided : goal.returns-clause-decided
 returns-clause-decided g c = λ trace start.
@@ -75,4 +79,4 @@ returns-clause-decided g c = λ trace start.
     let threads = threads_in table.tasks in
     let before = c.loop-decider.invariant.deciding trace start in
     let gives = rw c.in_default.is at (c.in_ok-pass.ensures.gives threads trace before.given before.has) in
-    all_decided (g.K.Keeper.keeps c.loop-decider.keeper) table (signals_of threads (rows_of trace)) before.given before.history c.loop-decider.decider gives before.so_far before.decided
+    all_decided c.args.policy (g.K.Keeper.keeps c.loop-decider.keeper) table (signals_of threads (rows_of trace)) before.given before.history c.loop-decider.decider gives before.so_far c.loop-decider.invariant.by before.decided

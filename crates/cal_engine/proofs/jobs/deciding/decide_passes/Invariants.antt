@@ -1,4 +1,4 @@
-use Rattle.std.proofs.Common.{ℕ, List, []}
+use Rattle.std.proofs.Common.{◌≡◌, ℕ, List, []}
 use Rattle.cal_machine.specs.Tasks.{threads_in}
 use Rattle.cal_policy.specs.Book.{board_in}
 use Rattle.cal_policy.specs.State.{IsReady}
@@ -10,7 +10,8 @@ abbrev pub invariant-loop-decider : goal.invariant-loop-decider
 invariant-loop-decider g l = record {
   ready : IsOpen l.signals;
   of : IsReady l.config (board_in l.decider.book);
-  deciding : (trace : List ℕ) → HasGiven (threads_in l.config.tasks) trace [] l.initial.signals → IsDeciding (g.K.Keeper.keeps l.keeper) l.config trace l.signals l.decider;
+  by : l.decider.book.policy ≡ l.policy;
+  deciding : (trace : List ℕ) → HasGiven (threads_in l.config.tasks) trace [] l.initial.signals → IsDeciding l.policy (g.K.Keeper.keeps l.keeper) l.config trace l.signals l.decider;
 }
 
 abbrev pub decreases-loop-decider : goal.decreases-loop-decider

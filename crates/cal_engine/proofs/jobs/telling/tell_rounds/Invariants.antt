@@ -1,7 +1,7 @@
 use Rattle.std.specs.Prelude.{◌≡◌}
 use Rattle.std.specs.Io.KnownBytes.{Appends}
 use Rattle.std.specs.List.{flat_map}
-use Rattle.cal_policy.specs.Pass.{IsLegal}
+use Rattle.cal_policy.specs.Policies.{IsLegalBy}
 use Rattle.cal_run.specs.Rounds.{AreAfterRounds}
 use Rattle.cal_trace.specs.History.Text.{entry_rows, lines_of}
 use Rattle.cal_engine.proofs.jobs.telling.tell_rounds.Given as goal
@@ -11,6 +11,7 @@ abbrev pub invariant-loop-r : goal.invariant-loop-r
 invariant-loop-r g l = record {
   made : AreAfterRounds l.initial.parts.scheduler.table l.arrivals l.r l.parts;
   most : l.parts.watch.most ≡ l.initial.parts.watch.most;
-  legal : IsLegal l.initial.parts.scheduler.table l.parts.scheduler.history;
+  by : l.parts.scheduler.policy ≡ l.initial.parts.scheduler.policy;
+  legal : IsLegalBy l.initial.parts.scheduler.policy l.initial.parts.scheduler.table l.parts.scheduler.history;
   told : Appends (g.W.Write.contents l.initial.writer) (g.W.Write.contents l.writer) (lines_of (flat_map entry_rows l.parts.scheduler.history));
 }

@@ -1,4 +1,4 @@
-use Rattle.std.proofs.Common.{◌≡◌, List, map, refl, sym, ap, subst, ◌∙◌}
+use Rattle.std.proofs.Common.{◌≡◌, List, map, sym, ap, subst, ◌∙◌}
 use Rattle.cal_machine.specs.TableTasks.{threads_of_table}
 use Rattle.cal_policy.specs.declared.history.entry.PassEntry.{PassEntry}
 use Rattle.cal_policy.specs.Judgement.Judging.{IsInput}
@@ -6,7 +6,7 @@ use Rattle.cal_policy.specs.Judgement.OneByOne.{taken_looks}
 use Rattle.caladan_c.specs.Found.{found_of}
 use Rattle.caladan_c.specs.OneByOne.{input_of_each, AreSaid, IsTakenAt}
 use Rattle.cal_policy.specs.Book.{board_in}
-use Rattle.cal_policy.specs.Pass.{IsLegal}
+use Rattle.cal_policy.specs.Policies.{IsLegalBy}
 use Rattle.cal_policy.specs.State.{IsStateAfter}
 use Rattle.caladan_c.specs.Passing.{MadePass}
 use Rattle.caladan_c.specs.Standing.{Standing}
@@ -21,22 +21,22 @@ returns-clause-passed c =
     let looks = c.args.given.looks.now in
     let now = c.args.given.now in
     let bandwidth = c.args.given.bandwidth in
-    let whole : (h : List PassEntry) → IsLegal s.table h → IsStateAfter (board_in s.book) h → MadePass s h (input_of_each s.table h now bandwidth looks) new = λ h legal state.
+    let whole : (h : List PassEntry) → IsLegalBy s.book.policy s.table h → IsStateAfter (board_in s.book) h → MadePass s h (input_of_each s.table h now bandwidth looks) new = λ h legal state.
     let taken = taken_looks s.table.cores h (map found_of looks) in
-    let quiet = c.settled_is_no_news.ensures s.table h c.limits.ensures legal in
+    let quiet = c.permitted_settled_is_no_news.ensures s.table h (c.each_policy_is_permitted.ensures s.book.policy s.table h c.limits.ensures legal) in
     let came : IsTakenAt s.table h looks c.take_each.new.came = c.take_each.ensures.taken h quiet (c.board.ensures.agrees h state) in
     let all = sym came.count ∙ c.take_each.ensures.count ∙ c.requires.count ∙ sym (ap (λ (o : Standing). threads_of_table o.table) view) in
     let is : IsInput s.table h (input_of_each s.table h now bandwidth looks) = c.open_pass_fits.ensures s.table h now bandwidth taken c.take_each.new.came came all in
     let used : IsTakenAt s.table h looks c.deref.result.now = rw c.deref.ensures came in
-    passed_after s h (input_of_each s.table h now bandwidth looks) (input_of_each s.table h now bandwidth looks) c.pass.new.out c.pass.new.self
-    c.one_pass_more_is_legal.ensures c.legal_is_short.ensures c.limits.ensures legal refl is
-    (c.pass.ensures.acts h taken legal state used) (c.pass.ensures.agrees h taken legal state used) in
-    subst (λ (old : Standing). (h : List PassEntry) → IsLegal old.table h → IsStateAfter (board_in old.book) h → MadePass old h (input_of_each old.table h now bandwidth looks) new) view whole
+    passed_after s h (input_of_each s.table h now bandwidth looks) c.pass.new.out c.pass.new.self
+    c.one_pass_more_is_legal.ensures c.legal_is_short.ensures c.limits.ensures legal is
+    (c.pass.ensures.own h taken legal state used) c.pass.ensures.policy in
+    subst (λ (old : Standing). (h : List PassEntry) → IsLegalBy old.book.policy old.table h → IsStateAfter (board_in old.book) h → MadePass old h (input_of_each old.table h now bandwidth looks) new) view whole
 
 pub returns-clause-said : goal.returns-clause-said
 returns-clause-said c =
     let s : Standing = record { table = c.self.inside.config; book = c.self.inside.book; made = c.self.inside.made } in
     let view : s ≡ c.args.self.now = c.self.view_is in
-    let whole : (h : List PassEntry) → IsLegal s.table h → IsStateAfter (board_in s.book) h → AreSaid s.table.cores h c.args.given.looks.now c.take_each.new.judged = λ h legal state.
-    c.take_each.ensures.said h (c.settled_is_no_news.ensures s.table h c.limits.ensures legal) (c.board.ensures.agrees h state) in
-    subst (λ (old : Standing). (h : List PassEntry) → IsLegal old.table h → IsStateAfter (board_in old.book) h → AreSaid old.table.cores h c.args.given.looks.now c.take_each.new.judged) view whole
+    let whole : (h : List PassEntry) → IsLegalBy s.book.policy s.table h → IsStateAfter (board_in s.book) h → AreSaid s.table.cores h c.args.given.looks.now c.take_each.new.judged = λ h legal state.
+    c.take_each.ensures.said h (c.permitted_settled_is_no_news.ensures s.table h (c.each_policy_is_permitted.ensures s.book.policy s.table h c.limits.ensures legal)) (c.board.ensures.agrees h state) in
+    subst (λ (old : Standing). (h : List PassEntry) → IsLegalBy old.book.policy old.table h → IsStateAfter (board_in old.book) h → AreSaid old.table.cores h c.args.given.looks.now c.take_each.new.judged) view whole

@@ -18,7 +18,7 @@ returns-clause-decided c = λ h legal agrees given.
     c.in_ok-input.ensures.judged h agrees ∙ ap (λ looks. judged_input table h pass.now pass.bandwidth looks) c.as_slice-looks.ensures in
     let fits : IsInput table h c.in_ok-input.input = subst (IsInput table h) (sym same) given in
     ap (λ (listed : List Action). let e : PassEntry = record { input = c.in_ok-input.input; actions = listed } in e) c.in_ok-actions.ensures
-    ∙ made_pass table h pass c.in_ok-input.input c.step.new.out same (c.step.ensures.acts h legal agrees fits)
+    ∙ made_pass c.args.self.now.book.policy table h pass c.in_ok-input.input c.step.new.out same (c.step.ensures.own h legal agrees fits).acts
 
 pub returns-clause-agrees : goal.returns-clause-agrees
 returns-clause-agrees c = λ h legal agrees given.
@@ -27,4 +27,4 @@ returns-clause-agrees c = λ h legal agrees given.
     let same : c.in_ok-input.input ≡ input_of table h pass =
     c.in_ok-input.ensures.judged h agrees ∙ ap (λ looks. judged_input table h pass.now pass.bandwidth looks) c.as_slice-looks.ensures in
     let fits : IsInput table h c.in_ok-input.input = subst (IsInput table h) (sym same) given in
-    rw c.in_ok-actions.ensures (c.step.ensures.agrees h legal agrees fits)
+    rw c.in_ok-actions.ensures ((c.step.ensures.own h legal agrees fits).agrees)

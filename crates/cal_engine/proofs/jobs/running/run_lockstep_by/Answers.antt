@@ -7,15 +7,15 @@ use Rattle.cal_input.proofs.WholeInput.{answered, refused}
 use Rattle.cal_engine.specs.Running.{is_told, run_front, Begins, Runs}
 use Rattle.cal_engine.specs.Front.{front_of}
 use Rattle.cal_engine.proofs.WrittenRuns.{runs, second, told_alone, told_runs}
-use Rattle.cal_engine.proofs.jobs.running.run_lockstep.Goals as goal
+use Rattle.cal_engine.proofs.jobs.running.run_lockstep_by.Goals as goal
 
 pub returns-then-is_told-clause-exact : goal.returns-then-is_told-clause-exact
 returns-then-is_told-clause-exact g c =
     let input = c.in_ok-input.input.items in
-    answered (λ (given : List ℕ) (outcome : Result RunInput RunFault). Runs c.args.answer c.told_input.result given outcome (g.W.Write.contents c.args.writer.now) (g.W.Write.contents c.told_input.new.writer))
+    answered (λ (given : List ℕ) (outcome : Result RunInput RunFault). Runs c.args.policy c.args.answer c.told_input.result given outcome (g.W.Write.contents c.args.writer.now) (g.W.Write.contents c.told_input.new.writer))
     (g.R.Read.remaining c.args.reader) (g.R.Read.remaining c.read_input.new.reader) input run_input_of
     c.in_ok-input.ensures.all c.in_ok-input.ensures.end c.in_ok-input.ensures.short
-    (told_runs c.args.answer c.told_input.result input (run_input_of input) _ _ (sym c.is_told.ensures ∙ c.if-is_told.true)
+    (told_runs c.args.policy c.args.answer c.told_input.result input (run_input_of input) _ _ (sym c.is_told.ensures ∙ c.if-is_told.true)
     (rw (c.as_slice-given.ensures.value, c.run_front-front.ensures) at c.told_input.ensures.told) (rw c.as_slice-given.ensures.value at c.told_input.ensures.fault))
 
 -- the answer is told, so memory was not refused
@@ -31,7 +31,7 @@ pub returns-then-is_told-clause-begun : goal.returns-then-is_told-clause-begun
 returns-then-is_told-clause-begun g c =
     let old = g.W.Write.contents c.args.writer.now in
     let new = g.W.Write.contents c.told_input.new.writer in
-    IfErr-weaker c.told_input.result _ _ (λ f h is. second (λ told. answered (λ (given : List ℕ) (outcome : Result RunInput RunFault). Begins (front_of (run_front c.args.answer) given) outcome old new)
+    IfErr-weaker c.told_input.result _ _ (λ f h is. second (λ told. answered (λ (given : List ℕ) (outcome : Result RunInput RunFault). Begins c.args.policy (front_of (run_front c.args.answer) given) outcome old new)
     (g.R.Read.remaining c.args.reader) (g.R.Read.remaining c.read_input.new.reader) c.in_ok-input.input.items run_input_of
     c.in_ok-input.ensures.all c.in_ok-input.ensures.end c.in_ok-input.ensures.short told) (h is))
     (rw (c.as_slice-given.ensures.value, c.run_front-front.ensures) at c.told_input.ensures.begun)
@@ -45,8 +45,8 @@ returns-in_err-text-clause-exact g c =
 pub returns-clause-exact : goal.returns-clause-exact
 returns-clause-exact g c =
     let input = c.in_ok-input.input.items in
-    answered (λ (given : List ℕ) (outcome : Result RunInput RunFault). Runs c.args.answer c.write_after_front.result given outcome (g.W.Write.contents c.args.writer.now) (g.W.Write.contents c.write_after_front.new.writer))
+    answered (λ (given : List ℕ) (outcome : Result RunInput RunFault). Runs c.args.policy c.args.answer c.write_after_front.result given outcome (g.W.Write.contents c.args.writer.now) (g.W.Write.contents c.write_after_front.new.writer))
     (g.R.Read.remaining c.args.reader) (g.R.Read.remaining c.read_input.new.reader) input run_input_of
     c.in_ok-input.ensures.all c.in_ok-input.ensures.end c.in_ok-input.ensures.short
-    (runs c.args.answer c.write_after_front.result input (run_input_of input) _ _ c.in_ok-text.text.items (rw c.as_slice-given.ensures.value at c.in_ok-text.ensures.text)
+    (runs c.args.policy c.args.answer c.write_after_front.result input (run_input_of input) _ _ c.in_ok-text.text.items (rw c.as_slice-given.ensures.value at c.in_ok-text.ensures.text)
     (rw (c.as_slice-given.ensures.value, c.as_slice.ensures.value, c.run_front-front.ensures) at c.write_after_front.ensures.bytes) c.write_after_front.ensures.kind)

@@ -4,7 +4,7 @@ use Rattle.cal_input.specs.declared.fault.RunFault.{RunFault}
 use Rattle.cal_input.proofs.WholeInput.{answered}
 use Rattle.cal_engine.specs.Running.{FailedInThreads, RunsInThreads}
 use Rattle.cal_engine.proofs.WrittenRuns.{runs_in_threads}
-use Rattle.cal_engine.proofs.jobs.simulating.run_sim.Goals as goal
+use Rattle.cal_engine.proofs.jobs.simulating.run_sim_by.Goals as goal
 
 pub returns-in_err-text-clause-exact : goal.returns-in_err-text-clause-exact
 returns-in_err-text-clause-exact g c =
@@ -16,8 +16,8 @@ returns-in_err-text-clause-exact g c =
 pub returns-clause-exact : goal.returns-clause-exact
 returns-clause-exact g c =
     let input = c.in_ok-input.input.items in
-    answered (λ (given : List ℕ) (outcome : Result RunInput RunFault). RunsInThreads c.args.answer c.write_after_front.result given outcome (g.W.Write.contents c.args.writer.now) (g.W.Write.contents c.write_after_front.new.writer))
+    answered (λ (given : List ℕ) (outcome : Result RunInput RunFault). RunsInThreads c.args.policy c.args.answer c.write_after_front.result given outcome (g.W.Write.contents c.args.writer.now) (g.W.Write.contents c.write_after_front.new.writer))
     (g.R.Read.remaining c.args.reader) (g.R.Read.remaining c.read_input.new.reader) input run_input_of
     c.in_ok-input.ensures.all c.in_ok-input.ensures.end c.in_ok-input.ensures.short
-    (runs_in_threads c.args.answer c.write_after_front.result input (run_input_of input) _ _ c.in_ok-text.text.items (rw c.as_slice.ensures.value at c.in_ok-text.ensures.text)
+    (runs_in_threads c.args.policy c.args.answer c.write_after_front.result input (run_input_of input) _ _ c.in_ok-text.text.items (rw c.as_slice.ensures.value at c.in_ok-text.ensures.text)
     (rw (c.as_slice-2.ensures.value, c.as_slice-3.ensures.value, c.run_front.ensures) at c.write_after_front.ensures.bytes) c.write_after_front.ensures.kind)
