@@ -1,10 +1,10 @@
 //! What came of runs.
 
-use cal_policy::Seen;
+use cal_policy::{Seen, Verdict};
 use std::fmt;
 
 /// What is added up over runs.
-#[derive(Clone, Copy)]
+#[derive(Clone, Copy, Default)]
 pub struct Counts {
     pub runs: u64,
     pub passes: u64,
@@ -24,20 +24,6 @@ pub struct Counts {
 }
 
 impl Counts {
-    /// Of no run.
-    pub const NONE: Counts = Counts {
-        runs: 0,
-        passes: 0,
-        whole: 0,
-        busy: 0,
-        ahead: 0,
-        foreign: 0,
-        wrong: 0,
-        sent: 0,
-        went_on: 0,
-        legal: 0,
-    };
-
     /// Counts a look, and whether it is the one that is wanted.
     pub fn note(&mut self, seen: Seen, wanted: Seen) {
         let count = match seen {
@@ -52,20 +38,13 @@ impl Counts {
         }
     }
 
-    /// These and more, added up.
-    pub fn with(self, more: Counts) -> Counts {
-        Counts {
-            runs: self.runs.saturating_add(more.runs),
-            passes: self.passes.saturating_add(more.passes),
-            whole: self.whole.saturating_add(more.whole),
-            busy: self.busy.saturating_add(more.busy),
-            ahead: self.ahead.saturating_add(more.ahead),
-            foreign: self.foreign.saturating_add(more.foreign),
-            wrong: self.wrong.saturating_add(more.wrong),
-            sent: self.sent.saturating_add(more.sent),
-            went_on: self.went_on.saturating_add(more.went_on),
-            legal: self.legal.saturating_add(more.legal),
-        }
+    /// Counts a run: whether it went on, what its audit says, and how many commands were sent.
+    pub fn note_run(&mut self, went_on: bool, verdict: Verdict, sent: u64) {
+        let legal = verdict == Verdict::Legal;
+        self.runs = self.runs.saturating_add(1);
+        self.went_on = self.went_on.saturating_add(u64::from(went_on));
+        self.legal = self.legal.saturating_add(u64::from(legal));
+        self.sent = self.sent.saturating_add(sent);
     }
 }
 

@@ -27,47 +27,21 @@ const PASSES: u64 = 100;
 /// Two cores; two threads of a latency-critical task, and two of a best-effort one.
 const MIXED: &[u8] = b"cores = 2
 bandwidth_limit = 1000
-[[task]]
-kind = \"lc\"
-guaranteed = 1
-limit = 2
-delay = 10
-request = 50
-[[task]]
-kind = \"be\"
-guaranteed = 0
-limit = 2
-delay = 10
-request = 0
+task = [
+{ kind = \"lc\", guaranteed = 1, limit = 2, delay = 10, request = 50 },
+{ kind = \"be\", guaranteed = 0, limit = 2, delay = 10, request = 0 },
+]
 ";
 
 /// Four latency-critical tasks of one thread, and a core for each.
 const APART: &[u8] = b"cores = 4
 bandwidth_limit = 1000
-[[task]]
-kind = \"lc\"
-guaranteed = 1
-limit = 1
-delay = 10
-request = 50
-[[task]]
-kind = \"lc\"
-guaranteed = 1
-limit = 1
-delay = 10
-request = 50
-[[task]]
-kind = \"lc\"
-guaranteed = 1
-limit = 1
-delay = 10
-request = 50
-[[task]]
-kind = \"lc\"
-guaranteed = 1
-limit = 1
-delay = 10
-request = 50
+task = [
+{ kind = \"lc\", guaranteed = 1, limit = 1, delay = 10, request = 50 },
+{ kind = \"lc\", guaranteed = 1, limit = 1, delay = 10, request = 50 },
+{ kind = \"lc\", guaranteed = 1, limit = 1, delay = 10, request = 50 },
+{ kind = \"lc\", guaranteed = 1, limit = 1, delay = 10, request = 50 },
+]
 ";
 
 fn main(rt: HostRuntime) -> ExitCode {
@@ -80,23 +54,39 @@ fn main(rt: HostRuntime) -> ExitCode {
 /// Makes the runs of each kind, and writes what came of them.
 fn tell(rt: &HostRuntime) -> io::Result<()> {
     let alloc = rt.alloc();
-    let sound = run_once(alloc, MIXED, PASSES, Broken::Nothing)?;
+    let sound = over(alloc, 1, |_| Broken::Nothing)?;
     write_line(rt, "all are sound", sound)?;
-    write_line(rt, "one stops for a pass", stopping(alloc, true)?)?;
-    write_line(rt, "all stop for a pass", stopping(alloc, false)?)?;
-    write_line(rt, "one stops for ever", staying(alloc)?)?;
-    write_line(rt, "one acknowledges 2^64 - 1", lying(alloc, true)?)?;
-    write_line(
-        rt,
-        "one shows a core that is not there",
-        lying(alloc, false)?,
-    )?;
-    let full = run_once(
+    // A run for each number of steps that a publication may have made as the pass comes.
+    let one = over(
         alloc,
-        APART,
-        2 * PASSES,
-        Broken::TakeNothing { until: PASSES },
+        u64::from(STEPS),
+        |n| Broken::OneStops { steps: step(n) },
     )?;
+    write_line(rt, "one stops for a pass", one)?;
+    let all = over(
+        alloc,
+        u64::from(STEPS),
+        |n| Broken::AllStop { steps: step(n) },
+    )?;
+    write_line(rt, "all stop for a pass", all)?;
+    // For each of these, and each pass from which on no further step is made.
+    let stays = over(
+        alloc,
+        PASSES * u64::from(STEPS),
+        |n| Broken::OneStays {
+            steps: step(n),
+            from: n / u64::from(STEPS),
+        },
+    )?;
+    write_line(rt, "one stops for ever", stays)?;
+    // For each pass from which on one thread's records are false.
+    let ahead = over(alloc, PASSES, |from| Broken::OneAhead { from })?;
+    write_line(rt, "one acknowledges 2^64 - 1", ahead)?;
+    let foreign = over(alloc, PASSES, |from| Broken::OneForeign { from })?;
+    write_line(rt, "one shows a core that is not there", foreign)?;
+    let mut full = Counts::default();
+    let broken = Broken::TakeNothing { until: PASSES };
+    run_once(alloc, APART, 2 * PASSES, broken, &mut full)?;
     write_line(rt, "rings are full", full)?;
     writeln!(&mut rt.stdout(), "rings are full: sent {}", full.sent)
 }
@@ -105,47 +95,18 @@ fn write_line(rt: &HostRuntime, kind: &str, counts: Counts) -> io::Result<()> {
     writeln!(&mut rt.stdout(), "{kind}: {counts}")
 }
 
-/// A run for each number of steps that a publication may have made as the pass comes.
-fn stopping(alloc: Global, one: bool) -> io::Result<Counts> {
-    let mut sum = Counts::NONE;
-    for steps in 0..STEPS {
-        let broken = if one {
-            Broken::OneStops { steps }
-        } else {
-            Broken::AllStop { steps }
-        };
-        sum = sum.with(run_once(alloc, MIXED, PASSES, broken)?);
+/// What comes of so many runs, of which run `n` has the threads that are broken so.
+fn over<F: Fn(u64) -> Broken>(alloc: Global, runs: u64, broken: F) -> io::Result<Counts>
+    requires { F.IsAlwaysCallable broken }
+{
+    let mut counts = Counts::default();
+    for n in 0..runs {
+        run_once(alloc, MIXED, PASSES, broken(n), &mut counts)?;
     }
-    Ok(sum)
+    Ok(counts)
 }
 
-/// A run for each number of steps and each pass from which on no further step is made.
-fn staying(alloc: Global) -> io::Result<Counts> {
-    let mut sum = Counts::NONE;
-    for from in 0..PASSES {
-        sum = sum.with(staying_from(alloc, from)?);
-    }
-    Ok(sum)
-}
-
-fn staying_from(alloc: Global, from: u64) -> io::Result<Counts> {
-    let mut sum = Counts::NONE;
-    for steps in 0..STEPS {
-        sum = sum.with(run_once(alloc, MIXED, PASSES, Broken::OneStays { steps, from })?);
-    }
-    Ok(sum)
-}
-
-/// A run for each pass from which on one thread's records are false.
-fn lying(alloc: Global, ahead: bool) -> io::Result<Counts> {
-    let mut sum = Counts::NONE;
-    for from in 0..PASSES {
-        let broken = if ahead {
-            Broken::OneAhead { from }
-        } else {
-            Broken::OneForeign { from }
-        };
-        sum = sum.with(run_once(alloc, MIXED, PASSES, broken)?);
-    }
-    Ok(sum)
+/// The number of steps of run `n`, where each number has its turn.
+fn step(n: u64) -> u8 {
+    (n % u64::from(STEPS)) as u8
 }

@@ -18,18 +18,26 @@ struct Run {
     history: Vec<PassEntry>,
     threads: Vec<Thread>,
     broken: Broken,
-    counts: Counts,
 }
 
-/// Makes so many passes over the table's threads, each after a turn of each thread.
-pub fn run_once(alloc: Global, table: &[u8], passes: u64, broken: Broken) -> io::Result<Counts> {
+/// Makes so many passes over the table's threads, each after a turn of each thread, and adds what
+/// came of them to the counts.
+pub fn run_once(
+    alloc: Global,
+    table: &[u8],
+    passes: u64,
+    broken: Broken,
+    counts: &mut Counts,
+) -> io::Result<()> {
     let mut run = open(alloc, table, broken)?;
     let half = passes / 2;
-    run.pass_often(0, half)?;
+    run.pass_often(0, half, counts)?;
     let before = run.taken();
-    run.pass_often(half, passes)?;
+    run.pass_often(half, passes, counts)?;
     let went_on = run.taken() > before;
-    run.end(alloc, went_on)
+    let verdict = audit_in_turn(alloc, &run.config, run.history.as_slice())?;
+    counts.note_run(went_on, verdict, sent_in(run.history.as_slice()));
+    Ok(())
 }
 
 fn refused() -> io::Error {
@@ -37,27 +45,20 @@ fn refused() -> io::Error {
 }
 
 fn open(alloc: Global, table: &[u8], broken: Broken) -> io::Result<Run> {
-    let Ok(config) = Config::read(alloc, table) else {
-        return Err(refused());
-    };
-    let Ok(arrivals) = read_arrivals(alloc, &config, b"caladan-arrivals,1\nend,0\n") else {
-        return Err(refused());
-    };
-    let Ok(parts) = open_parts(alloc, &config, &arrivals) else {
-        return Err(refused());
-    };
+    let config = Config::read(alloc, table).or(Err(refused()))?;
+    let arrivals = b"caladan-arrivals,1\nend,0\n";
+    let arrivals = read_arrivals(alloc, &config, arrivals).or(Err(refused()))?;
     let Parts {
         scheduler,
         workers,
         ..
-    } = parts;
+    } = open_parts(alloc, &config, &arrivals).or(Err(refused()))?;
     Ok(Run {
         config,
         scheduler,
         history: Vec::new(alloc),
         threads: threads_of(alloc, workers)?,
         broken,
-        counts: Counts::NONE,
     })
 }
 
@@ -72,14 +73,15 @@ fn threads_of(alloc: Global, workers: Vec<Worker>) -> Result<Vec<Thread>, AllocE
 
 impl Run {
     /// The passes from one to another.
-    fn pass_often(&mut self, from: u64, to: u64) -> io::Result<()> {
+    fn pass_often(&mut self, from: u64, to: u64, counts: &mut Counts) -> io::Result<()> {
         for pass in from..to {
             let now = pass.saturating_mul(10).saturating_add(1000);
             self.turn_each(pass, now);
-            let Ok(entry) = self.scheduler.pass(now.saturating_add(5), 0) else {
-                return Err(refused());
-            };
-            self.counts = self.looked(&entry);
+            let entry = self
+                .scheduler
+                .pass(now.saturating_add(5), 0)
+                .or(Err(refused()))?;
+            self.note_looks(&entry, counts);
             self.history.push(entry)?;
         }
         Ok(())
@@ -91,14 +93,12 @@ impl Run {
         }
     }
 
-    /// The counts with this pass and its looks.
-    fn looked(&self, entry: &PassEntry) -> Counts {
-        let mut counts = self.counts;
+    /// Counts this pass and its looks.
+    fn note_looks(&self, entry: &PassEntry, counts: &mut Counts) {
         counts.passes = counts.passes.saturating_add(1);
         for (thread, seen) in self.threads.iter().zip(entry.input.seen.as_slice().iter()) {
             counts.note(*seen, thread.wanted());
         }
-        counts
     }
 
     /// How many commands the threads took that are sound to the end.
@@ -110,19 +110,6 @@ impl Run {
             }
         }
         taken
-    }
-
-    /// The counts of the whole run.
-    fn end(self, alloc: Global, went_on: bool) -> io::Result<Counts> {
-        let history = self.history.as_slice();
-        let verdict = audit_in_turn(alloc, &self.config, history)?;
-        Ok(Counts {
-            runs: 1,
-            went_on: went_on as u64,
-            legal: (verdict == Verdict::Legal) as u64,
-            sent: sent_in(history),
-            ..self.counts
-        })
     }
 }
 
@@ -143,17 +130,11 @@ fn audit_in_turn(
 fn sent_in(history: &[PassEntry]) -> u64 {
     let mut sent = 0_u64;
     for entry in history {
-        sent = sent.saturating_add(sent_by(entry.actions.as_slice()));
-    }
-    sent
-}
-
-fn sent_by(actions: &[Action]) -> u64 {
-    let mut sent = 0_u64;
-    for action in actions {
-        if matches!(action, Action::Grant { .. } | Action::Revoke { .. }) {
-            sent = sent.saturating_add(1);
-        }
+        let commands = entry.actions.as_slice().iter().filter(|it| matches!(
+            it,
+            Action::Grant { .. } | Action::Revoke { .. }
+        ));
+        sent = sent.saturating_add(commands.count() as u64);
     }
     sent
 }

@@ -59,39 +59,30 @@ impl Thread {
                 self.pending = Some(Record { stamp: now, ..rec });
                 self.publish(steps);
             }
-            Plan::Acknowledge { taken } => self.claim(
-                Record {
-                    taken,
-                    ..waiting(self.last, now)
-                },
-                now,
-            ),
+            Plan::Acknowledge { taken } => self.claim(taken, now),
             Plan::Exceed { taken } => {
                 self.judged = Judged::Ahead;
-                self.claim(
-                    Record {
-                        taken,
-                        ..waiting(self.last, now)
-                    },
-                    now,
-                );
+                self.claim(taken, now);
             }
             Plan::Intrude => {
                 self.judged = Judged::Foreign;
-                self.claim(
-                    Record {
-                        running: 128,
-                        ..self.last
-                    },
-                    now,
-                );
+                self.pending = Some(Record {
+                    running: 128,
+                    stamp: now,
+                    ..self.last
+                });
+                self.publish(STEPS);
             }
         }
     }
 
-    /// Publishes a record that it has no right to.
-    fn claim(&mut self, rec: Record, now: u64) {
-        self.pending = Some(Record { stamp: now, ..rec });
+    /// Publishes that it took so many commands, none of which it took, and has a request.
+    fn claim(&mut self, taken: u64, now: u64) {
+        self.pending = Some(Record {
+            taken,
+            stamp: now,
+            ..waiting(self.last, now)
+        });
         self.publish(STEPS);
     }
 

@@ -1,60 +1,48 @@
 //! What the programs do with an input.
 
-use crate::attempt::{Fault, answer, begin, wrong};
-use crate::runs::write_verdict;
+use crate::attempt::{Stop, Tried, answer, begin};
 use crate::table_and_trace::TableAndTrace;
+use crate::texts::write_legal;
 use cal_engine::{RunAnswer, decide, run_audit, run_lockstep, run_sim};
 use cal_tables::{ComparedInput, Labels, NumberForm, NumberStyle, compare, measure};
 use cal_trace::read_history;
 use std::alloc::Global;
-use std::io;
 use std::io::Write;
 use std::sync::Wait;
 use std::thread::Threads;
 
-/// How many bytes an answer may have: its writer has room for them before the call is made, so that
-/// only the call is refused memory.
-const ROOM: usize = 65_536;
-
-fn writer(alloc: Global) -> io::Result<Vec<u8>> {
-    Ok(Vec::with_capacity(alloc, ROOM)?)
-}
-
-/// Writes what a call wrote; false where it was refused.
-fn write_text<T: Drop, E: Into<Fault> + Drop>(
-    rt: &HostRuntime,
-    made: Result<T, E>,
-    text: &[u8],
-) -> io::Result<bool> {
-    if answer(rt, made)?.is_none() {
-        return Ok(false);
-    }
-    rt.stdout().write_all(text)?;
-    Ok(true)
+/// A writer that has room for all that a call writes before the call is made, so that only the call
+/// is refused memory.
+fn writer(alloc: Global) -> Tried<Vec<u8>> {
+    Ok(Vec::with_capacity(alloc, 65_536)?)
 }
 
 /// The report of signals.
-pub fn decided(rt: &HostRuntime, given: &TableAndTrace) -> io::Result<bool> {
+pub fn decided(rt: &HostRuntime, given: &TableAndTrace) -> Tried<()> {
     let mut text = writer(rt.alloc())?;
     begin(rt)?;
-    let made = decide(rt.alloc(), given.text, &mut text);
-    write_text(rt, made, text.as_slice())
+    answer(rt, decide(rt.alloc(), given.text, &mut text))?;
+    rt.stdout().write_all(text.as_slice())?;
+    Ok(())
 }
 
 /// The report of a history.
-pub fn audited(rt: &HostRuntime, given: &TableAndTrace) -> io::Result<bool> {
+pub fn audited(rt: &HostRuntime, given: &TableAndTrace) -> Tried<()> {
     let mut text = writer(rt.alloc())?;
     begin(rt)?;
-    let made = run_audit(rt.alloc(), given.text, &mut text);
-    write_text(rt, made, text.as_slice())
+    answer(rt, run_audit(rt.alloc(), given.text, &mut text))?;
+    rt.stdout().write_all(text.as_slice())?;
+    Ok(())
 }
 
 /// The history of a run on one thread.
-pub fn on_one_thread(rt: &HostRuntime, given: &TableAndTrace) -> io::Result<bool> {
+pub fn on_one_thread(rt: &HostRuntime, given: &TableAndTrace) -> Tried<()> {
     let mut text = writer(rt.alloc())?;
     begin(rt)?;
     let made = run_lockstep(rt.alloc(), given.text, RunAnswer::History, &mut text);
-    write_text(rt, made, text.as_slice())
+    answer(rt, made)?;
+    rt.stdout().write_all(text.as_slice())?;
+    Ok(())
 }
 
 /// The history of a run in threads, of which what is the same of them all is written.
@@ -62,18 +50,13 @@ pub fn in_threads<H: Threads + Wait + Sync>(
     host: &H,
     rt: &HostRuntime,
     given: &TableAndTrace,
-) -> io::Result<bool> {
+) -> Tried<()> {
     let mut text = writer(rt.alloc())?;
     begin(rt)?;
     let made = run_sim(host, rt.alloc(), given.text, RunAnswer::History, &mut text);
-    if answer(rt, made)?.is_none() {
-        return Ok(false);
-    }
-    match read_history(rt.alloc(), &given.config, text.as_slice()) {
-        Ok(history) => write_verdict(rt, given, history.as_slice())?,
-        Err(_) => return Err(wrong()),
-    }
-    Ok(true)
+    answer(rt, made)?;
+    let history = read_history(rt.alloc(), &given.config, text.as_slice()).or(Err(Stop::Wrong))?;
+    write_legal(rt, &given.config, history.as_slice())
 }
 
 /// How numbers are written: in columns, under plain labels.
@@ -85,21 +68,23 @@ fn in_columns() -> NumberStyle<'static> {
 }
 
 /// The numbers of a run.
-pub fn measured(rt: &HostRuntime, given: &TableAndTrace) -> io::Result<bool> {
+pub fn measured(rt: &HostRuntime, given: &TableAndTrace) -> Tried<()> {
     let mut text = writer(rt.alloc())?;
     begin(rt)?;
-    let made = measure(rt.alloc(), given.text, in_columns(), &mut text);
-    write_text(rt, made, text.as_slice())
+    answer(rt, measure(rt.alloc(), given.text, in_columns(), &mut text))?;
+    rt.stdout().write_all(text.as_slice())?;
+    Ok(())
 }
 
 /// The numbers of the runs of some tables.
-pub fn compared(rt: &HostRuntime, given: &TableAndTrace) -> io::Result<bool> {
+pub fn compared(rt: &HostRuntime, given: &TableAndTrace) -> Tried<()> {
     let mut text = writer(rt.alloc())?;
     begin(rt)?;
     let input = ComparedInput {
         bytes: given.text,
         variation: None,
     };
-    let made = compare(rt.alloc(), input, in_columns(), &mut text);
-    write_text(rt, made, text.as_slice())
+    answer(rt, compare(rt.alloc(), input, in_columns(), &mut text))?;
+    rt.stdout().write_all(text.as_slice())?;
+    Ok(())
 }

@@ -23,12 +23,12 @@ mod turning;
 mod worlds;
 mod writing;
 
-use attempt::wrong;
+use attempt::{Stop, Tried, twice};
+use std::env;
 use std::io::Read;
 use std::process::ExitCode;
 use std::sync::Wait;
 use std::thread::Threads;
-use std::{env, io};
 use table_and_trace::TableAndTrace;
 
 fn main(rt: HostRuntime) -> ExitCode {
@@ -39,28 +39,34 @@ fn main(rt: HostRuntime) -> ExitCode {
 }
 
 /// Makes each call that the words name, and again where it was refused.
-fn call_each<H: Threads + Wait + Sync>(host: &H, rt: &HostRuntime) -> io::Result<()> {
+fn call_each<H: Threads + Wait + Sync>(host: &H, rt: &HostRuntime) -> Tried<()> {
     let mut text = Vec::new(rt.alloc());
     rt.stdin().read_to_end(&mut text)?;
     let given = TableAndTrace::of(rt.alloc(), text.as_slice())?;
     for word in env::args(rt)?.skip(1) {
-        let word = word.as_str();
-        if !call(host, rt, word, &given)? && !call(host, rt, word, &given)? {
-            return Err(wrong());
-        }
+        twice(|| call(host, rt, word.as_str(), &given))?;
     }
     Ok(())
 }
 
-/// Makes a call and writes its answer. False where it was refused.
+/// Makes a call and writes its answer.
 fn call<H: Threads + Wait + Sync>(
     host: &H,
     rt: &HostRuntime,
     word: &str,
     given: &TableAndTrace,
-) -> io::Result<bool> {
+) -> Tried<()> {
     match word {
-        "read_table" => reading::read_table(rt, given),
+        "simulate" => runs::in_threads(host, rt, given),
+        "run_sim" => engines::in_threads(host, rt, given),
+        _ => call_reading(rt, word, given),
+    }
+}
+
+/// Readings, copies and audits.
+fn call_reading(rt: &HostRuntime, word: &str, given: &TableAndTrace) -> Tried<()> {
+    match word {
+        "read_table" => reading::table(rt, given),
         "read_arrivals" => reading::arrivals(rt, given),
         "read_history" => reading::history(rt, given),
         "read_signals" => reading::signals(rt, given),
@@ -68,19 +74,15 @@ fn call<H: Threads + Wait + Sync>(
         "copy_table" => copies::table(rt, given),
         "copy_entries" => copies::entries(rt, given),
         "copy_events" => copies::events(rt, given),
-        _ => call_more(host, rt, word, given),
+        "audit" => policy::audit_whole(rt, given),
+        "auditor" => policy::audit_in_turn(rt, given),
+        _ => call_opening(rt, word, given),
     }
 }
 
-fn call_more<H: Threads + Wait + Sync>(
-    host: &H,
-    rt: &HostRuntime,
-    word: &str,
-    given: &TableAndTrace,
-) -> io::Result<bool> {
+/// Openings, turns, passes and worlds.
+fn call_opening(rt: &HostRuntime, word: &str, given: &TableAndTrace) -> Tried<()> {
     match word {
-        "audit" => policy::audit_whole(rt, given),
-        "auditor" => policy::audit_in_turn(rt, given),
         "open_page" => opening::page(rt),
         "open_watched" => opening::watched(rt),
         "open_ring" => opening::ring(rt),
@@ -94,31 +96,24 @@ fn call_more<H: Threads + Wait + Sync>(
         "start" => worlds::start(rt, given),
         "step" => worlds::steps(rt, given),
         "run_events" => worlds::whole(rt, given),
-        _ => call_whole(host, rt, word, given),
+        _ => call_whole(rt, word, given),
     }
 }
 
 /// Whole runs, and what is written of them.
-fn call_whole<H: Threads + Wait + Sync>(
-    host: &H,
-    rt: &HostRuntime,
-    word: &str,
-    given: &TableAndTrace,
-) -> io::Result<bool> {
+fn call_whole(rt: &HostRuntime, word: &str, given: &TableAndTrace) -> Tried<()> {
     match word {
         "linearise" => order::of_run(rt, given),
         "lockstep" => runs::on_one_thread(rt, given),
-        "simulate" => runs::in_threads(host, rt, given),
         "write_history" => writing::history(rt, given),
         "write_report" => writing::report(rt, given),
         "decide" => engines::decided(rt, given),
         "run_audit" => engines::audited(rt, given),
         "run_lockstep" => engines::on_one_thread(rt, given),
-        "run_sim" => engines::in_threads(host, rt, given),
         "measure" => engines::measured(rt, given),
         "compare" => engines::compared(rt, given),
         "full_history" => full::full_history(rt, given),
         "full_journal" => full::full_journal(rt, given),
-        _ => Err(wrong()),
+        _ => Err(Stop::Wrong),
     }
 }

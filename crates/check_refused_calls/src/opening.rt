@@ -1,68 +1,56 @@
 //! Pages, rings, books and guards of nothing yet.
 
-use crate::attempt::{answer, begin};
+use crate::attempt::{Tried, answer, begin};
 use crate::table_and_trace::TableAndTrace;
 use cal_command::open_ring;
 use cal_guard::Guard;
 use cal_machine::Command;
 use cal_policy::Book;
 use cal_signal::{Record, open_page, open_watched};
-use std::io;
 use std::io::Write;
 
 /// A page, and the first record on it.
-pub fn page(rt: &HostRuntime) -> io::Result<bool> {
+pub fn page(rt: &HostRuntime) -> Tried<()> {
     begin(rt)?;
-    let Some((mut publisher, mut observer)) = answer(rt, open_page(rt.alloc()))? else {
-        return Ok(false);
-    };
+    let (mut publisher, mut observer) = answer(rt, open_page(rt.alloc()))?;
     let place = publisher.publish(Record::ZERO);
     writeln!(&mut rt.stdout(), "{place:?} {:?}", observer.observe())?;
-    Ok(true)
+    Ok(())
 }
 
 /// A page with a watch, and the first record on it.
-pub fn watched(rt: &HostRuntime) -> io::Result<bool> {
+pub fn watched(rt: &HostRuntime) -> Tried<()> {
     begin(rt)?;
-    let Some((mut publisher, mut observer, mut watcher)) = answer(rt, open_watched(rt.alloc()))?
-    else {
-        return Ok(false);
-    };
+    let (mut publisher, mut observer, mut watcher) = answer(rt, open_watched(rt.alloc()))?;
     let place = publisher.publish(Record::ZERO);
     let (look, other) = (observer.observe(), watcher.observe());
     writeln!(&mut rt.stdout(), "{place:?} {look:?} {other:?}")?;
-    Ok(true)
+    Ok(())
 }
 
 /// A ring, and the first command through it.
-pub fn ring(rt: &HostRuntime) -> io::Result<bool> {
+pub fn ring(rt: &HostRuntime) -> Tried<()> {
     begin(rt)?;
-    let Some((mut sender, mut taker)) = answer(rt, open_ring(rt.alloc()))? else {
-        return Ok(false);
-    };
+    let (mut sender, mut taker) = answer(rt, open_ring(rt.alloc()))?;
     if sender.room() {
         sender.send(Command::Park);
     }
     writeln!(&mut rt.stdout(), "{:?}", taker.take())?;
-    Ok(true)
+    Ok(())
 }
 
 /// A book of no history.
-pub fn book(rt: &HostRuntime, given: &TableAndTrace) -> io::Result<bool> {
+pub fn book(rt: &HostRuntime, given: &TableAndTrace) -> Tried<()> {
     begin(rt)?;
-    let Some(_book) = answer(rt, Book::open(rt.alloc(), &given.config))? else {
-        return Ok(false);
-    };
+    answer(rt, Book::open(rt.alloc(), &given.config))?;
     writeln!(&mut rt.stdout(), "a book")?;
-    Ok(true)
+    Ok(())
 }
 
 /// A guard of no history.
-pub fn guard(rt: &HostRuntime, given: &TableAndTrace) -> io::Result<bool> {
+pub fn guard(rt: &HostRuntime, given: &TableAndTrace) -> Tried<()> {
     begin(rt)?;
-    let Some(_guard) = answer(rt, Guard::open(rt.alloc(), &given.config))? else {
-        return Ok(false);
-    };
+    answer(rt, Guard::open(rt.alloc(), &given.config))?;
     writeln!(&mut rt.stdout(), "a guard")?;
-    Ok(true)
+    Ok(())
 }

@@ -2,26 +2,25 @@
 
 ghost use Rattle.cal_linear.specs.Runs.{AreOfOneRun, AreWatched};
 
-use crate::attempt::{answer, begin, wrong};
+use crate::attempt::{Stop, Tried, answer, begin};
 use crate::table_and_trace::TableAndTrace;
 use crate::texts::write_events;
 use cal_linear::{fitting_looks_are_publications, linearise};
 use cal_machine::Config;
 use cal_run::{Outcome, lockstep};
-use std::io;
 
 /// The steps of a run on one thread.
-pub fn of_run(rt: &HostRuntime, given: &TableAndTrace) -> io::Result<bool> {
+pub fn of_run(rt: &HostRuntime, given: &TableAndTrace) -> Tried<()> {
     let arrivals = given.arrivals(rt.alloc())?;
     given.config.limits();
     fitting_looks_are_publications();
     match lockstep(rt.alloc(), &given.config, &arrivals) {
         Ok(outcome) => of_outcome(rt, &given.config, &outcome),
-        Err(_) => Err(wrong()),
+        Err(_) => Err(Stop::Wrong),
     }
 }
 
-fn of_outcome(rt: &HostRuntime, config: &Config, outcome: &Outcome) -> io::Result<bool>
+fn of_outcome(rt: &HostRuntime, config: &Config, outcome: &Outcome) -> Tried<()>
     requires run { AreOfOneRun config.now outcome.now.history outcome.now.journals }
     requires watched { AreWatched config.now outcome.now.journals outcome.now.watched }
 {
@@ -30,9 +29,6 @@ fn of_outcome(rt: &HostRuntime, config: &Config, outcome: &Outcome) -> io::Resul
     let watched = outcome.watched.as_slice();
     begin(rt)?;
     let made = linearise(rt.alloc(), config, history, journals, watched);
-    let Some(events) = answer(rt, made)? else {
-        return Ok(false);
-    };
-    write_events(rt, events.as_slice())?;
-    Ok(true)
+    let events = answer(rt, made)?;
+    write_events(rt, events.as_slice())
 }

@@ -1,27 +1,31 @@
 //! Audits.
 
-use crate::attempt::{answer, begin};
+use crate::attempt::{Tried, answer, begin};
 use crate::table_and_trace::TableAndTrace;
 use cal_machine::Config;
 use cal_policy::{Auditor, PassEntry, Verdict, audit};
 use std::alloc::{AllocError, Global};
-use std::io;
 use std::io::Write;
 
 /// The audit of a whole history.
-pub fn audit_whole(rt: &HostRuntime, given: &TableAndTrace) -> io::Result<bool> {
+pub fn audit_whole(rt: &HostRuntime, given: &TableAndTrace) -> Tried<()> {
     let history = given.history(rt.alloc())?;
     begin(rt)?;
-    let made = audit(rt.alloc(), &given.config, history.as_slice());
-    write_verdict(rt, answer(rt, made)?)
+    let verdict = answer(rt, audit(rt.alloc(), &given.config, history.as_slice()))?;
+    writeln!(&mut rt.stdout(), "{verdict:?}")?;
+    Ok(())
 }
 
 /// The audit of a history that is handed over one pass after the other.
-pub fn audit_in_turn(rt: &HostRuntime, given: &TableAndTrace) -> io::Result<bool> {
+pub fn audit_in_turn(rt: &HostRuntime, given: &TableAndTrace) -> Tried<()> {
     let history = given.history(rt.alloc())?;
     begin(rt)?;
-    let made = audit_each(rt.alloc(), &given.config, history.as_slice());
-    write_verdict(rt, answer(rt, made)?)
+    let verdict = answer(
+        rt,
+        audit_each(rt.alloc(), &given.config, history.as_slice()),
+    )?;
+    writeln!(&mut rt.stdout(), "{verdict:?}")?;
+    Ok(())
 }
 
 fn audit_each(
@@ -34,12 +38,4 @@ fn audit_each(
         auditor.next(config, entry);
     }
     Ok(auditor.verdict())
-}
-
-fn write_verdict(rt: &HostRuntime, verdict: Option<Verdict>) -> io::Result<bool> {
-    let Some(verdict) = verdict else {
-        return Ok(false);
-    };
-    writeln!(&mut rt.stdout(), "{verdict:?}")?;
-    Ok(true)
 }

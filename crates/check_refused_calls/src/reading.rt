@@ -1,8 +1,9 @@
 //! Readings of texts.
 
-use crate::attempt::{Fault, answer, begin};
+use crate::attempt::{Tried, answer, begin};
 use crate::table_and_trace::TableAndTrace;
 use crate::texts::{write_each, write_passes};
+use cal_input::RunFault;
 use cal_machine::Config;
 use cal_trace::{SignalPass, SignalRows, read_arrivals, read_history, read_signals};
 use std::alloc::Global;
@@ -10,62 +11,48 @@ use std::io;
 use std::io::Write;
 
 /// The table.
-pub fn read_table(rt: &HostRuntime, given: &TableAndTrace) -> io::Result<bool> {
+pub fn table(rt: &HostRuntime, given: &TableAndTrace) -> Tried<()> {
     begin(rt)?;
-    let Some(config) = answer(rt, Config::read(rt.alloc(), given.table))? else {
-        return Ok(false);
-    };
+    let config = answer(rt, Config::read(rt.alloc(), given.table))?;
     writeln!(&mut rt.stdout(), "{config:?}")?;
-    Ok(true)
+    Ok(())
 }
 
 /// The trace as arrivals.
-pub fn arrivals(rt: &HostRuntime, given: &TableAndTrace) -> io::Result<bool> {
+pub fn arrivals(rt: &HostRuntime, given: &TableAndTrace) -> Tried<()> {
     begin(rt)?;
-    let made = read_arrivals(rt.alloc(), &given.config, given.trace);
-    let Some(arrivals) = answer(rt, made)? else {
-        return Ok(false);
-    };
+    let arrivals = answer(rt, read_arrivals(rt.alloc(), &given.config, given.trace))?;
     write_each(rt, arrivals.passes.as_slice())?;
     write_each(rt, arrivals.turns.as_slice())?;
     write_each(rt, arrivals.requests.as_slice())?;
-    Ok(true)
+    Ok(())
 }
 
 /// The trace as a history.
-pub fn history(rt: &HostRuntime, given: &TableAndTrace) -> io::Result<bool> {
+pub fn history(rt: &HostRuntime, given: &TableAndTrace) -> Tried<()> {
     begin(rt)?;
-    let made = read_history(rt.alloc(), &given.config, given.trace);
-    let Some(history) = answer(rt, made)? else {
-        return Ok(false);
-    };
-    write_passes(rt, history.as_slice())?;
-    Ok(true)
+    let history = answer(rt, read_history(rt.alloc(), &given.config, given.trace))?;
+    write_passes(rt, history.as_slice())
 }
 
 /// The trace as signals, all at once.
-pub fn signals(rt: &HostRuntime, given: &TableAndTrace) -> io::Result<bool> {
+pub fn signals(rt: &HostRuntime, given: &TableAndTrace) -> Tried<()> {
     begin(rt)?;
-    let made = read_signals(rt.alloc(), &given.config, given.trace);
-    let Some(signals) = answer(rt, made)? else {
-        return Ok(false);
-    };
+    let signals = answer(rt, read_signals(rt.alloc(), &given.config, given.trace))?;
     write_signals(rt, signals.passes.as_slice())?;
-    Ok(true)
+    Ok(())
 }
 
 /// The passes of the signals, one after the other as they are read, from the first one on where one
 /// was refused.
-pub fn signal_rows(rt: &HostRuntime, given: &TableAndTrace) -> io::Result<bool> {
+pub fn signal_rows(rt: &HostRuntime, given: &TableAndTrace) -> Tried<()> {
     begin(rt)?;
-    let Some(passes) = answer(rt, passes_in_turn(rt.alloc(), given))? else {
-        return Ok(false);
-    };
+    let passes = answer(rt, passes_in_turn(rt.alloc(), given))?;
     write_signals(rt, passes.as_slice())?;
-    Ok(true)
+    Ok(())
 }
 
-fn passes_in_turn(alloc: Global, given: &TableAndTrace) -> Result<Vec<SignalPass>, Fault> {
+fn passes_in_turn(alloc: Global, given: &TableAndTrace) -> Result<Vec<SignalPass>, RunFault> {
     let mut rows = SignalRows::open(alloc, &given.config, given.trace)?;
     let mut passes = Vec::new(alloc);
     while let Some(pass) = rows.next()? {

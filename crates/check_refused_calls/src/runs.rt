@@ -1,26 +1,19 @@
 //! Whole runs.
 
-use crate::attempt::{answer, begin, wrong};
+use crate::attempt::{Tried, answer, begin};
 use crate::table_and_trace::TableAndTrace;
-use crate::texts::write_outcome;
-use cal_policy::{PassEntry, Verdict, audit};
+use crate::texts::{write_legal, write_outcome};
 use cal_run::lockstep;
 use cal_threads::{FreeGate, simulate};
-use std::io;
-use std::io::Write;
 use std::sync::Wait;
 use std::thread::Threads;
 
 /// A run on one thread.
-pub fn on_one_thread(rt: &HostRuntime, given: &TableAndTrace) -> io::Result<bool> {
+pub fn on_one_thread(rt: &HostRuntime, given: &TableAndTrace) -> Tried<()> {
     let arrivals = given.arrivals(rt.alloc())?;
     begin(rt)?;
-    let made = lockstep(rt.alloc(), &given.config, &arrivals);
-    let Some(outcome) = answer(rt, made)? else {
-        return Ok(false);
-    };
-    write_outcome(rt, &outcome)?;
-    Ok(true)
+    let outcome = answer(rt, lockstep(rt.alloc(), &given.config, &arrivals))?;
+    write_outcome(rt, &outcome)
 }
 
 /// A run in threads, each of which may come to another outcome, so what is written is the same of
@@ -29,26 +22,10 @@ pub fn in_threads<H: Threads + Wait + Sync>(
     host: &H,
     rt: &HostRuntime,
     given: &TableAndTrace,
-) -> io::Result<bool> {
+) -> Tried<()> {
     let arrivals = given.arrivals(rt.alloc())?;
     begin(rt)?;
     let made = simulate(host, rt.alloc(), &given.config, &arrivals, &FreeGate);
-    let Some(outcome) = answer(rt, made)? else {
-        return Ok(false);
-    };
-    write_verdict(rt, given, outcome.history.as_slice())?;
-    Ok(true)
-}
-
-/// That a history is legal, and how many passes it has.
-pub fn write_verdict(
-    rt: &HostRuntime,
-    given: &TableAndTrace,
-    history: &[PassEntry],
-) -> io::Result<()> {
-    let passes = history.len();
-    match audit(rt.alloc(), &given.config, history)? {
-        Verdict::Legal => writeln!(&mut rt.stdout(), "legal, {passes} passes"),
-        Verdict::Illegal { .. } => Err(wrong()),
-    }
+    let outcome = answer(rt, made)?;
+    write_legal(rt, &given.config, outcome.history.as_slice())
 }

@@ -3,13 +3,12 @@
 ghost use Rattle.std.specs.Prelude.{IfOk};
 ghost use Rattle.cal_trace.specs.Arrivals.FitsTable.{FitsTable};
 
-use crate::attempt::wrong;
+use crate::attempt::{Stop, Tried};
 use cal_machine::Config;
 use cal_policy::PassEntry;
 use cal_run::{Outcome, lockstep};
 use cal_trace::{Arrivals, read_arrivals, read_history};
 use std::alloc::Global;
-use std::io;
 
 /// An input of a task table and a trace.
 #[derive(Drop)]
@@ -26,46 +25,33 @@ pub struct TableAndTrace<'a> {
 
 impl<'a> TableAndTrace<'a> {
     /// The input that a text spells.
-    pub fn of(alloc: Global, text: &'a [u8]) -> io::Result<TableAndTrace<'a>> {
-        let Some((table, trace)) = split(text) else {
-            return Err(wrong());
-        };
-        match Config::read(alloc, table) {
-            Ok(config) => Ok(TableAndTrace {
-                text,
-                table,
-                config,
-                trace,
-            }),
-            Err(_) => Err(wrong()),
-        }
+    pub fn of(alloc: Global, text: &'a [u8]) -> Tried<TableAndTrace<'a>> {
+        let (table, trace) = split(text).ok_or(Stop::Wrong)?;
+        let config = Config::read(alloc, table).or(Err(Stop::Wrong))?;
+        Ok(TableAndTrace {
+            text,
+            table,
+            config,
+            trace,
+        })
     }
 
     /// The trace as arrivals.
-    pub fn arrivals(&self, alloc: Global) -> io::Result<Arrivals>
+    pub fn arrivals(&self, alloc: Global) -> Tried<Arrivals>
         ensures fits { IfOk result (FitsTable self.now.config) }
     {
-        match read_arrivals(alloc, &self.config, self.trace) {
-            Ok(arrivals) => Ok(arrivals),
-            Err(_) => Err(wrong()),
-        }
+        read_arrivals(alloc, &self.config, self.trace).or(Err(Stop::Wrong))
     }
 
     /// The trace as a history.
-    pub fn history(&self, alloc: Global) -> io::Result<Vec<PassEntry>> {
-        match read_history(alloc, &self.config, self.trace) {
-            Ok(history) => Ok(history),
-            Err(_) => Err(wrong()),
-        }
+    pub fn history(&self, alloc: Global) -> Tried<Vec<PassEntry>> {
+        read_history(alloc, &self.config, self.trace).or(Err(Stop::Wrong))
     }
 
     /// A whole run on the trace as arrivals.
-    pub fn run(&self, alloc: Global) -> io::Result<Outcome> {
+    pub fn run(&self, alloc: Global) -> Tried<Outcome> {
         let arrivals = self.arrivals(alloc)?;
-        match lockstep(alloc, &self.config, &arrivals) {
-            Ok(outcome) => Ok(outcome),
-            Err(_) => Err(wrong()),
-        }
+        lockstep(alloc, &self.config, &arrivals).or(Err(Stop::Wrong))
     }
 }
 

@@ -1,8 +1,8 @@
 //! What is written of answers.
 
-use crate::attempt::wrong;
-use cal_machine::Listed;
-use cal_policy::PassEntry;
+use crate::attempt::{Stop, Tried};
+use cal_machine::{Config, Listed};
+use cal_policy::{PassEntry, Verdict, audit};
 use cal_run::Outcome;
 use cal_trace::write_history;
 use cal_world::Event;
@@ -27,15 +27,21 @@ pub fn write_lists<T: Debug>(rt: &HostRuntime, lists: &[Listed<T>]) -> io::Resul
 }
 
 /// A history, as a file.
-pub fn write_passes(rt: &HostRuntime, history: &[PassEntry]) -> io::Result<()> {
-    match write_history(history, &mut rt.stdout()) {
-        Ok(()) => Ok(()),
-        Err(_) => Err(wrong()),
-    }
+pub fn write_passes(rt: &HostRuntime, history: &[PassEntry]) -> Tried<()> {
+    write_history(history, &mut rt.stdout()).or(Err(Stop::Wrong))
+}
+
+/// That a history is legal, and how many passes it has.
+pub fn write_legal(rt: &HostRuntime, config: &Config, history: &[PassEntry]) -> Tried<()> {
+    let Verdict::Legal = audit(rt.alloc(), config, history)? else {
+        return Err(Stop::Wrong);
+    };
+    writeln!(&mut rt.stdout(), "legal, {} passes", history.len())?;
+    Ok(())
 }
 
 /// What is written of each event.
-pub fn write_events(rt: &HostRuntime, events: &[Event]) -> io::Result<()> {
+pub fn write_events(rt: &HostRuntime, events: &[Event]) -> Tried<()> {
     for event in events {
         write_event(rt, event)?;
     }
@@ -43,27 +49,26 @@ pub fn write_events(rt: &HostRuntime, events: &[Event]) -> io::Result<()> {
 }
 
 /// A line of an event; of a Decide its pass, as a file.
-pub fn write_event(rt: &HostRuntime, event: &Event) -> io::Result<()> {
+pub fn write_event(rt: &HostRuntime, event: &Event) -> Tried<()> {
+    let mut out = rt.stdout();
     match event {
-        Event::Take(k) => write_step(rt, "take", *k, 0_u64),
-        Event::Yield(k) => write_step(rt, "yield", *k, 0_u64),
-        Event::Publish(k, rec) => write_step(rt, "publish", *k, *rec),
-        Event::Read(k, number) => write_step(rt, "read", *k, *number),
-        Event::Skip(k, seen) => write_step(rt, "skip", *k, *seen),
-        Event::Decide(entry) => write_passes(rt, slice::from_ref(entry)),
-        Event::Watch(k, number) => write_step(rt, "watch", *k, *number),
+        Event::Take(k) => writeln!(&mut out, "take {k}")?,
+        Event::Yield(k) => writeln!(&mut out, "yield {k}")?,
+        Event::Publish(k, rec) => writeln!(&mut out, "publish {k} {rec:?}")?,
+        Event::Read(k, number) => writeln!(&mut out, "read {k} {number}")?,
+        Event::Skip(k, seen) => writeln!(&mut out, "skip {k} {seen:?}")?,
+        Event::Decide(entry) => write_passes(rt, slice::from_ref(entry))?,
+        Event::Watch(k, number) => writeln!(&mut out, "watch {k} {number}")?,
     }
-}
-
-fn write_step<T: Debug + Copy>(rt: &HostRuntime, kind: &str, k: u8, what: T) -> io::Result<()> {
-    writeln!(&mut rt.stdout(), "{kind} {k} {what:?}")
+    Ok(())
 }
 
 /// All that a run came to.
-pub fn write_outcome(rt: &HostRuntime, outcome: &Outcome) -> io::Result<()> {
+pub fn write_outcome(rt: &HostRuntime, outcome: &Outcome) -> Tried<()> {
     write_passes(rt, outcome.history.as_slice())?;
     write_lists(rt, outcome.journals.as_slice())?;
     write_lists(rt, outcome.left.as_slice())?;
     write_events(rt, outcome.events.as_slice())?;
-    write_lists(rt, outcome.watched.as_slice())
+    write_lists(rt, outcome.watched.as_slice())?;
+    Ok(())
 }

@@ -2,13 +2,12 @@
 
 ghost use Rattle.std.specs.Prelude.{◌≡◌};
 
-use crate::attempt::{answer, begin, wrong};
-use crate::scheduling::{Opened, open};
+use crate::attempt::{Stop, Tried, answer, begin, twice};
+use crate::scheduling::open;
 use crate::table_and_trace::TableAndTrace;
 use crate::texts::{write_each, write_passes};
 use cal_kthread::{KernelThread, Request};
 use cal_sched::Scheduler;
-use std::io;
 
 /// How many turns each thread makes.
 const TURNS: u64 = 100;
@@ -17,72 +16,57 @@ const TURNS: u64 = 100;
 const PASSES: u64 = 12;
 
 /// Turns of each thread, before each pass.
-pub fn turns(rt: &HostRuntime, given: &TableAndTrace) -> io::Result<bool> {
-    let Opened {
-        mut scheduler,
-        mut threads,
-    } = open(rt.alloc(), given)?;
+pub fn turns(rt: &HostRuntime, given: &TableAndTrace) -> Tried<()> {
+    let mut opened = open(rt.alloc(), given)?;
     for id in 0..TURNS {
-        try_each(rt, threads.as_mut_slice(), id)?;
-        if scheduler.pass(100 * id + 150, 0).is_err() {
-            return Err(wrong());
-        }
+        try_each(rt, opened.threads.as_mut_slice(), id)?;
+        let now = 100 * id + 150;
+        opened.scheduler.pass(now, 0).or(Err(Stop::Wrong))?;
     }
-    write_journals(rt, threads.as_slice())?;
-    Ok(true)
+    write_journals(rt, opened.threads.as_slice())
 }
 
-fn try_each(rt: &HostRuntime, threads: &mut [KernelThread], id: u64) -> io::Result<()> {
+fn try_each(rt: &HostRuntime, threads: &mut [KernelThread], id: u64) -> Tried<()> {
     for thread in threads {
-        if !turn(rt, thread, id)? && !turn(rt, thread, id)? {
-            return Err(wrong());
-        }
+        twice(|| turn(rt, thread, id))?;
     }
     Ok(())
 }
 
-fn turn(rt: &HostRuntime, thread: &mut KernelThread, id: u64) -> io::Result<bool> {
-    let now = thread.clock().saturating_add(100);
-    begin(rt)?;
-    Ok(answer(rt, thread.turn(now, Some(request(id))))?.is_some())
-}
-
-fn write_journals(rt: &HostRuntime, threads: &[KernelThread]) -> io::Result<()> {
+fn write_journals(rt: &HostRuntime, threads: &[KernelThread]) -> Tried<()> {
     for thread in threads {
         write_each(rt, thread.journal())?;
     }
     Ok(())
 }
 
-/// Passes, each after a turn of each thread.
-pub fn passes(rt: &HostRuntime, given: &TableAndTrace) -> io::Result<bool> {
-    let Opened {
-        mut scheduler,
-        mut threads,
-    } = open(rt.alloc(), given)?;
-    for id in 0..PASSES {
-        turn_each(threads.as_mut_slice(), id)?;
-        let now = 100 * id + 150;
-        if !pass(rt, &mut scheduler, now)? && !pass(rt, &mut scheduler, now)? {
-            return Err(wrong());
-        }
-    }
-    write_passes(rt, scheduler.history())?;
-    Ok(true)
+fn turn(rt: &HostRuntime, thread: &mut KernelThread, id: u64) -> Tried<()> {
+    let now = thread.clock().saturating_add(100);
+    begin(rt)?;
+    answer(rt, thread.turn(now, Some(request(id))))
 }
 
-fn pass(rt: &HostRuntime, scheduler: &mut Scheduler, now: u64) -> io::Result<bool> {
+/// Passes, each after a turn of each thread.
+pub fn passes(rt: &HostRuntime, given: &TableAndTrace) -> Tried<()> {
+    let mut opened = open(rt.alloc(), given)?;
+    for id in 0..PASSES {
+        turn_each(opened.threads.as_mut_slice(), id)?;
+        let now = 100 * id + 150;
+        twice(|| pass(rt, &mut opened.scheduler, now))?;
+    }
+    write_passes(rt, opened.scheduler.history())
+}
+
+fn pass(rt: &HostRuntime, scheduler: &mut Scheduler, now: u64) -> Tried<()> {
     begin(rt)?;
-    Ok(answer(rt, scheduler.pass(now, 0))?.is_some())
+    answer(rt, scheduler.pass(now, 0))
 }
 
 /// A turn of each thread, 100 ticks after the one before.
-fn turn_each(threads: &mut [KernelThread], id: u64) -> io::Result<()> {
+fn turn_each(threads: &mut [KernelThread], id: u64) -> Tried<()> {
     for thread in threads {
         let now = thread.clock().saturating_add(100);
-        if thread.turn(now, Some(request(id))).is_err() {
-            return Err(wrong());
-        }
+        thread.turn(now, Some(request(id))).or(Err(Stop::Wrong))?;
     }
     Ok(())
 }

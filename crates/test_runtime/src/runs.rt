@@ -1,5 +1,5 @@
 //! What no clause says: that in a run the scheduler, the kernel threads and the watch meet, and
 //! worked passes over a thread's own page.
 
-mod passes;
+pub mod passes;
 mod whole_runs;

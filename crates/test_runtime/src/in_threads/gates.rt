@@ -36,9 +36,66 @@ request,2,0,2,9,0
 end,18
 ";
 
-/// Polls till this is at least `least`, and says whether it came to that.
-fn wait_for(count: &AtomicU64, least: u64, polls: u64) -> bool {
-    for _ in 0..polls {
+/// What a gate waits for, and what it refuses.
+#[derive(Clone, Copy)]
+enum Rule {
+    /// Pass 1 and turn 2 of threads 0 and 1 are made once all three are asked for.
+    Meet,
+    /// Pass `p`, 1 to 6, is made once turn `p` of each thread is asked for, and turn `j` once pass
+    /// `j + 1` is.
+    InStep,
+    /// Pass 0 is made once turn 1 of thread 0 is asked for, and turn 1 once pass 1 is.
+    Crossed,
+    /// Turn 1 of thread 0 is refused, each time.
+    NoTurn,
+    /// It is refused the first time that it is asked for.
+    NoTurnOnce,
+    /// So is pass 1.
+    NoPassOnce,
+}
+
+/// A gate of this rule, which notes how many passes, and how many turns of each of three threads,
+/// were asked for, and how often it was asked for what it refuses once.
+#[derive(Drop)]
+struct RuledGate {
+    rule: Rule,
+    passes: AtomicU64,
+    turns: [AtomicU64; 3],
+    refused: AtomicU64,
+}
+
+impl RuledGate {
+    fn new(rule: Rule) -> RuledGate {
+        RuledGate {
+            rule,
+            passes: AtomicU64::new(0),
+            turns: [AtomicU64::new(0), AtomicU64::new(0), AtomicU64::new(0)],
+            refused: AtomicU64::new(0),
+        }
+    }
+
+    /// Waits for the request of this pass, and says whether it came.
+    fn meets_pass(&self, p: u64) -> bool {
+        wait_for(&self.passes, p.saturating_add(1))
+    }
+
+    /// The same of this turn of a thread.
+    fn meets_turn(&self, k: usize, j: u64) -> bool {
+        match self.turns.get(k) {
+            Some(turns) => wait_for(turns, j.saturating_add(1)),
+            None => true,
+        }
+    }
+
+    /// Whether it is asked once more for what it refuses once.
+    fn is_asked_again(&self) -> bool {
+        self.refused.fetch_add(1, Ordering::SeqCst) > 0
+    }
+}
+
+/// Polls till so many were asked for, and says whether it came to that.
+fn wait_for(count: &AtomicU64, least: u64) -> bool {
+    for _ in 0..100_000_000_u64 {
         if count.load(Ordering::SeqCst) >= least {
             return true;
         }
@@ -47,119 +104,46 @@ fn wait_for(count: &AtomicU64, least: u64, polls: u64) -> bool {
     false
 }
 
-/// Lets pass 1 and turn 2 of threads 0 and 1 be made once all three are asked for.
-#[derive(Drop)]
-struct Meeting {
-    come: [AtomicU64; 3],
-}
-
-impl Meeting {
-    /// Sets the flag of this worker, and says whether those of all three come to be set.
-    fn meet(&self, worker: usize) -> bool {
-        if let Some(flag) = self.come.get(worker) {
-            flag.store(1, Ordering::SeqCst);
-        }
-        for _ in 0..10_000_000_u64 {
-            if self.have_met() {
-                return true;
-            }
-            thread::yield_now();
-        }
-        false
-    }
-
-    fn have_met(&self) -> bool {
-        for flag in &self.come {
-            if flag.load(Ordering::SeqCst) == 0 {
-                return false;
-            }
-        }
-        true
-    }
-}
-
-impl Gate for Meeting {
+impl Gate for RuledGate {
     ghost answers_pass = { λ gate p answer. Unit {0} };
 
     ghost answers_turn = { λ gate k j answer. Unit {0} };
 
     fn before_pass(&self, p: u64) -> bool {
-        p != 1 || self.meet(2)
+        self.passes.store(p.saturating_add(1), Ordering::SeqCst);
+        match self.rule {
+            Rule::Meet if p == 1 => self.meets_turn(0, 2) && self.meets_turn(1, 2),
+            Rule::InStep if p > 0 && p < 7 => {
+                self.meets_turn(0, p) && self.meets_turn(1, p) && self.meets_turn(2, p)
+            }
+            Rule::Crossed if p == 0 => self.meets_turn(0, 1),
+            Rule::NoPassOnce if p == 1 => self.is_asked_again(),
+            _ => true,
+        }
     }
 
     fn before_turn(&self, k: usize, j: u64) -> bool {
-        k > 1 || j != 2 || self.meet(k)
+        if let Some(turns) = self.turns.get(k) {
+            turns.store(j.saturating_add(1), Ordering::SeqCst);
+        }
+        match self.rule {
+            Rule::Meet if k < 2 && j == 2 => self.meets_pass(1) && self.meets_turn(1 - k, 2),
+            Rule::InStep => self.meets_pass(j.saturating_add(1)),
+            Rule::Crossed if j == 1 => self.meets_pass(1),
+            Rule::NoTurn => k != 0 || j != 1,
+            Rule::NoTurnOnce if k == 0 && j == 1 => self.is_asked_again(),
+            _ => true,
+        }
     }
 }
 
 // With `workers_on_one_thread` the first of the three waits in vain.
 #[test]
 fn three_workers_meet(rt: HostRuntime) -> Result<(), Fail> {
-    let gate = Meeting {
-        come: [AtomicU64::new(0), AtomicU64::new(0), AtomicU64::new(0)],
-    };
+    let gate = RuledGate::new(Rule::Meet);
     let answer = run(&rt, PREEMPTION_TABLE, PREEMPTION, &gate)?;
     assert_same(&rt, answer.map(|_| ()), Ok(()));
     Ok(())
-}
-
-/// How many passes, and how many turns of each of three threads, were asked for.
-#[derive(Drop)]
-struct Asked {
-    passes: AtomicU64,
-    turns: [AtomicU64; 3],
-}
-
-impl Asked {
-    fn new() -> Asked {
-        Asked {
-            passes: AtomicU64::new(0),
-            turns: [AtomicU64::new(0), AtomicU64::new(0), AtomicU64::new(0)],
-        }
-    }
-
-    /// Notes that turn `j` of thread `k` was asked for.
-    fn turn(&self, k: usize, j: u64) {
-        if let Some(turns) = self.turns.get(k) {
-            turns.store(j.saturating_add(1), Ordering::SeqCst);
-        }
-    }
-}
-
-/// How often the two gates below poll.
-const POLLS: u64 = 100_000_000;
-
-/// Lets pass `p`, 1 to 6, be made once turn `p` of each thread is asked for, and turn `j` once pass
-/// `j + 1` is.
-#[derive(Drop)]
-struct InStep {
-    asked: Asked,
-}
-
-impl Gate for InStep {
-    ghost answers_pass = { λ gate p answer. Unit {0} };
-
-    ghost answers_turn = { λ gate k j answer. Unit {0} };
-
-    fn before_pass(&self, p: u64) -> bool {
-        self.asked
-            .passes
-            .store(p.saturating_add(1), Ordering::SeqCst);
-        if p == 0 || p > 6 {
-            return true;
-        }
-        for turns in &self.asked.turns {
-            if !wait_for(turns, p.saturating_add(1), POLLS) {
-                return false;
-            }
-        }
-        true
-    }
-
-    fn before_turn(&self, k: usize, j: u64) -> bool {
-        self.asked.turn(k, j);
-        wait_for(&self.asked.passes, j.saturating_add(2), POLLS)
-    }
 }
 
 /// The best-effort task has both cores, is preempted on the first and has it back.
@@ -189,36 +173,9 @@ fn assert_preempted<R: Abort + AllocGlobal>(rt: &R, outcome: &Outcome) -> Result
 // Spawn or Gate, there is no outcome.
 #[test]
 fn passes_and_turns_in_step(rt: HostRuntime) -> Result<(), Fail> {
-    let gate = InStep {
-        asked: Asked::new(),
-    };
+    let gate = RuledGate::new(Rule::InStep);
     let outcome = run(&rt, PREEMPTION_TABLE, LONGER_PREEMPTION, &gate)??;
     assert_preempted(&rt, &outcome)
-}
-
-/// Lets pass 0 be made once turn 1 of thread 0 is asked for, and that turn once pass 1 is.
-#[derive(Drop)]
-struct Crossed {
-    asked: Asked,
-}
-
-impl Gate for Crossed {
-    ghost answers_pass = { λ gate p answer. Unit {0} };
-
-    ghost answers_turn = { λ gate k j answer. Unit {0} };
-
-    fn before_pass(&self, p: u64) -> bool {
-        self.asked
-            .passes
-            .store(p.saturating_add(1), Ordering::SeqCst);
-        let [first, _, _] = &self.asked.turns;
-        p > 0 || wait_for(first, 2, POLLS)
-    }
-
-    fn before_turn(&self, k: usize, j: u64) -> bool {
-        self.asked.turn(k, j);
-        j != 1 || wait_for(&self.asked.passes, 2, POLLS)
-    }
 }
 
 const ONE_GRANT: &[u8] = b"caladan-arrivals,1
@@ -256,9 +213,7 @@ fn second_turn(outcome: &Outcome) -> Option<Entry> {
 // order reads none either.
 #[test]
 fn pass_between_two_turns(rt: HostRuntime) -> Result<(), Fail> {
-    let gate = Crossed {
-        asked: Asked::new(),
-    };
+    let gate = RuledGate::new(Rule::Crossed);
     let outcome = run(&rt, ONE_THREAD, ONE_GRANT, &gate)??;
     assert_same(&rt, first_pass(&outcome), Some((1, grant(0, 0, 3))));
     let took = Entry::Took(1, Command::Run(0));
@@ -266,79 +221,22 @@ fn pass_between_two_turns(rt: HostRuntime) -> Result<(), Fail> {
     Ok(())
 }
 
-/// Refuses turn 1 of thread 0 alone.
-#[derive(Drop)]
-struct Refusing;
-
-impl Gate for Refusing {
-    ghost answers_pass = { λ gate p answer. Unit {0} };
-
-    ghost answers_turn = { λ gate k j answer. Unit {0} };
-
-    fn before_pass(&self, _p: u64) -> bool {
-        true
-    }
-
-    fn before_turn(&self, k: usize, j: u64) -> bool {
-        k != 0 || j != 1
-    }
-}
-
 #[test]
 fn gate_refuses(rt: HostRuntime) -> Result<(), Fail> {
-    let answer = run(&rt, PREEMPTION_TABLE, PREEMPTION, &Refusing)?;
+    let gate = RuledGate::new(Rule::NoTurn);
+    let answer = run(&rt, PREEMPTION_TABLE, PREEMPTION, &gate)?;
     assert_same(&rt, answer.map(|_| ()), Err(SimFault::Gate));
     Ok(())
-}
-
-/// A question that a gate is asked.
-#[derive(Clone, Copy, Debug, PartialEq, Eq)]
-enum Question {
-    /// Before pass 1.
-    Pass,
-    /// Before turn 1 of thread 0.
-    Turn,
-}
-
-/// Answers this question by no once, and by yes from then on.
-#[derive(Drop)]
-struct NoOnce {
-    to: Question,
-    asked: AtomicU64,
-}
-
-impl NoOnce {
-    /// Whether it was asked before.
-    fn is_asked_again(&self) -> bool {
-        self.asked.fetch_add(1, Ordering::SeqCst) > 0
-    }
-}
-
-impl Gate for NoOnce {
-    ghost answers_pass = { λ gate p answer. Unit {0} };
-
-    ghost answers_turn = { λ gate k j answer. Unit {0} };
-
-    fn before_pass(&self, p: u64) -> bool {
-        self.to != Question::Pass || p != 1 || self.is_asked_again()
-    }
-
-    fn before_turn(&self, k: usize, j: u64) -> bool {
-        self.to != Question::Turn || k != 0 || j != 1 || self.is_asked_again()
-    }
 }
 
 // With `gate_asked_again` the run goes on.
 #[test]
 fn gate_is_not_asked_again(rt: HostRuntime) -> Result<(), Fail> {
-    for to in [Question::Pass, Question::Turn] {
-        let gate = NoOnce {
-            to,
-            asked: AtomicU64::new(0),
-        };
+    for rule in [Rule::NoPassOnce, Rule::NoTurnOnce] {
+        let gate = RuledGate::new(rule);
         let answer = run(&rt, PREEMPTION_TABLE, PREEMPTION, &gate)?;
         assert_same(&rt, answer.map(|_| ()), Err(SimFault::Gate));
-        assert_same(&rt, gate.asked.load(Ordering::SeqCst), 1);
+        assert_same(&rt, gate.refused.load(Ordering::SeqCst), 1);
     }
     Ok(())
 }

@@ -13,13 +13,10 @@ use std::test::Fail;
 
 /// How many entries of the journal tell that this request was served.
 fn served_in(journal: &[Entry], wanted: u64) -> usize {
-    let mut served = 0_usize;
-    for entry in journal {
-        if *entry == (Entry::Served { id: wanted }) {
-            served = served.saturating_add(1);
-        }
-    }
-    served
+    journal
+        .iter()
+        .filter(|it| **it == (Entry::Served { id: wanted }))
+        .count()
 }
 
 /// In how many places the id stands: entries that it was served, and requests that are left.

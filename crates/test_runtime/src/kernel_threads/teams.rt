@@ -6,7 +6,7 @@ ghost use Rattle.cal_machine.specs.Tasks.{threads_in};
 
 use super::{Step, TWO_THREADS, all_steps, left_of_all, names_of, request};
 use cal_command::Command;
-use cal_kthread::{KernelEnd, KernelThread, Request, RequestList, Team, end_all, open_threads};
+use cal_kthread::{KernelEnd, KernelThread, Request, RequestList, end_all, open_threads};
 use cal_machine::Config;
 use std::alloc::{AllocError, Global};
 use std::test::Fail;
@@ -58,11 +58,7 @@ fn end_as_meant(
 #[test]
 fn arrived_is_served_or_left(rt: HostRuntime) -> Result<(), Fail> {
     let config = Config::read(rt.alloc(), TWO_THREADS)?;
-    let Team {
-        mut threads,
-        mut senders,
-        ..
-    } = open_threads(rt.alloc(), &config)?;
+    let mut team = open_threads(rt.alloc(), &config)?;
     let steps = [
         Step::Arrive(0, 10, request(7, 1)),
         Step::Arrive(0, 20, request(8, 1)),
@@ -74,7 +70,7 @@ fn arrived_is_served_or_left(rt: HostRuntime) -> Result<(), Fail> {
         Step::Arrive(0, 60, request(11, 1)),
         Step::Arrive(1, 70, request(12, 3)),
     ];
-    assert!(rt; all_steps(&mut threads, &mut senders, &steps));
-    assert!(rt; end_as_meant(rt.alloc(), &config, threads)?);
+    assert!(rt; all_steps(&mut team.threads, &mut team.senders, &steps));
+    assert!(rt; end_as_meant(rt.alloc(), &config, team.threads)?);
     Ok(())
 }

@@ -7,7 +7,7 @@ use super::{Step, all_steps, request};
 use crate::one_thread::{ONE_THREAD, record};
 use crate::same::assert_same;
 use cal_command::Command;
-use cal_kthread::{Entry, KernelThread, Request, Team, end_all, open_threads, settle};
+use cal_kthread::{Entry, KernelThread, Request, end_all, open_threads, settle};
 use cal_machine::Config;
 use std::alloc::Global;
 use std::process::Abort;
@@ -40,11 +40,7 @@ fn left_after(
 #[test]
 fn one_request_served(rt: HostRuntime) -> Result<(), Fail> {
     let config = Config::read(rt.alloc(), ONE_THREAD)?;
-    let Team {
-        mut threads,
-        mut senders,
-        ..
-    } = open_threads(rt.alloc(), &config)?;
+    let mut team = open_threads(rt.alloc(), &config)?;
     let request = Request {
         id: 1,
         work: 2,
@@ -57,7 +53,7 @@ fn one_request_served(rt: HostRuntime) -> Result<(), Fail> {
         Step::Turn(0, 140),
         Step::Turn(0, 150),
     ];
-    assert!(rt; all_steps(&mut threads, &mut senders, &steps));
+    assert!(rt; all_steps(&mut team.threads, &mut team.senders, &steps));
     let journal = [
         Entry::Arrived(request),
         Entry::Published(1, record([0, 0, 1, 100, 0, 0, 100, 0, 0])),
@@ -68,8 +64,8 @@ fn one_request_served(rt: HostRuntime) -> Result<(), Fail> {
         Entry::Yielded,
         Entry::Published(4, record([1, 0, 0, 0, 0, 14, 150, 0, 0])),
     ];
-    assert_did(&rt, &threads, &journal);
-    assert_same(&rt, left_after(rt.alloc(), &config, threads)?, None);
+    assert_did(&rt, &team.threads, &journal);
+    assert_same(&rt, left_after(rt.alloc(), &config, team.threads)?, None);
     Ok(())
 }
 

@@ -10,7 +10,7 @@ use crate::one_thread::{ONE_THREAD, grant};
 use crate::same::assert_same;
 use cal_linear::linearise;
 use cal_machine::Config;
-use cal_policy::{Action, PassEntry, Verdict, audit, same_actions};
+use cal_policy::{Action, PassEntry, Verdict, audit};
 use cal_signal::Record;
 use cal_world::{Event, Illegal, Stopped, run_events};
 use std::alloc::{AllocError, Global};
@@ -112,11 +112,10 @@ fn assert_in_order<R: Abort + AllocGlobal>(rt: &R, listed: &[Event]) -> Result<(
 /// Whether two passes were given the same and did the same.
 fn is_same_pass(one: &PassEntry, other: &PassEntry) -> bool {
     let (given, wanted) = (&one.input, &other.input);
-    given.now == wanted.now
-        && given.bandwidth == wanted.bandwidth
+    (given.now, given.bandwidth) == (wanted.now, wanted.bandwidth)
         && given.seen.as_slice() == wanted.seen.as_slice()
         && given.rooms.as_slice() == wanted.rooms.as_slice()
-        && same_actions(one.actions.as_slice(), other.actions.as_slice())
+        && one.actions.as_slice() == other.actions.as_slice()
 }
 
 /// Whether the passes in the list are those of the history, each whole.

@@ -14,15 +14,10 @@ pub fn waiting() -> Record
     ensures { result ≡ waiting }
 {
     Record {
-        taken: 0,
-        running: 0,
         queued: 1,
         oldest: 100,
-        started: 0,
-        misses: 0,
         stamp: 100,
-        paused: 0,
-        since: 0,
+        ..Record::ZERO
     }
 }
 
@@ -33,13 +28,10 @@ pub fn at_work() -> Record
     Record {
         taken: 1,
         running: 1,
-        queued: 0,
-        oldest: 0,
         started: 120,
         misses: 7,
         stamp: 120,
-        paused: 0,
-        since: 0,
+        ..Record::ZERO
     }
 }
 
@@ -50,13 +42,9 @@ pub fn served() -> Record
     Record {
         taken: 1,
         running: 1,
-        queued: 0,
-        oldest: 0,
-        started: 0,
         misses: 14,
         stamp: 140,
-        paused: 0,
-        since: 0,
+        ..Record::ZERO
     }
 }
 
@@ -64,16 +52,12 @@ pub fn served() -> Record
 fn pass(alloc: Global, now: u64, look: Seen, actions: Vec<Action>) -> Result<PassEntry, AllocError>
     ensures { IfOk result (λ entry. entry ≡ pass_at now look actions.items) }
 {
-    let mut seen = Vec::new(alloc);
-    seen.push(look)?;
-    let mut rooms = Vec::new(alloc);
-    rooms.push(true)?;
     Ok(PassEntry {
         input: Input {
             now,
             bandwidth: 0,
-            seen: SeenList::new(seen),
-            rooms: Rooms::new(rooms),
+            seen: SeenList::new(vec![in alloc; look]?),
+            rooms: Rooms::new(vec![in alloc; true]?),
         },
         actions: ActionList::new(actions),
     })
@@ -83,12 +67,11 @@ fn pass(alloc: Global, now: u64, look: Seen, actions: Vec<Action>) -> Result<Pas
 pub fn passes(alloc: Global) -> Result<Vec<PassEntry>, AllocError>
     ensures { IfOk result (λ history. history.items ≡ passes) }
 {
-    let mut grants = Vec::new(alloc);
-    grants.push(Action::Grant {
+    let grant = Action::Grant {
         core: 0,
         thread: 0,
         class: 3,
-    })?;
+    };
     let first = Seen::Whole {
         number: 1,
         rec: waiting(),
@@ -97,26 +80,26 @@ pub fn passes(alloc: Global) -> Result<Vec<PassEntry>, AllocError>
         number: 2,
         rec: at_work(),
     };
-    let mut history = Vec::new(alloc);
-    history.push(pass(alloc, 111, first, grants)?)?;
-    history.push(pass(alloc, 130, second, Vec::new(alloc))?)?;
-    Ok(history)
+    let granting = pass(alloc, 111, first, vec![in alloc; grant]?)?;
+    let resting = pass(alloc, 130, second, Vec::new(alloc))?;
+    Ok(vec![in alloc; granting, resting]?)
 }
 
 /// What the thread did.
 pub fn journal(alloc: Global) -> Result<Journal, AllocError>
     ensures { IfOk result (λ made. made ≡ journal) }
 {
-    let mut entries = Vec::new(alloc);
-    entries.push(Entry::Arrived(Request {
+    let request = Request {
         id: 1,
         work: 2,
         misses: 7,
-    }))?;
-    entries.push(Entry::Published(1, waiting()))?;
-    entries.push(Entry::Took(1, Command::Run(0)))?;
-    entries.push(Entry::Published(2, at_work()))?;
-    entries.push(Entry::Served { id: 1 })?;
-    entries.push(Entry::Published(3, served()))?;
-    Ok(Journal::new(entries))
+    };
+    Ok(Journal::new(vec![in alloc;
+        Entry::Arrived(request),
+        Entry::Published(1, waiting()),
+        Entry::Took(1, Command::Run(0)),
+        Entry::Published(2, at_work()),
+        Entry::Served { id: 1 },
+        Entry::Published(3, served()),
+    ]?))
 }

@@ -9,19 +9,19 @@ use cal_kthread::{KernelThread, Request, Team, open_threads};
 use cal_machine::Config;
 use cal_policy::{Action, Holder, PassEntry, Placement, Seen, Verdict, audit};
 use cal_sched::Scheduler;
-use std::alloc::{AllocError, Global};
+use std::alloc::Global;
 use std::process::Abort;
 use std::test::Fail;
 
 /// A scheduler of one task of one thread on two cores, and the thread.
 #[derive(Drop)]
-struct Opened {
-    scheduler: Scheduler,
-    thread: KernelThread,
+pub struct Opened {
+    pub scheduler: Scheduler,
+    pub thread: KernelThread,
 }
 
 /// Nothing was done yet.
-fn open(alloc: Global) -> Result<Opened, Fail>
+pub fn open(alloc: Global) -> Result<Opened, Fail>
     ensures task { IfOk result (λ opened. 0 < length opened.scheduler.table.tasks) }
     ensures core { IfOk result (λ opened. 0 < opened.scheduler.table.cores) }
 {
@@ -134,29 +134,6 @@ fn assert_passed<R: Abort + AllocGlobal>(rt: &R, history: &[PassEntry]) -> Resul
     Ok(())
 }
 
-/// Whether a copy of the entry is equal to it.
-fn is_copied(alloc: Global, entry: &PassEntry) -> Result<bool, AllocError> {
-    let copy = entry.copy(alloc)?;
-    let (input, other) = (&copy.input, &entry.input);
-    Ok(
-        (input.now, input.bandwidth) == (other.now, other.bandwidth)
-            && input.seen.as_slice() == other.seen.as_slice()
-            && input.rooms.as_slice() == other.rooms.as_slice()
-            && copy.actions.as_slice() == entry.actions.as_slice(),
-    )
-}
-
-/// What the audit says of the passes, each of which is copied as it is.
-fn verdict(alloc: Global, history: &[PassEntry]) -> Result<Verdict, Fail> {
-    for entry in history {
-        if !is_copied(alloc, entry)? {
-            return Err(Fail::new("a copy is another entry"));
-        }
-    }
-    let config = Config::read(alloc, ONE_THREAD)?;
-    Ok(audit(alloc, &config, history)?)
-}
-
 /// The thread is granted core 0 for the request that comes to it, and has left it at the end.
 fn assert_granted_and_freed<R: Abort>(rt: &R, scheduler: &mut Scheduler, thread: &mut KernelThread)
     requires task { 0 < length scheduler.old.table.tasks }
@@ -181,10 +158,8 @@ fn scheduler_and_thread(rt: HostRuntime) -> Result<(), Fail> {
     } = open(rt.alloc())?;
     assert_granted_and_freed(&rt, &mut scheduler, &mut thread);
     assert_passed(&rt, scheduler.history())?;
-    assert_same(
-        &rt,
-        verdict(rt.alloc(), scheduler.history())?,
-        Verdict::Legal,
-    );
+    let config = Config::read(rt.alloc(), ONE_THREAD)?;
+    let verdict = audit(rt.alloc(), &config, scheduler.history())?;
+    assert_same(&rt, verdict, Verdict::Legal);
     Ok(())
 }

@@ -16,11 +16,11 @@ use std::test::Fail;
 const ARRIVALS: &[u8] =
     b"caladan-arrivals,1\npass,100,0\npass,116,0\nturn,105\nturn,125\nrequest,0,0,7,1,3\nend,5\n";
 
-/// The run of these arrivals, where there is memory.
-fn run(alloc: Global, table: &[u8], rows: &[u8]) -> Option<Outcome> {
-    let config = Config::read(alloc, table).ok()?;
-    let arrivals = read_arrivals(alloc, &config, rows).ok()?;
-    lockstep(alloc, &config, &arrivals).ok()
+/// The run of these arrivals.
+fn run(alloc: Global, table: &[u8], rows: &[u8]) -> Result<Outcome, Fail> {
+    let config = Config::read(alloc, table)?;
+    let arrivals = read_arrivals(alloc, &config, rows)?;
+    Ok(lockstep(alloc, &config, &arrivals)?)
 }
 
 /// The place of the record that a round of the watch found of the one thread, and since when a
@@ -32,21 +32,14 @@ fn found(outcome: &Outcome, round: usize) -> Option<(u64, u64)> {
     }
 }
 
-/// There are two rounds, which found the records of the first two turns.
-fn assert_watched<R: Abort>(rt: &R, outcome: &Outcome) {
-    let rounds = [found(outcome, 0), found(outcome, 1), found(outcome, 2)];
-    assert_same(rt, rounds, [Some((1, 105)), Some((2, 0)), None]);
-}
-
 // Each round ends with a look: round 0 finds the first turn's record, round 1 the second's. Refused
 // here: a second observer that gives the zero record and forgets what it loaded
 // (`second_observer_gives_zero`).
 #[test]
 fn watched_rounds(rt: HostRuntime) -> Result<(), Fail> {
-    let Some(outcome) = run(rt.alloc(), ONE_THREAD, ARRIVALS) else {
-        return Err(Fail::new("there is memory"));
-    };
-    assert_watched(&rt, &outcome);
+    let outcome = run(rt.alloc(), ONE_THREAD, ARRIVALS)?;
+    let rounds = [found(&outcome, 0), found(&outcome, 1), found(&outcome, 2)];
+    assert_same(&rt, rounds, [Some((1, 105)), Some((2, 0)), None]);
     Ok(())
 }
 
@@ -99,8 +92,6 @@ fn assert_stolen<R: Abort + AllocGlobal>(rt: &R, outcome: &Outcome) -> Result<()
 // Refused here: a thief that never steals (`never_steals`).
 #[test]
 fn steal_last_request(rt: HostRuntime) -> Result<(), Fail> {
-    let Some(outcome) = run(rt.alloc(), TWO_THREADS, ONE_IS_BUSY) else {
-        return Err(Fail::new("there is memory"));
-    };
+    let outcome = run(rt.alloc(), TWO_THREADS, ONE_IS_BUSY)?;
     assert_stolen(&rt, &outcome)
 }

@@ -6,7 +6,7 @@ use crate::same::assert_same;
 use cal_command::{Command, Taker};
 use cal_machine::Config;
 use cal_policy::{Action, PassEntry, Record, Seen, orderly};
-use cal_sched::{PassFault, Scheduler};
+use cal_sched::Scheduler;
 use cal_signal::Publisher;
 use cal_trace::write_report;
 use std::alloc::{AllocError, Global};
@@ -102,7 +102,7 @@ fn assert_meant<R: Abort + AllocGlobal>(rt: &R, history: &[PassEntry]) -> Result
 /// a command that was not.
 #[test]
 fn false_records(rt: HostRuntime) -> Result<(), Fail> {
-    let (mut scheduler, mut publisher, mut taker) = bare(&rt)?;
+    let (mut scheduler, mut publisher, mut taker) = bare(rt.alloc())?;
     assert!(rt; all_shown(&mut scheduler, &mut publisher));
     assert_same(&rt, taker.take(), Some((1, Command::Run(0))));
     assert!(rt; scheduler.pass(123, 0) == Ok(()) && scheduler.pass(125, 0) == Ok(()));
@@ -132,7 +132,7 @@ fn takes_runs(taker: &mut Taker, first: u64, end: u64) -> bool {
 /// its next two are the worked ones. The Runs of passes 1 to 4 and of pass 7 are on its ring.
 #[test]
 fn goes_on_without_its_history(rt: HostRuntime) -> Result<(), Fail> {
-    let (mut scheduler, mut publisher, mut taker) = bare(&rt)?;
+    let (mut scheduler, mut publisher, mut taker) = bare(rt.alloc())?;
     assert!(rt; all_shown(&mut scheduler, &mut publisher));
     assert_same(&rt, taker.take(), Some((1, Command::Run(0))));
     let mut history = copies_of(rt.alloc(), scheduler.history())?;
@@ -199,29 +199,10 @@ fn assert_busy<R: Abort + AllocGlobal>(rt: &R, history: &[PassEntry]) -> Result<
 /// nothing, as the report says.
 #[test]
 fn open_page_is_busy(rt: HostRuntime) -> Result<(), Fail> {
-    let (mut scheduler, publisher, _taker) = bare(&rt)?;
+    let (mut scheduler, publisher, _taker) = bare(rt.alloc())?;
     let Ok(_page) = publisher.begin(false_record(1)) else {
         return Err(Fail::new("the record was refused"));
     };
     assert!(rt; pass_often(&mut scheduler, 100));
     assert_busy(&rt, scheduler.history())
-}
-
-/// Makes passes until one is refused, at most so many.
-fn pass_until_refused(scheduler: &mut Scheduler, most: u64) -> (u64, Option<PassFault>) {
-    for made in 0..most {
-        if let Err(fault) = scheduler.pass(made, 0) {
-            return (made, Some(fault));
-        }
-    }
-    (most, None)
-}
-
-/// A history takes 1,048,576 passes.
-#[test]
-fn full_history(rt: HostRuntime) -> Result<(), Fail> {
-    let (mut scheduler, _publisher, _taker) = bare(&rt)?;
-    let (made, fault) = pass_until_refused(&mut scheduler, 1_048_577);
-    assert!(rt; made == 1_048_576 && matches!(fault, Some(PassFault::HistoryFull)));
-    Ok(())
 }
