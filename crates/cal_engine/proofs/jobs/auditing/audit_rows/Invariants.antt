@@ -8,7 +8,7 @@ abbrev pub invariant-loop-audit : goal.invariant-loop-audit
 invariant-loop-audit l = record {
   ready : IsOpen l.rows;
   of : IsAuditorOf l.config l.audit.auditor;
-  auditing : (trace : List ℕ) → HasGiven (extent_of l.config) trace [] l.initial.rows → IsAuditing l.policy l.config trace l.rows l.audit;
+  auditing : (trace : List ℕ) → HasGiven (extent_of l.config) trace [] l.initial.rows → IsAuditing l.fn.policy l.config trace l.rows l.audit;
 }
 
 abbrev pub decreases-loop-audit : goal.decreases-loop-audit

@@ -10,8 +10,8 @@ abbrev pub invariant-loop-decider : goal.invariant-loop-decider
 invariant-loop-decider g l = record {
   ready : IsOpen l.signals;
   of : IsReady l.config (board_in l.decider.book);
-  by : l.decider.book.policy ≡ l.policy;
-  deciding : (trace : List ℕ) → HasGiven (threads_in l.config.tasks) trace [] l.initial.signals → IsDeciding l.policy (g.K.Keeper.keeps l.keeper) l.config trace l.signals l.decider;
+  by : l.decider.book.policy ≡ l.fn.policy;
+  deciding : (trace : List ℕ) → HasGiven (threads_in l.config.tasks) trace [] l.initial.signals → IsDeciding l.fn.policy (g.K.Keeper.keeps l.keeper) l.config trace l.signals l.decider;
 }
 
 abbrev pub decreases-loop-decider : goal.decreases-loop-decider
