@@ -15,6 +15,7 @@ use Rattle.cal_policy.proofs.BoardLemmas.StateKept.{names_of_fitting}
 use Rattle.cal_run.specs.Outcome.{figures_of}
 use Rattle.cal_run.specs.Parts.{SchedulerSeat}
 use Rattle.cal_trace.specs.declared.arrivals.GivenPass.{GivenPass}
+use Rattle.cal_tables.proofs.PolicyLemmas.{caladan_legal}
 use Rattle.cal_tables.proofs.collecting.OpenNumbers.pass.Goals as goal
 
 -- the state is of the table
@@ -32,7 +33,8 @@ pass-requires-clause-names c =
     let table : c.step_given.new.scheduler.table ≡ t = ap (λ (s : SchedulerSeat). s.table) c.step_given.ensures.seat ∙ sym c.requires.table in
     let P : Table → Type 0 = λ t. IsLegal t c.step_given.new.scheduler.history in
     let Q : List PassEntry → Type 0 = λ l. IsLegal t l in
-    let legal : IsLegal t (h ++ e ∷ []) = subst Q acted.1 (subst P table c.step_given.ensures.kept.legal) in
+    let after = c.step_given.new.scheduler in
+    let legal : IsLegal t (h ++ e ∷ []) = subst Q acted.1 (subst P table (caladan_legal after.policy after.table after.history c.step_given.ensures.kept.legal)) in
     let orderly = c.legal_is_orderly.ensures t (h ++ e ∷ []) c.limits.ensures legal in
     let fits = orderly.entries (length h) e (slice_here h e) in
     subst (λ (l : List Action). All (NamesTable t) l) (sym (c.as_slice-actions.ensures ∙ acted.3))
@@ -47,7 +49,8 @@ pass-requires-clause-few c =
     let table : c.step_given.new.scheduler.table ≡ t = ap (λ (s : SchedulerSeat). s.table) c.step_given.ensures.seat ∙ sym c.requires.table in
     let P : Table → Type 0 = λ t. IsLegal t c.step_given.new.scheduler.history in
     let Q : List PassEntry → Type 0 = λ l. IsLegal t l in
-    let legal : IsLegal t (h ++ e ∷ []) = subst Q acted.1 (subst P table c.step_given.ensures.kept.legal) in
+    let after = c.step_given.new.scheduler in
+    let legal : IsLegal t (h ++ e ∷ []) = subst Q acted.1 (subst P table (caladan_legal after.policy after.table after.history c.step_given.ensures.kept.legal)) in
     let few = c.legal_is_short.ensures t (h ++ e ∷ []) c.limits.ensures legal (length h) e (slice_here h e) in
     let same = ap (λ (l : List Action). length l) (c.as_slice-actions.ensures ∙ acted.3) in
     omega (arith, same, few)
