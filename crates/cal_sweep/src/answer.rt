@@ -49,7 +49,8 @@ pub fn end_sweep<'a, W: Write, E: Write>(
         fault ≢ SweepFault.Run of_writer → output.new ≡ output.old) }
 {
     let text = text_of(job, sweep)?;
-    if output.write_all(text.as_bytes()).is_err() {
+    // All of it stands before the lines of a miss, also where both go to one terminal.
+    if output.write_all(text.as_bytes()).is_err() || output.flush().is_err() {
         return Err(SweepFault::Run(ComparisonFault::from(RunFault::Write)));
     }
     let status = status_of_sweep(job.asked.objective, sweep.loads.as_slice());
