@@ -79,14 +79,10 @@ impl ToldRun<'_> {
         events: &mut Events<'_>,
         writer: &mut W,
     ) -> Result<(), RunFault> {
-        for thread in 0..works.len() {
-            put_work(
-                self.config,
-                thread as u8,
-                works[thread].as_slice(),
-                events,
-                writer,
-            )?;
+        for thread in 0..self.config.threads() as u8 {
+            if let Some(turns) = works.get(usize::from(thread)) {
+                put_work(self.config, thread, turns.as_slice(), events, writer)?;
+            }
         }
         Ok(())
     }
