@@ -16,7 +16,7 @@ use Rattle.cal_laws.specs.Bans.{NoneHeld}
 use Rattle.cal_laws.specs.Exclusion.{HaveOneCore}
 use Rattle.cal_laws.proofs.PointLemmas.EachAction.{actions_more}
 use Rattle.cal_guard.specs.Permitted.{NoneOverCap, IsPermitted, ArePermitted}
-use Rattle.cal_assured.specs.Pass.{pass_of, IsPass, IsLegal}
+use Rattle.cal_policy.specs.Assured.Pass.{pass_of, IsPass, IsLegal}
 use Rattle.cal_assured.specs.Permitted.{PassesArePermitted}
 use Rattle.cal_assured.proofs.Lengths.{pass_short}
 use Rattle.cal_assured.proofs.Permitting.{Laws, First, IsPermittedWhole, pass_permitted}

@@ -22,9 +22,9 @@ use Rattle.cal_policy.proofs.ListLemmas.Counted.{count_le}
 use Rattle.cal_policy.proofs.PassLemmas.Best.{cases_eq_lt}
 use Rattle.cal_policy.proofs.PassLemmas.Fits.{so_far_push}
 use Rattle.cal_laws.proofs.CapLemmas.Held.{cap_same}
-use Rattle.cal_assured.specs.Hyperthreads.{unban_for, unban_at}
+use Rattle.cal_policy.specs.Assured.Hyperthreads.{unban_for, unban_at}
 use Rattle.cal_assured.specs.Laws.{BansEndForWhatIsLacked}
-use Rattle.cal_assured.specs.Short.{lacking, is_open, open_cores, some_waits_short, are_wanted}
+use Rattle.cal_policy.specs.Assured.Short.{lacking, is_open, open_cores, some_waits_short, are_wanted}
 use Rattle.cal_assured.proofs.ByHolders.{lacking_same, some_waits_same}
 
 -- what one Unban changes: the ban of its core ends

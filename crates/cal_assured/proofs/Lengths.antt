@@ -27,13 +27,13 @@ use Rattle.cal_policy.proofs.PassLemmas.Fits.{so_far_push, ban_facts}
 use Rattle.cal_policy.proofs.PassLemmas.Length.{turns_most, frees_most, two_with, bandwidth_most, one_when, chosen_one}
 use Rattle.cal_policy.proofs.PassLemmas.Pairs.{beside_lower, after_ban, so_far_more}
 use Rattle.cal_laws.proofs.ListLemmas.Counted.{count_less}
-use Rattle.cal_assured.specs.Grants.{grant_in_place, grants}
-use Rattle.cal_assured.specs.Hyperthreads.{unbans, due_for, bans_at, bans}
-use Rattle.cal_assured.specs.Order.{task_in_place}
-use Rattle.cal_assured.specs.Pass.{unbanned_of, bounded_of, pass_of}
-use Rattle.cal_assured.specs.Short.{are_lacked, waits}
-use Rattle.cal_assured.specs.Taking.{choice_for}
-use Rattle.cal_assured.proofs.Done.{IsUnbanned, IsUnbanning, unbans_made}
+use Rattle.cal_policy.specs.Assured.Grants.{grant_in_place, grants}
+use Rattle.cal_policy.specs.Assured.Hyperthreads.{unbans, due_for, bans_at, bans}
+use Rattle.cal_policy.specs.Assured.Order.{task_in_place}
+use Rattle.cal_policy.specs.Assured.Pass.{unbanned_of, bounded_of, pass_of}
+use Rattle.cal_policy.specs.Assured.Short.{are_lacked, waits}
+use Rattle.cal_policy.specs.Assured.Taking.{choice_for}
+use Rattle.cal_policy.proofs.AssuredLemmas.Done.{IsUnbanned, IsUnbanning, unbans_made}
 use Rattle.cal_assured.proofs.Ending.{unbanned_at}
 
 -- how many cores are banned

@@ -1,7 +1,6 @@
 pub mod AsWorked
 pub mod Between
 pub mod ByHolders
-pub mod Done
 pub mod Ending
 pub mod Legality
 pub mod Lengths
@@ -12,4 +11,3 @@ pub mod Points
 pub mod RingLemmas
 pub mod Standing
 pub mod TurnOrder
-pub mod Walks

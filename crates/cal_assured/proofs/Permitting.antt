@@ -41,16 +41,16 @@ use Rattle.cal_laws.proofs.ChoiceLemmas.Granted.{books}
 use Rattle.cal_laws.proofs.ExclusionLemmas.SameHolders.{held_same}
 use Rattle.cal_laws.proofs.ListLemmas.Below.{highest_is}
 use Rattle.cal_guard.specs.Permitted.{MayBeRevoked, MayBeMade, core_revoked, EmptiesBanned, RevokesFrom, LowersCapped, NoneOverCap, IsPermitted}
-use Rattle.cal_assured.specs.Cause.{IsForTask}
-use Rattle.cal_assured.specs.Grants.{grants}
-use Rattle.cal_assured.specs.Hyperthreads.{unbans, due_for, bans_at, bans}
-use Rattle.cal_assured.specs.Pass.{unbanned_of, bounded_of, pass_of}
-use Rattle.cal_assured.specs.Short.{is_open, surplus, are_lacked}
-use Rattle.cal_assured.specs.InFlight.{pressing}
-use Rattle.cal_assured.specs.Taking.{is_kept, held_class}
-use Rattle.cal_assured.proofs.Done.{IsUnbanned, IsGranted, IsFreeing, IsUnbanning, IsServing, open_taken, held_taken, frees_made, unbans_made, grants_made}
+use Rattle.cal_policy.specs.Assured.Cause.{IsForTask}
+use Rattle.cal_policy.specs.Assured.Grants.{grants}
+use Rattle.cal_policy.specs.Assured.Hyperthreads.{unbans, due_for, bans_at, bans}
+use Rattle.cal_policy.specs.Assured.Pass.{unbanned_of, bounded_of, pass_of}
+use Rattle.cal_policy.specs.Assured.Short.{is_open, surplus, are_lacked}
+use Rattle.cal_policy.specs.Assured.InFlight.{pressing}
+use Rattle.cal_policy.specs.Assured.Taking.{is_kept, held_class}
+use Rattle.cal_policy.proofs.AssuredLemmas.Done.{IsUnbanned, IsGranted, IsFreeing, IsUnbanning, IsServing, open_taken, held_taken, frees_made, unbans_made, grants_made}
 use Rattle.cal_assured.proofs.Standing.{Lowers, none_over_more, IsUnsent, NoneGranted, none_granted_more, unsent_more, sent_quiet, loser_unsent, sent_revoked, thread_unsent, Base, base_shrinks, base_granted}
-use Rattle.cal_assured.proofs.Walks.{each_leads, turns_lead}
+use Rattle.cal_policy.proofs.AssuredLemmas.Walks.{each_leads, turns_lead}
 
 -- the laws that are cited
 pub record Laws : Type 0 where

@@ -35,7 +35,7 @@ all_sound s acts (a ∷ xs) table steady m =
       after = rw (append_assoc acts (a ∷ []) xs) at rest.after;
     }
 
-start_steady : (table : Table) (before : List PassEntry) (entry : PassEntry) → IsSteady table (actions_of before) → IsSteady table (so_far (setting_of table before entry) [])
+pub start_steady : (table : Table) (before : List PassEntry) (entry : PassEntry) → IsSteady table (actions_of before) → IsSteady table (so_far (setting_of table before entry) [])
 start_steady table before entry steady = rw (append-nil (actions_of before)) steady
 
 pub pass_sound : (table : Table) (before : List PassEntry) (entry : PassEntry) → IsTable table → IsSteady table (actions_of before) → IsPass table before entry →
@@ -44,7 +44,7 @@ pass_sound table before entry ok steady pass =
     let P : List Action → Type 0 = λ xs. AllSound (setting_of table before entry) [] xs in
     subst P (sym pass.actions) (all_sound (setting_of table before entry) [] (pass_of (setting_of table before entry)) ok (start_steady table before entry steady) (pass_made (setting_of table before entry)))
 
-actions_more : (history : List PassEntry) (p : ℕ) (entry : PassEntry) → slice_get history p ≡ Some entry → p < length history → actions_of (take (suc p) history) ≡ actions_of (take p history) ++ entry.actions
+pub actions_more : (history : List PassEntry) (p : ℕ) (entry : PassEntry) → slice_get history p ≡ Some entry → p < length history → actions_of (take (suc p) history) ≡ actions_of (take p history) ++ entry.actions
 actions_more history p entry e lt =
     let one : suc p ≡ p + 1 = omega arith in
     let same : get_or history p entry ≡ entry = get_or_from_slice_get history p entry entry e in

@@ -1,0 +1,12 @@
+-- The passes of the second policy, `assured`.
+pub mod AsKept
+pub mod Counting
+pub mod Done
+pub mod Fits
+pub mod FromParts
+pub mod Keeping
+pub mod LegalOrderly
+pub mod Pairs
+pub mod Turns
+pub mod Waiting
+pub mod Walks
