@@ -6,7 +6,9 @@ pub mod Fits
 pub mod FromParts
 pub mod Keeping
 pub mod LegalOrderly
+pub mod Legality
 pub mod Pairs
+pub mod Sent
 pub mod Turns
 pub mod Waiting
 pub mod Walks

@@ -141,7 +141,8 @@ impl Book {
         requires of { IsReady config.now (board_in self.old) }
         requires sizes { HasSizes config.now input.now }
         requires empty { out.old ≡ [] }
-        ensures acts { AfterLegalOn config.now self.old input.entry.now (λ h.
+        ensures acts { self.old.policy ≡ Caladan →
+            AfterLegalOn config.now self.old input.entry.now (λ h.
             out.new ≡ pass_of (setting config.now h input.entry.now)) }
         ensures agrees { AfterLegalOn config.now self.old input.entry.now (λ h.
             IsStateAfter (board_in self.new) (h ++ record {
@@ -177,7 +178,8 @@ impl Book {
         requires of { IsReady config.now (board_in self.old) }
         requires all { looks.now.count ≡ threads_of_table config.now }
         requires empty { out.old ≡ [] }
-        ensures acts { AfterLegalOpen config.now self.old now bandwidth looks.entry.now (λ h input.
+        ensures acts { self.old.policy ≡ Caladan →
+            AfterLegalOpen config.now self.old now bandwidth looks.entry.now (λ h input.
             out.new ≡ pass_of (setting config.now h input)) }
         ensures agrees { AfterLegalOpen config.now self.old now bandwidth looks.entry.now
             (λ h input. IsStateAfter (board_in self.new) (h ++ record {

@@ -32,7 +32,7 @@ count_skip p m (suc n) le e = ⊎_elim
     (λ g. let same : m ≡ suc n = omega (arith, g, le) in rw same refl)
     (cases_lt m (suc n))
 
-below_nothing : (n : ℕ) (b r : Bool) → ((nat_lt n 0 && b) && r) ≡ false
+pub below_nothing : (n : ℕ) (b r : Bool) → ((nat_lt n 0 && b) && r) ≡ false
 below_nothing n b r = let e : nat_lt n 0 ≡ false = grind (arith, nat_tests) in rw e refl
 
 -- a task past the last waits for nothing

@@ -1,10 +1,11 @@
 -- Bans of cores beside each other under the second policy.
-use Rattle.std.proofs.Common.{◌≡◌, ℕ, ◌+◌, ◌*◌, ◌<◌, Bool, true, false, cond, not, ◌&&◌, List, [], ◌∷◌, ◌++◌, Option, Some, None, refl, ap, sym, ◌∙◌, arith, append_assoc, ◌⊎◌, inl, inr, ⊎_elim}
+use Rattle.std.proofs.Common.{◌≡◌, ℕ, ◌+◌, ◌*◌, ◌<◌, Bool, true, false, cond, eqb, not, ◌&&◌, List, [], ◌∷◌, ◌++◌, Option, Some, None, refl, ap, sym, ◌∙◌, arith, append_assoc, ◌⊎◌, inl, inr, ⊎_elim}
 use Rattle.std.specs.Option.{is_some}
 use Rattle.std.proofs.lemmas.List.{append-nil}
 use Rattle.cal_machine.specs.CoreSet.{has}
 use Rattle.cal_machine.specs.Machine.{sibling_of}
 use Rattle.cal_policy.specs.declared.history.action.Action.{Action}
+use Rattle.cal_policy.specs.declared.history.action.Action.TheVariants.{Unban}
 use Rattle.cal_policy.specs.declared.board.Board.{Board}
 use Rattle.cal_policy.specs.declared.board.bans.BannedFor.{BannedFor}
 use Rattle.cal_policy.specs.History.Lists.{in_pair}
@@ -16,8 +17,18 @@ use Rattle.cal_policy.specs.Assured.Hyperthreads.{unban_for, unban_at, due_for, 
 use Rattle.cal_policy.specs.Assured.Short.{are_lacked, are_wanted}
 use Rattle.cal_policy.specs.Pass.Bans.{NoPairBanned, still_shows, ban_for, ban_due}
 use Rattle.cal_policy.specs.Pass.ToBan.{NoneOver, cores_to_ban}
+use Rattle.cal_machine.proofs.Booleans.{unwrap_if}
+use Rattle.cal_policy.proofs.HistoryLemmas.OneMore.{ban_push}
 use Rattle.cal_policy.proofs.PassLemmas.NothingDue.{two_empty, due_past}
 use Rattle.cal_policy.proofs.PassLemmas.Pairs.{so_far_more, none_if_unbanned, after_end, beside_lower, beside_upper, after_ban_for}
+
+-- what one Unban changes: the ban of its core ends
+unban_some : (b : Bool) (o : Option BannedFor) → is_some (cond b None o) ≡ cond b false (is_some o)
+unban_some true o = refl
+unban_some false o = refl
+
+pub unbanned_at : (x : List Action) (core c : ℕ) → is_banned (x ++ Unban core ∷ []) c ≡ cond (eqb core c) false (is_banned x c)
+unbanned_at x core c = ap is_some (ban_push x (Unban core) c ∙ unwrap_if (eqb core c) None (ban_of x c)) ∙ unban_some (eqb core c) (ban_of x c)
 
 after_unban_for : (s : Setting) (x : List Action) (c d : ℕ) (o : Option BannedFor) → (ban_of (x ++ unban_for s x c o) d ≡ None) ⊎ (ban_of (x ++ unban_for s x c o) d ≡ ban_of x d)
 after_unban_for s x c d None = inr (ap (λ y. ban_of y d) (append-nil x))

@@ -1,17 +1,23 @@
 -- Threads that do not wait do not press.
-use Rattle.std.proofs.Common.{◌≡◌, ℕ, ◌+◌, ◌<◌, ◌≤◌, Bool, false, not, ◌&&◌, nat_lt, List, refl, ap, ◌∙◌, arith}
+use Rattle.std.proofs.Common.{◌≡◌, ℕ, ◌+◌, ◌<◌, ◌≤◌, Bool, true, false, not, ◌&&◌, cond, eqb, nat_lt, List, [], length, Option, Some, None, refl, sym, ap, ◌∙◌, arith}
+use Rattle.std.specs.Option.{is_some}
 use Rattle.std.proofs.lemmas.Bool.Decides.{nat_tests}
 use Rattle.cal_machine.specs.Tasks.{first_thread}
-use Rattle.cal_machine.specs.TableTasks.{owner_of, thread_of, delay_of}
+use Rattle.cal_machine.specs.TableTasks.{owner_of, thread_of, delay_of, limit_of}
 use Rattle.cal_machine.specs.ThreadSet.{has_thread}
 use Rattle.cal_policy.specs.declared.history.action.Action.{Action}
 use Rattle.cal_policy.specs.declared.board.Board.{Board}
-use Rattle.cal_policy.specs.Assured.InFlight.{is_in_flight, presses}
+use Rattle.cal_policy.specs.Assured.Grants.{grant_in_place}
+use Rattle.cal_policy.specs.Assured.InFlight.{is_in_flight, presses, pressing}
+use Rattle.cal_policy.specs.Assured.Order.{place_of, task_in_place}
+use Rattle.cal_policy.specs.Assured.Short.{surplus, waits}
 use Rattle.cal_policy.specs.Board.KeepingSets.{KeepsSets}
 use Rattle.cal_policy.specs.Pass.Choice.{count_below}
+use Rattle.cal_policy.specs.Pass.Grants.{may_book, thread_choice}
 use Rattle.cal_policy.specs.Setting.{Setting, so_far}
 use Rattle.cal_policy.specs.State.{Stands}
-use Rattle.cal_policy.proofs.AssuredLemmas.Counting.{count_skip}
+use Rattle.cal_policy.proofs.AssuredLemmas.Counting.{count_skip, below_nothing}
+use Rattle.cal_policy.proofs.ListLemmas.Counted.{lowest_passes}
 use Rattle.cal_policy.proofs.PassLemmas.NothingDue.{no_delay}
 
 never_below : (n : ℕ) (b : Bool) → (nat_lt n 0 && b) ≡ false
@@ -32,3 +38,27 @@ press_past b s acts st sets t first n m at low most none =
     count_skip (λ j. presses s (so_far s acts) (thread_of s.table t j)) n m low
     (λ j x y. no_press b s acts st sets (first_thread s.table.tasks t + j) (omega (arith, at, most, y))
     (none (first_thread s.table.tasks t + j) (omega (arith, at, x)) (omega (arith, at, y))))
+
+-- so a task of whose threads none waits does not wait
+pub calm_task : (b : Board) (s : Setting) (acts : List Action) → Stands b s acts → KeepsSets b.keeping → (t : ℕ) →
+    first_thread s.table.tasks t + limit_of s.table t ≤ 128 →
+    ((j : ℕ) → first_thread s.table.tasks t ≤ j → j < first_thread s.table.tasks t + limit_of s.table t → has_thread b.keeping.waiting j ≡ false) →
+    waits s (so_far s acts) t ≡ false
+calm_task b s acts st sets t most none =
+    let x = so_far s acts in
+    let calm : pressing s x t ≡ 0 = sym (press_past b s acts st sets t (first_thread s.table.tasks t) 0 (limit_of s.table t) refl (omega arith) most (λ j from to. none j (omega (arith, from)) to)) in
+    let books : Bool = may_book s x t in
+    let has : Bool = is_some (thread_choice s x t) in
+    ap (λ n. (nat_lt (surplus s x t) n && books) && has) calm ∙ below_nothing (surplus s x t) books has
+
+unless_waits : (b : Bool) (l : List Action) → b ≡ false → cond b l [] ≡ []
+unless_waits true l e = cc
+unless_waits false l e = refl
+
+-- where no task waits none is given anything in its place
+pub nothing_in_place : (s : Setting) (acts x : List Action) (place : ℕ) (o : Option ℕ) → task_in_place s x place ≡ o →
+    ((t : ℕ) → t < length s.table.tasks → waits s (so_far s acts) t ≡ false) → grant_in_place s acts o ≡ []
+nothing_in_place s acts x place None e calm = refl
+nothing_in_place s acts x place (Some t) e calm =
+    let there = lowest_passes (λ u. eqb (place_of s x u) place) (length s.table.tasks) t e in
+    unless_waits (waits s (so_far s acts) t) _ (calm t there.0)

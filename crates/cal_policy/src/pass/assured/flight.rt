@@ -1,12 +1,13 @@
 //! Threads that are late, and cores that are on their way to a task.
 
-ghost use Rattle.std.specs.Prelude.{◌≡◌, ◌==◌, ℕ, ◌+◌, ◌<◌, ◌≤◌, nat_lt, List, length, if◌then◌else◌};
+ghost use Rattle.std.specs.Prelude.{◌≡◌, ◌==◌, ℕ, ◌+◌, ◌<◌, ◌≤◌, nat_lt, true, List, length};
+ghost use Rattle.std.specs.Prelude.{if◌then◌else◌};
 ghost use Rattle.cal_machine.specs.declared.numbering.TheConstants.{MOST_THREADS};
 ghost use Rattle.cal_machine.specs.TableTasks.{threads_of_table};
 ghost use Rattle.cal_policy.specs.Assured.InFlight as rules;
 ghost use Rattle.cal_policy.specs.Board.{kept_number};
 ghost use Rattle.cal_policy.specs.Board.Counts.{cores_of_thread};
-ghost use Rattle.cal_policy.specs.History.{holder_of};
+ghost use Rattle.cal_policy.specs.History.{holder_of, sent_to};
 ghost use Rattle.cal_policy.specs.Pass.AtHand.{Within};
 ghost use Rattle.cal_policy.specs.Setting.{so_far, kept_now};
 ghost use Rattle.cal_policy.specs.State.{IsOfTable, Agrees};
@@ -23,6 +24,13 @@ fn is_run_untaken(rec: Record, number: u128) -> bool
     ensures { (n : ℕ) → number ≡ kept_number n → result ≡ nat_lt rec.taken n }
 {
     u128::from(rec.taken) < number
+}
+
+/// Whether a record has taken so many commands.
+fn has_taken(rec: Record, sent: u128) -> bool
+    ensures { (n : ℕ) → sent ≡ kept_number n → result ≡ true → n ≤ rec.taken }
+{
+    sent <= u128::from(rec.taken)
 }
 
 /// One more, where it passes.
@@ -62,7 +70,18 @@ impl Pass<'_> {
         survey_of(self.config, board).placed[thread] == 0
     }
 
+    /// Whether the kept record of a thread has taken all that was sent to it.
+    fn has_taken_all(&self, board: &Board, thread: usize) -> bool
+        requires at_hand { IsOfTable self.now.config.now board.now }
+        requires thread { thread < MOST_THREADS }
+        ensures { result ≡ true → Within self.now board.now (λ s acts.
+            sent_to (so_far s acts) thread ≤ (kept_now s thread).taken) }
+    {
+        has_taken(board.keeping.kept[thread], board.holding.sent[thread])
+    }
+
     /// Whether a thread is in flight: it holds a core by a Run that its kept record has not taken.
+    /// The cores are gone over only where it has one, and has not taken all that was sent to it.
     pub fn is_in_flight(&self, board: &Board, thread: usize) -> bool
         requires at_hand { IsOfTable self.now.config.now board.now }
         requires thread { thread < MOST_THREADS }
@@ -70,6 +89,9 @@ impl Pass<'_> {
             ≡ rules.is_in_flight s (so_far s acts) thread) }
     {
         if self.has_no_core(board, thread) {
+            return false;
+        }
+        if self.has_taken_all(board, thread) {
             return false;
         }
         for core in 0..self.config.machine().cores() {

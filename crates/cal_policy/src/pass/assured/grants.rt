@@ -1,13 +1,15 @@
 //! The last part of a pass of `Policy::Assured`: each task that waits gets a core, or has one
 //! revoked for it, in the order that is fixed where the part begins.
 
-ghost use Rattle.std.specs.Prelude.{◌≡◌, ◌+◌, ◌<◌, ◌≤◌, ◌++◌, length, option_to_list};
+ghost use Rattle.std.specs.Prelude.{◌≡◌, ℕ, ◌+◌, ◌<◌, ◌≤◌, ◌++◌, true, false, length};
+ghost use Rattle.std.specs.Prelude.{option_to_list};
 ghost use Rattle.std.specs.Option.{IfSome};
 ghost use Rattle.cal_policy.specs.declared.history.action_list.TheConstants.{MOST_ACTIONS};
 ghost use Rattle.cal_policy.specs.Assured.Grants as rules;
+ghost use Rattle.cal_policy.specs.Assured.Short.{waits};
 ghost use Rattle.cal_policy.specs.Board.{NamesTable};
 ghost use Rattle.cal_policy.specs.Pass.AtHand.{setting_in, Within};
-ghost use Rattle.cal_policy.specs.Setting.{Begun};
+ghost use Rattle.cal_policy.specs.Setting.{Begun, so_far};
 ghost use Rattle.cal_policy.specs.State.{IsReady, IsOfTable, Stands};
 
 use crate::board::Board;
@@ -52,6 +54,18 @@ impl Pass<'_> {
         self.make(board, out, action);
     }
 
+    /// Whether no thread shows a request that waits: then no task waits.
+    fn none_waits(&self, board: &Board) -> bool
+        requires at_hand { IsOfTable self.now.config.now board.now }
+        ensures { result ≡ true → Within self.now board.now (λ s acts. (t : ℕ) →
+            t < length self.now.config.now.tasks → waits s (so_far s acts) t ≡ false) }
+    {
+        match board.keeping.waiting.next(0, self.config.threads()) {
+            Some(_) => false,
+            None => true,
+        }
+    }
+
     /// Gives each task what it gets, in the order that is fixed before the first.
     pub fn grant_in_turn(&self, board: &mut Board, out: &mut Actions)
         requires of_table { IsOfTable self.now.config.now board.old }
@@ -60,6 +74,9 @@ impl Pass<'_> {
             (out.new ≡ out.old ++ rules.grants s out.old) × Stands board.new s out.new }
         ensures ready { IsReady self.now.config.now board.new }
     {
+        if self.none_waits(board) {
+            return;
+        }
         let places = self.places(board);
         for place in 0..self.config.tasks() {
             self.take_turn(board, out, places[place]);

@@ -1,12 +1,14 @@
 -- Each place gives what is due to its task.
-use Rattle.std.proofs.Common.{◌≡◌, ◌≤◌, ◌<◌, ◌++◌, ℕ, List, length, ap, ◌∙◌, arith}
+use Rattle.std.proofs.Common.{◌≡◌, ◌≤◌, ◌<◌, ◌++◌, ℕ, List, length, refl, sym, ap, ◌∙◌, arith}
+use Rattle.std.proofs.lemmas.List.{append-nil}
 use Rattle.cal_policy.specs.declared.history.action.Action.{Action}
 use Rattle.cal_policy.specs.Assured.Grants.{grant_in_place}
 use Rattle.cal_policy.specs.Assured.Order.{task_in_place}
 use Rattle.cal_policy.specs.History.Lists.{in_turn}
 use Rattle.cal_policy.specs.Pass.AtHand.{setting_in}
 use Rattle.cal_policy.specs.Setting.{so_far}
-use Rattle.cal_policy.proofs.PassLemmas.PartSoFar.{Reached_one}
+use Rattle.cal_policy.proofs.AssuredLemmas.Waiting.{nothing_in_place}
+use Rattle.cal_policy.proofs.PassLemmas.PartSoFar.{Reached_one, Reached_skip}
 use Rattle.cal_policy.proofs.pass.Pass.grant_in_turn.Goals as goal
 
 pub loop-place-preserved : goal.loop-place-preserved
@@ -23,6 +25,16 @@ loop-place-preserved c =
       ready = c.take_turn.ensures.ready;
       length = omega (arith, c.take_turn.ensures.length, i.length);
     }
+
+-- where no task waits none is given anything
+pub returns-then-none_waits-clause-acts : goal.returns-then-none_waits-clause-acts
+returns-then-none_waits-clause-acts c = λ h st.
+    let s = setting_in c.args.self.now h in
+    let out = c.args.out.now in
+    let f : List Action → ℕ → List Action = λ made place. grant_in_place s made (task_in_place s (so_far s out) place) in
+    Reached_skip f s out out c.args.board.now 0 (length s.table.tasks) (omega arith)
+    (λ place a b. nothing_in_place s out (so_far s out) place (task_in_place s (so_far s out) place) refl (c.if-none_waits.ensures refl h out st))
+    (sym (append-nil out), st)
 
 pub returns-clause-acts : goal.returns-clause-acts
 returns-clause-acts c = λ h st.

@@ -49,7 +49,7 @@ use Rattle.cal_policy.specs.Assured.Short.{is_open, surplus, are_lacked}
 use Rattle.cal_policy.specs.Assured.InFlight.{pressing}
 use Rattle.cal_policy.specs.Assured.Taking.{is_kept, held_class}
 use Rattle.cal_policy.proofs.AssuredLemmas.Done.{IsUnbanned, IsGranted, IsFreeing, IsUnbanning, IsServing, open_taken, held_taken, frees_made, unbans_made, grants_made}
-use Rattle.cal_assured.proofs.Standing.{Lowers, none_over_more, IsUnsent, NoneGranted, none_granted_more, unsent_more, sent_quiet, loser_unsent, sent_revoked, thread_unsent, Base, base_shrinks, base_granted}
+use Rattle.cal_guard.proofs.AssuredLemmas.Standing.{Lowers, none_over_more, IsUnsent, NoneGranted, none_granted_more, unsent_more, sent_quiet, loser_unsent, sent_revoked, thread_unsent, Base, base_shrinks, base_granted}
 use Rattle.cal_policy.proofs.AssuredLemmas.Walks.{each_leads, turns_lead}
 
 -- the laws that are cited

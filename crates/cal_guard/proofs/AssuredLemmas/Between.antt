@@ -15,11 +15,10 @@ use Rattle.cal_policy.proofs.PassLemmas.Steady.{Steady_start, none_counted}
 use Rattle.cal_laws.specs.Bans.{NoneHeld}
 use Rattle.cal_laws.specs.Exclusion.{HaveOneCore}
 use Rattle.cal_laws.proofs.PointLemmas.EachAction.{actions_more}
-use Rattle.cal_guard.specs.Permitted.{NoneOverCap, IsPermitted, ArePermitted}
+use Rattle.cal_guard.specs.Permitted.{NoneOverCap, IsPermitted, ArePermitted, IsPermittedHistory}
 use Rattle.cal_policy.specs.Assured.Pass.{pass_of, IsPass, IsLegal}
-use Rattle.cal_assured.specs.Permitted.{PassesArePermitted}
-use Rattle.cal_assured.proofs.Lengths.{pass_short}
-use Rattle.cal_assured.proofs.Permitting.{Laws, First, IsPermittedWhole, pass_permitted}
+use Rattle.cal_guard.proofs.AssuredLemmas.Lengths.{pass_short}
+use Rattle.cal_guard.proofs.AssuredLemmas.Permitting.{Laws, First, IsPermittedWhole, pass_permitted}
 
 -- what stands between two passes
 pub record Ready (table : Table) (x : List Action) : Type 0 where
@@ -88,7 +87,7 @@ are_permitted s ok whole = record {
   settled = record { emptied = whole.after.emptied; lowered = whole.after.lowered };
 }
 
-pub passes_permitted : Laws → PassesArePermitted
+pub passes_permitted : Laws → (table : Table) (history : List PassEntry) → IsTable table → IsLegal table history → IsPermittedHistory table history
 passes_permitted laws table history ok legal = record {
   passes = λ p entry e.
       let within = slice_get_within history p entry e in

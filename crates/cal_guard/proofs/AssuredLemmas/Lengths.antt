@@ -34,7 +34,7 @@ use Rattle.cal_policy.specs.Assured.Pass.{unbanned_of, bounded_of, pass_of}
 use Rattle.cal_policy.specs.Assured.Short.{are_lacked, waits}
 use Rattle.cal_policy.specs.Assured.Taking.{choice_for}
 use Rattle.cal_policy.proofs.AssuredLemmas.Done.{IsUnbanned, IsUnbanning, unbans_made}
-use Rattle.cal_assured.proofs.Ending.{unbanned_at}
+use Rattle.cal_policy.proofs.AssuredLemmas.Pairs.{unbanned_at}
 
 -- how many cores are banned
 abbrev banned_cores : Table → List Action → ℕ
