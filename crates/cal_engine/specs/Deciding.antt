@@ -10,6 +10,7 @@ use Rattle.cal_policy.specs.Pass.{pass_of, IsLegal}
 use Rattle.cal_policy.specs.Setting.{setting}
 use Rattle.cal_policy.specs.declared.history.entry.PassEntry.{PassEntry}
 use Rattle.cal_policy.specs.declared.history.input.Input.{Input}
+use Rattle.cal_policy.specs.declared.policy.Policy.TheVariants.{Caladan}
 use Rattle.cal_trace.specs.History.Text.{begun_text}
 use Rattle.cal_trace.specs.Report.{passes_text, IsReportOf}
 use Rattle.cal_trace.specs.Rows.{rows_of}
@@ -63,6 +64,7 @@ decided_run_of input = decided_run (parts_of input)
 -- the decider has come to the end of this history, of which this is kept
 pub record HasDecided (keeps : List PassEntry → Type 0) (history : List PassEntry)
     (decider : Decider) : Type 0 where
+  pub policy : decider.book.policy ≡ Caladan
   pub agrees : IsStateAfter (board_in decider.book) history
   pub kept : keeps history
 

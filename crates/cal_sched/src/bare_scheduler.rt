@@ -8,6 +8,7 @@ ghost use Rattle.cal_policy.specs.declared.history.entry.TheConstants.{MOST_PASS
 ghost use Rattle.cal_sched.specs.declared.fault.PassFault.TheVariants.{HistoryFull};
 ghost use Rattle.cal_policy.specs.Book.{board_in};
 ghost use Rattle.cal_policy.specs.State.{IsReady, IsStateAfter};
+ghost use Rattle.cal_policy.specs.declared.policy.Policy.TheVariants.{Caladan};
 ghost use Rattle.cal_sched.specs.Passing.{IsPassed};
 ghost use Rattle.cal_sched.specs.Scheduler.{IsKept, HaveSeenNothing, HaveSentNothing};
 
@@ -51,6 +52,7 @@ impl Model for BareScheduler {
     ghost use Rattle.std.specs.Prelude.{◌≡◌, length};
     ghost use Rattle.cal_policy.specs.Book.{board_in};
     ghost use Rattle.cal_policy.specs.State.{IsReady, IsStateAfter};
+    ghost use Rattle.cal_policy.specs.declared.policy.Policy.TheVariants.{Caladan};
     ghost use Rattle.cal_sched.specs.Past.{AreLast, history_of};
     ghost use Rattle.cal_sched.specs.Scheduler.{SchedulerView, IsKept};
 
@@ -71,7 +73,8 @@ impl Model for BareScheduler {
     }) × IsStateAfter (board_in s.book) (history_of s.config s.past)
         × IsReady s.config (board_in s.book)
         × (s.passes ≡ length (history_of s.config s.past))
-        × AreLast s.config s.past s.looks.value };
+        × AreLast s.config s.past s.looks.value
+        × (s.book.policy ≡ Caladan) };
 }
 
 /// What `Scheduler::new` or `BareScheduler::new` was given, where memory was refused.
@@ -100,6 +103,7 @@ pub struct BareEnd {
 fn take_memory(alloc: Global, config: &Config) -> Result<(Book, Box<OpenPass>), AllocError>
     ensures agrees { IfOk result (λ taken. IsStateAfter (board_in taken.0) []) }
     ensures of { IfOk result (λ taken. IsReady config.now (board_in taken.0)) }
+    ensures policy { IfOk result (λ taken. taken.0.policy ≡ Caladan) }
 {
     let book = Book::open(alloc, config)?;
     let looks = Box::new(alloc, OpenPass::new())?;

@@ -34,15 +34,17 @@ pub struct Scheduler {
 }
 
 impl Model for Scheduler {
+    ghost use Rattle.std.specs.Prelude.{◌≡◌};
     ghost use Rattle.cal_policy.specs.Book.{board_in};
     ghost use Rattle.cal_policy.specs.State.{IsReady};
+    ghost use Rattle.cal_policy.specs.declared.policy.Policy.TheVariants.{Caladan};
     ghost use Rattle.caladan_c.specs.Standing.{Standing};
 
     ghost Value = { Standing };
 
     ghost view = { λ s. record { table = s.config; book = s.book; made = s.made } };
 
-    ghost invariant = { λ s. IsReady s.config (board_in s.book) };
+    ghost invariant = { λ s. IsReady s.config (board_in s.book) × (s.book.policy ≡ Caladan) };
 }
 
 ghost use Rattle.cal_policy.specs.Book.{board_in, AfterLegal};

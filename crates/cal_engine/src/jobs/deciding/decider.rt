@@ -8,6 +8,7 @@ ghost use Rattle.cal_policy.specs.State.{IsReady, IsStateAfter};
 ghost use Rattle.cal_policy.specs.Judgement.Judging.{IsInput};
 ghost use Rattle.cal_policy.specs.Pass.{IsLegal};
 ghost use Rattle.cal_policy.specs.declared.history.entry.PassEntry.{PassEntry as EntryOfPass};
+ghost use Rattle.cal_policy.specs.declared.policy.Policy.TheVariants.{Caladan};
 ghost use Rattle.cal_engine.specs.Deciding.{decided_pass, input_of, HasDecided};
 
 use crate::jobs::deciding::keeper::Keeper;
@@ -31,6 +32,7 @@ impl Decider {
     pub(crate) fn open(alloc: Global, config: &Config) -> Result<Decider, AllocError>
         ensures agrees { IfOk result (λ decider. IsStateAfter (board_in decider.book) []) }
         ensures of { IfOk result (λ decider. IsReady config.now (board_in decider.book)) }
+        ensures policy { IfOk result (λ decider. decider.book.policy ≡ Caladan) }
     {
         let book = Book::open(alloc, config)?;
         let actions = Actions::reserved(alloc)?;
@@ -68,13 +70,14 @@ impl Decider {
         requires of { IsReady config.now (board_in self.old.book) }
         requires looks { length pass.now.looks ≡ threads_of_table config.now }
         ensures decided { IfOk result (λ entry. (h : List EntryOfPass) → IsLegal config.now h →
-            IsStateAfter (board_in self.old.book) h →
+            self.old.book.policy ≡ Caladan → IsStateAfter (board_in self.old.book) h →
             IsInput config.now h (input_of config.now h pass.entry.now) →
             entry ≡ decided_pass config.now h pass.entry.now) }
         ensures agrees { IfOk result (λ entry. (h : List EntryOfPass) → IsLegal config.now h →
             IsStateAfter (board_in self.old.book) h →
             IsInput config.now h (input_of config.now h pass.entry.now) →
             IsStateAfter (board_in self.new.book) (h ++ entry ∷ [])) }
+        ensures policy { OnOk result (self.new.book.policy ≡ self.old.book.policy) }
         ensures of { OnOk result (IsReady config.now (board_in self.new.book)) }
     {
         let looks = pass.looks.as_slice();

@@ -23,7 +23,7 @@ loop-decider-init g c = record {
     history = [];
     has = has;
     so_far = IsDecided-none c.args.config.now;
-    decided = record { agrees = c.in_ok-decider.ensures.agrees; kept = c.requires.opened };
+    decided = record { policy = c.in_ok-decider.ensures.policy; agrees = c.in_ok-decider.ensures.agrees; kept = c.requires.opened };
     count = refl;
   };
 }

@@ -69,8 +69,8 @@ decided c =
       kept = kept;
       finds = finds;
       opened = came;
-      acts = c.pass.ensures.acts s.history found kept.legal agrees opened;
-      agreed = subst (IsStateAfter (board_in c.pass.new.self)) (ap (λ (l : List Action). let e : PassEntry = record { input = judged_input s.table s.history c.args.now c.args.bandwidth found; actions = l } in s.history ++ e ∷ []) (c.pass.ensures.acts s.history found kept.legal agrees opened)) (c.pass.ensures.agrees s.history found kept.legal agrees opened);
+      acts = c.pass.ensures.acts c.self.invariant.5 s.history found kept.legal agrees opened;
+      agreed = subst (IsStateAfter (board_in c.pass.new.self)) (ap (λ (l : List Action). let e : PassEntry = record { input = judged_input s.table s.history c.args.now c.args.bandwidth found; actions = l } in s.history ++ e ∷ []) (c.pass.ensures.acts c.self.invariant.5 s.history found kept.legal agrees opened)) (c.pass.ensures.agrees s.history found kept.legal agrees opened);
       rung = written_whole ring_items.len asked ring_items.items ring_items.ok.0 many_rings;
     }
 
@@ -148,7 +148,7 @@ invariant_of-self c =
     let last : AreLast c.self.inside.config c.note.new.self c.find_news.new.pass =
     subst (λ (l : List FoundPass). AreLast c.self.inside.config l c.find_news.new.pass) (sym c.note.ensures)
     (last_push c.self.inside.config c.self.inside.past (made (sending c)) c.find_news.new.pass all.was.opened c.find_news.ensures.all) in
-    (kept c, rw all.history all.was.agreed, c.pass.ensures.of, counted, last)
+    (kept c, rw all.history all.was.agreed, c.pass.ensures.of, counted, last, c.pass.ensures.policy ∙ c.self.invariant.5)
 
 pub returns-clause-passed : goal.returns-clause-passed
 returns-clause-passed c =

@@ -6,4 +6,4 @@ use Rattle.caladan_c.proofs.audit.Audit.verdict.Goals as goal
 
 pub returns : goal.returns
 returns c = subst (λ (a : AuditView). (h : List PassEntry) → HasAudited a h → IsVerdict a.table h c.verdict.result) c.self.view_is
-    (λ h audits. c.verdict.ensures c.self.inside.config h audits)
+    (λ h audits. c.verdict.ensures.audits c.self.inside.config h audits)

@@ -30,7 +30,7 @@ returns-clause-passed c =
     let used : IsTakenAt s.table h looks c.deref.result.now = rw c.deref.ensures came in
     passed_after s h (input_of_each s.table h now bandwidth looks) (input_of_each s.table h now bandwidth looks) c.pass.new.out c.pass.new.self
     c.one_pass_more_is_legal.ensures c.legal_is_short.ensures c.limits.ensures legal refl is
-    (c.pass.ensures.acts h taken legal state used) (c.pass.ensures.agrees h taken legal state used) in
+    (c.pass.ensures.acts c.self.invariant.1 h taken legal state used) (c.pass.ensures.agrees h taken legal state used) in
     subst (λ (old : Standing). (h : List PassEntry) → IsLegal old.table h → IsStateAfter (board_in old.book) h → MadePass old h (input_of_each old.table h now bandwidth looks) new) view whole
 
 pub returns-clause-said : goal.returns-clause-said

@@ -11,14 +11,14 @@ pub input-requires : goal.input-requires
 input-requires c = ap length c.as_slice-looks.ensures ∙ c.requires.looks
 
 pub returns-clause-decided : goal.returns-clause-decided
-returns-clause-decided c = λ h legal agrees given.
+returns-clause-decided c = λ h legal is agrees given.
     let table = c.args.config.now in
     let pass = c.args.pass.now in
     let same : c.in_ok-input.input ≡ input_of table h pass =
     c.in_ok-input.ensures.judged h agrees ∙ ap (λ looks. judged_input table h pass.now pass.bandwidth looks) c.as_slice-looks.ensures in
     let fits : IsInput table h c.in_ok-input.input = subst (IsInput table h) (sym same) given in
     ap (λ (listed : List Action). let e : PassEntry = record { input = c.in_ok-input.input; actions = listed } in e) c.in_ok-actions.ensures
-    ∙ made_pass table h pass c.in_ok-input.input c.step.new.out same (c.step.ensures.acts h legal agrees fits)
+    ∙ made_pass table h pass c.in_ok-input.input c.step.new.out same (c.step.ensures.acts is h legal agrees fits)
 
 pub returns-clause-agrees : goal.returns-clause-agrees
 returns-clause-agrees c = λ h legal agrees given.

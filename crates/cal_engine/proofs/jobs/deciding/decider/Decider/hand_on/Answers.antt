@@ -1,11 +1,11 @@
-use Rattle.std.proofs.Common.{[], ◌∷◌, ◌++◌, subst}
+use Rattle.std.proofs.Common.{[], ◌∷◌, ◌++◌, ◌∙◌, subst}
 use Rattle.std.proofs.lemmas.Result.{on_ok_weaker}
 use Rattle.cal_policy.specs.declared.history.entry.PassEntry.{PassEntry}
 use Rattle.cal_engine.proofs.jobs.deciding.decider.Decider.hand_on.Goals as goal
 
 pub returns-clause-decided : goal.returns-clause-decided
 returns-clause-decided g c = λ h legal given few before.
-    let made = c.in_ok-entry.ensures.decided h legal before.agrees given in
+    let made = c.in_ok-entry.ensures.decided h legal before.policy before.agrees given in
     let agrees = rw made at (c.in_ok-entry.ensures.agrees h legal before.agrees given) in
     let P : PassEntry → Type 0 = λ e. g.K.Keeper.keeps c.take.new.self (h ++ e ∷ []) in
-    on_ok_weaker c.take.result (λ kept. record { agrees = agrees; kept = subst P made kept }) (c.take.ensures.keeps h few before.kept)
+    on_ok_weaker c.take.result (λ kept. record { policy = c.in_ok-entry.ensures.policy ∙ before.policy; agrees = agrees; kept = subst P made kept }) (c.take.ensures.keeps h few before.kept)
