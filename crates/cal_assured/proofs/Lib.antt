@@ -2,8 +2,6 @@ pub mod AsWorked
 pub mod ByHolders
 pub mod Ending
 pub mod Legality
-pub mod Numbering
 pub mod PassLaws
 pub mod Points
 pub mod RingLemmas
-pub mod TurnOrder

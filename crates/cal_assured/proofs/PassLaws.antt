@@ -31,7 +31,7 @@ use Rattle.cal_policy.specs.Assured.Pass.{bounded_of}
 use Rattle.cal_policy.specs.Assured.Short.{is_short, lacks, lacking, open_cores, is_open, surplus, waits, waits_short, some_waits_short, are_lacked}
 use Rattle.cal_policy.specs.Assured.Taking.{is_kept_for, is_kept_for_short, is_kept, open_choice, may_preempt, held_choice, choice_for}
 use Rattle.cal_policy.proofs.AssuredLemmas.Done.{IsGranted, open_taken, comes_done}
-use Rattle.cal_assured.proofs.TurnOrder.{place_lower, tasks_placed}
+use Rattle.cal_policy.proofs.AssuredLemmas.TurnOrder.{place_lower, tasks_placed}
 use Rattle.cal_policy.proofs.AssuredLemmas.Walks.{first_turns, place_after}
 
 -- a core that is granted may be taken by its thread's task, which waits

@@ -5,5 +5,4 @@ pub mod Permitted
 pub mod Point
 pub mod Rings
 pub mod Safety
-pub mod Turns
 pub mod Worked

@@ -7,8 +7,10 @@ pub mod FromParts
 pub mod Keeping
 pub mod LegalOrderly
 pub mod Legality
+pub mod Numbering
 pub mod Pairs
 pub mod Sent
+pub mod TurnOrder
 pub mod Turns
 pub mod Waiting
 pub mod Walks

@@ -10,3 +10,4 @@ pub mod Owed
 pub mod Pass
 pub mod Short
 pub mod Taking
+pub mod Turns

@@ -26,7 +26,7 @@ use Rattle.cal_policy.proofs.HistoryLemmas.OneMore.{ban_push}
 use Rattle.cal_policy.proofs.PassLemmas.Fits.{so_far_push, ban_facts}
 use Rattle.cal_policy.proofs.PassLemmas.Length.{turns_most, frees_most, two_with, bandwidth_most, one_when, chosen_one}
 use Rattle.cal_policy.proofs.PassLemmas.Pairs.{beside_lower, after_ban, so_far_more}
-use Rattle.cal_laws.proofs.ListLemmas.Counted.{count_less}
+use Rattle.cal_policy.proofs.ListLemmas.Counted.{count_less}
 use Rattle.cal_policy.specs.Assured.Grants.{grant_in_place, grants}
 use Rattle.cal_policy.specs.Assured.Hyperthreads.{unbans, due_for, bans_at, bans}
 use Rattle.cal_policy.specs.Assured.Order.{task_in_place}

@@ -7,7 +7,7 @@ use Rattle.cal_policy.specs.Assured.Order.{task_in_place}
 use Rattle.cal_policy.specs.History.Lists.{in_turn}
 use Rattle.cal_policy.specs.Pass.AtHand.{setting_in}
 use Rattle.cal_policy.specs.Setting.{so_far}
-use Rattle.cal_policy.proofs.AssuredLemmas.Waiting.{nothing_in_place}
+use Rattle.cal_policy.proofs.AssuredLemmas.Waiting.{nothing_in_place, placed_gives}
 use Rattle.cal_policy.proofs.PassLemmas.PartSoFar.{Reached_one, Reached_skip}
 use Rattle.cal_policy.proofs.pass.Pass.grant_in_turn.Goals as goal
 
@@ -21,7 +21,7 @@ loop-place-preserved c =
           let f : List Action → ℕ → List Action = λ made place. grant_in_place s made (task_in_place s (so_far s c.args.out.now) place) in
           Reached_one f s c.args.out.now _ _ c.loop-place.board _ c.loop-place.place (i.acts h st)
           (λ now. let made = c.take_turn.ensures.acts h now in
-          (made.0 ∙ ap (λ o. c.loop-place.out ++ grant_in_place s c.loop-place.out o) (c.places-places.ensures.places h c.args.out.now st c.loop-place.place low), made.1));
+          (made.0 ∙ ap (λ l. c.loop-place.out ++ l) (placed_gives s c.loop-place.out _ _ (c.places-places.ensures.places h c.args.out.now st c.loop-place.place low)), made.1));
       ready = c.take_turn.ensures.ready;
       length = omega (arith, c.take_turn.ensures.length, i.length);
     }
