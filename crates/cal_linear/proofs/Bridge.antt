@@ -10,6 +10,7 @@ use Rattle.std.proofs.lemmas.List.{get_or_append_left}
 use Rattle.std.proofs.lemmas.List.Elements.{filter_map-append}
 use Rattle.std.proofs.lemmas.List.Sums.{sum_by-append}
 use Rattle.cal_machine.specs.Table.{Table}
+use Rattle.cal_policy.specs.declared.policy.Policy.{Policy}
 use Rattle.cal_machine.specs.declared.command.Command.{Command}
 use Rattle.cal_machine.specs.declared.command.Command.TheVariants.{Park}
 use Rattle.cal_signal.specs.declared.record.Record.{Record}
@@ -38,7 +39,7 @@ use Rattle.cal_world.specs.declared.illegal.Illegal.TheVariants.{NoThread, Nothi
 use Rattle.cal_world.specs.Projections.{is_take_by, is_publish_by, takes_in, publishes_in, next_command, took, entries_for, journal_in}
 use Rattle.cal_world.specs.Threads.{page_in, place_read, place_watched, read_floor, watch_floor}
 use Rattle.cal_world.specs.Looks.{decided_at, since_decide, record_at, look_made, looks_since}
-use Rattle.cal_world.specs.World.{HasCommand, Passes, IsAllowed, IsLegalList}
+use Rattle.cal_world.specs.World.{HasCommand, PassesBy, IsAllowedBy, IsLegalListBy}
 use Rattle.cal_linear.proofs.Lists.{last_from_push}
 use Rattle.cal_linear.proofs.OneMore.{journal_push, looks_push, floor_push, watches_push}
 use Rattle.cal_world.proofs.ScheduleLemmas.SinceDecide.{since_more, since_none}
@@ -107,24 +108,24 @@ take_adds own commands true lt =
     let one = push_taken own (Took (n + 1) (get_or commands n Park)) in
     omega (arith, same, one)
 
-adds_taken : (table : Table) (es : List Event) (k : ℕ) (e : Event) → IsAllowedAlong table es e →
+adds_taken : (policy : Policy) (table : Table) (es : List Event) (k : ℕ) (e : Event) → IsAllowedAlong policy table es e →
     (state_after (journal_along es k ++ adds_to k (journal_along es k) (history_in es) e)).taken ≡ (state_after (journal_along es k)).taken + cond (is_take_by k e) 1 0
-adds_taken table es k (Take thread) may =
+adds_taken policy table es k (Take thread) may =
     take_adds (journal_along es k) (commands_to (actions_of (history_in es)) k) (eqb thread k)
     (λ is. let P : ℕ → Type 0 = λ i. (state_after (journal_along es i)).taken < length (commands_to (actions_of (history_in es)) i) in subst P (eqb-true thread k is) may.1)
-adds_taken table es k (Yield thread) may = let same = same_taken (journal_along es k) Yielded (eqb thread k) (push_taken (journal_along es k) Yielded) in omega (arith, same)
-adds_taken table es k (Publish thread rec) may =
+adds_taken policy table es k (Yield thread) may = let same = same_taken (journal_along es k) Yielded (eqb thread k) (push_taken (journal_along es k) Yielded) in omega (arith, same)
+adds_taken policy table es k (Publish thread rec) may =
     let x : Entry = Published (length (published_along es k) + 1) rec in
     let same = same_taken (journal_along es k) x (eqb thread k) (push_taken (journal_along es k) x) in omega (arith, same)
-adds_taken table es k (Read thread number) may = let same = ap (λ l. (state_after l).taken) (append-nil (journal_along es k)) in omega (arith, same)
-adds_taken table es k (Skip thread seen) may = let same = ap (λ l. (state_after l).taken) (append-nil (journal_along es k)) in omega (arith, same)
-adds_taken table es k (Decide entry) may = let same = ap (λ l. (state_after l).taken) (append-nil (journal_along es k)) in omega (arith, same)
-adds_taken table es k (Watch thread number) may = let same = ap (λ l. (state_after l).taken) (append-nil (journal_along es k)) in omega (arith, same)
+adds_taken policy table es k (Read thread number) may = let same = ap (λ l. (state_after l).taken) (append-nil (journal_along es k)) in omega (arith, same)
+adds_taken policy table es k (Skip thread seen) may = let same = ap (λ l. (state_after l).taken) (append-nil (journal_along es k)) in omega (arith, same)
+adds_taken policy table es k (Decide entry) may = let same = ap (λ l. (state_after l).taken) (append-nil (journal_along es k)) in omega (arith, same)
+adds_taken policy table es k (Watch thread number) may = let same = ap (λ l. (state_after l).taken) (append-nil (journal_along es k)) in omega (arith, same)
 
-takes_more : (table : Table) (es : List Event) (e : Event) (k : ℕ) → TellAlike es → IsAllowedAlong table es e → takes_in (es ++ e ∷ []) k ≡ (state_after (journal_along (es ++ e ∷ []) k)).taken
-takes_more table es e k was may =
+takes_more : (policy : Policy) (table : Table) (es : List Event) (e : Event) (k : ℕ) → TellAlike es → IsAllowedAlong policy table es e → takes_in (es ++ e ∷ []) k ≡ (state_after (journal_along (es ++ e ∷ []) k)).taken
+takes_more policy table es e k was may =
     let count = count_more (is_take_by k) es e in
-    let added = adds_taken table es k e may in
+    let added = adds_taken policy table es k e may in
     let new = ap (λ l. (state_after l).taken) (journal_push k es e) in
     let old = was.takes k in
     omega (arith, count, added, new, old)
@@ -264,42 +265,42 @@ read_adds es thread number was within =
     let rec : record_at (es ++ Read thread number ∷ []) thread number ≡ get_or page number zero_record = record_stays es (Read thread number) thread number was lt ∙ ap (λ (l : List Record). get_or l number zero_record) same in
     ap (λ (o : Option Record). looks_along es ++ option_to_list (option_map (Whole number) o)) (slice_get-get_or page number zero_record (omega (arith, within)) ∙ ap Some (sym rec))
 
-looks_more : (table : Table) (es : List Event) (e : Event) → TellAlike es → IsAllowedAlong table es e → looks_since (es ++ e ∷ []) ≡ looks_along (es ++ e ∷ [])
-looks_more table es (Take thread) was may = looks_go_on es (Take thread) [] was refl refl (sym (append-nil (looks_along es)))
-looks_more table es (Yield thread) was may = looks_go_on es (Yield thread) [] was refl refl (sym (append-nil (looks_along es)))
-looks_more table es (Publish thread rec) was may = looks_go_on es (Publish thread rec) [] was refl refl (sym (append-nil (looks_along es)))
-looks_more table es (Read thread number) was may = looks_go_on es (Read thread number) _ was refl refl (read_adds es thread number was may.2)
-looks_more table es (Skip thread seen) was may = looks_go_on es (Skip thread seen) (seen ∷ []) was refl refl refl
-looks_more table es (Decide entry) was may = ap (filter_map (look_made (es ++ Decide entry ∷ []))) (since_none es entry) ∙ sym (looks_push es (Decide entry))
-looks_more table es (Watch thread number) was may = looks_go_on es (Watch thread number) [] was refl refl (sym (append-nil (looks_along es)))
+looks_more : (policy : Policy) (table : Table) (es : List Event) (e : Event) → TellAlike es → IsAllowedAlong policy table es e → looks_since (es ++ e ∷ []) ≡ looks_along (es ++ e ∷ [])
+looks_more policy table es (Take thread) was may = looks_go_on es (Take thread) [] was refl refl (sym (append-nil (looks_along es)))
+looks_more policy table es (Yield thread) was may = looks_go_on es (Yield thread) [] was refl refl (sym (append-nil (looks_along es)))
+looks_more policy table es (Publish thread rec) was may = looks_go_on es (Publish thread rec) [] was refl refl (sym (append-nil (looks_along es)))
+looks_more policy table es (Read thread number) was may = looks_go_on es (Read thread number) _ was refl refl (read_adds es thread number was may.2)
+looks_more policy table es (Skip thread seen) was may = looks_go_on es (Skip thread seen) (seen ∷ []) was refl refl refl
+looks_more policy table es (Decide entry) was may = ap (filter_map (look_made (es ++ Decide entry ∷ []))) (since_none es entry) ∙ sym (looks_push es (Decide entry))
+looks_more policy table es (Watch thread number) was may = looks_go_on es (Watch thread number) [] was refl refl (sym (append-nil (looks_along es)))
 
 page_goes_on : (es : List Event) (e : Event) → TellAlike es → decided_at es e ≡ None → IsOnPage (es ++ e ∷ []) e → AreOnPage (es ++ e ∷ []) (since_decide (es ++ e ∷ []))
 page_goes_on es e was none here = let P : List Event → Type 0 = λ l. AreOnPage (es ++ e ∷ []) l in subst P (sym (since_more es e none)) (are_on_page es e (since_decide es) was was.on_page here)
 
-on_page_more : (table : Table) (es : List Event) (e : Event) → TellAlike es → IsAllowedAlong table es e → AreOnPage (es ++ e ∷ []) (since_decide (es ++ e ∷ []))
-on_page_more table es (Take thread) was may = page_goes_on es (Take thread) was refl tt
-on_page_more table es (Yield thread) was may = page_goes_on es (Yield thread) was refl tt
-on_page_more table es (Publish thread rec) was may = page_goes_on es (Publish thread rec) was refl tt
-on_page_more table es (Read thread number) was may =
+on_page_more : (policy : Policy) (table : Table) (es : List Event) (e : Event) → TellAlike es → IsAllowedAlong policy table es e → AreOnPage (es ++ e ∷ []) (since_decide (es ++ e ∷ []))
+on_page_more policy table es (Take thread) was may = page_goes_on es (Take thread) was refl tt
+on_page_more policy table es (Yield thread) was may = page_goes_on es (Yield thread) was refl tt
+on_page_more policy table es (Publish thread rec) was may = page_goes_on es (Publish thread rec) was refl tt
+on_page_more policy table es (Read thread number) was may =
     let size = ap (λ j. length (page_of (records_of j))) (was.journals thread) in
     let within = may.2 in
     page_goes_on es (Read thread number) was refl (place_stays es (Read thread number) thread number was (omega (arith, size, within)))
-on_page_more table es (Skip thread seen) was may = page_goes_on es (Skip thread seen) was refl tt
-on_page_more table es (Decide entry) was may = let P : List Event → Type 0 = λ l. AreOnPage (es ++ Decide entry ∷ []) l in subst P (sym (since_none es entry)) tt
-on_page_more table es (Watch thread number) was may = page_goes_on es (Watch thread number) was refl tt
+on_page_more policy table es (Skip thread seen) was may = page_goes_on es (Skip thread seen) was refl tt
+on_page_more policy table es (Decide entry) was may = let P : List Event → Type 0 = λ l. AreOnPage (es ++ Decide entry ∷ []) l in subst P (sym (since_none es entry)) tt
+on_page_more policy table es (Watch thread number) was may = page_goes_on es (Watch thread number) was refl tt
 
 agrees_first : TellAlike []
 agrees_first = record { journals = λ k. refl; takes = λ k. refl; publishes = λ k. refl; floors = λ k. refl; watch_floors = λ k. refl; looks = refl; on_page = tt }
 
-agrees_more : (table : Table) (es : List Event) (e : Event) → TellAlike es → IsAllowedAlong table es e → TellAlike (es ++ e ∷ [])
-agrees_more table es e was may = record {
+agrees_more : (policy : Policy) (table : Table) (es : List Event) (e : Event) → TellAlike es → IsAllowedAlong policy table es e → TellAlike (es ++ e ∷ [])
+agrees_more policy table es e was may = record {
   journals = λ k. journals_more es e k was;
-  takes = λ k. takes_more table es e k was may;
+  takes = λ k. takes_more policy table es e k was may;
   publishes = λ k. publishes_more es e k was;
   floors = λ k. floors_more es e k was;
   watch_floors = λ k. watch_floors_more es e k was;
-  looks = looks_more table es e was may;
-  on_page = on_page_more table es e was may;
+  looks = looks_more policy table es e was may;
+  on_page = on_page_more policy table es e was may;
 }
 
 -- what is allowed along the list is allowed as cal_world tells it
@@ -314,54 +315,54 @@ place_there es k number floor there was same above within = let size = ap (λ j.
 turn_there : (es : List Event) (k : ℕ) → TellAlike es → length (looks_along es) ≡ k → k ≡ length (looks_since es)
 turn_there es k was e = sym e ∙ ap (λ (l : List Seen). length l) (sym was.looks)
 
-allowed_there : (table : Table) (es : List Event) (e : Event) → TellAlike es → IsAllowedAlong table es e → (why : Illegal) → Passes why table es e
-allowed_there table es (Take k) was may NoThread = may.0
-allowed_there table es (Take k) was may NothingSent = sent_there es k was may.1
-allowed_there table es (Take k) was may _ = tt
-allowed_there table es (Yield k) was may NoThread = may.0
-allowed_there table es (Yield k) was may NotOn = let P : List Entry → Type 0 = λ j. IsSome (state_after j).core in subst P (sym (was.journals k)) may.1
-allowed_there table es (Yield k) was may _ = tt
-allowed_there table es (Publish k rec) was may NoThread = may.0
-allowed_there table es (Publish k rec) was may NotItsState =
+allowed_there : (policy : Policy) (table : Table) (es : List Event) (e : Event) → TellAlike es → IsAllowedAlong policy table es e → (why : Illegal) → PassesBy policy why table es e
+allowed_there policy table es (Take k) was may NoThread = may.0
+allowed_there policy table es (Take k) was may NothingSent = sent_there es k was may.1
+allowed_there policy table es (Take k) was may _ = tt
+allowed_there policy table es (Yield k) was may NoThread = may.0
+allowed_there policy table es (Yield k) was may NotOn = let P : List Entry → Type 0 = λ j. IsSome (state_after j).core in subst P (sym (was.journals k)) may.1
+allowed_there policy table es (Yield k) was may _ = tt
+allowed_there policy table es (Publish k rec) was may NoThread = may.0
+allowed_there policy table es (Publish k rec) was may NotItsState =
     let P : List Entry → Type 0 = λ j. MayBePublished (state_after j) (records_of j) rec in
     let shows = subst P (sym (was.journals k)) may.1 in
     record { taken = shows.0; running = shows.1; follows = shows.2 }
-allowed_there table es (Publish k rec) was may _ = tt
-allowed_there table es (Read k number) was may NoThread = may.0
-allowed_there table es (Read k number) was may NoSuchPlace = place_there es k number (floor_along es k) (read_floor es k) was (was.floors k) may.1 may.2
-allowed_there table es (Read k number) was may OutOfTurn = turn_there es k was may.3
-allowed_there table es (Read k number) was may _ = tt
-allowed_there table es (Skip k seen) was may NoThread = may.0
-allowed_there table es (Skip k seen) was may OutOfTurn = (turn_there es k was may.1, may.2)
-allowed_there table es (Skip k seen) was may _ = tt
-allowed_there table es (Decide entry) was may OutOfTurn = turn_there es (threads_of_table table) was may.0
-allowed_there table es (Decide entry) was may NotThePass =
+allowed_there policy table es (Publish k rec) was may _ = tt
+allowed_there policy table es (Read k number) was may NoThread = may.0
+allowed_there policy table es (Read k number) was may NoSuchPlace = place_there es k number (floor_along es k) (read_floor es k) was (was.floors k) may.1 may.2
+allowed_there policy table es (Read k number) was may OutOfTurn = turn_there es k was may.3
+allowed_there policy table es (Read k number) was may _ = tt
+allowed_there policy table es (Skip k seen) was may NoThread = may.0
+allowed_there policy table es (Skip k seen) was may OutOfTurn = (turn_there es k was may.1, may.2)
+allowed_there policy table es (Skip k seen) was may _ = tt
+allowed_there policy table es (Decide entry) was may OutOfTurn = turn_there es (threads_of_table table) was may.0
+allowed_there policy table es (Decide entry) was may NotThePass =
     (sym may.1 ∙ sym was.looks, may.2)
-allowed_there table es (Decide entry) was may _ = tt
-allowed_there table es (Watch k number) was may NoThread = may.0
-allowed_there table es (Watch k number) was may NoSuchPlace = place_there es k number (watch_floor_along es k) (watch_floor es k) was (was.watch_floors k) may.1 may.2
-allowed_there table es (Watch k number) was may _ = tt
+allowed_there policy table es (Decide entry) was may _ = tt
+allowed_there policy table es (Watch k number) was may NoThread = may.0
+allowed_there policy table es (Watch k number) was may NoSuchPlace = place_there es k number (watch_floor_along es k) (watch_floor es k) was (was.watch_floors k) may.1 may.2
+allowed_there policy table es (Watch k number) was may _ = tt
 
 -- each event of a legal list, and that both tell the same of the whole
-each_there : (table : Table) (before es : List Event) → AllowedAfter table before es → TellAlike before → (i : ℕ) (e : Event) → slice_get es i ≡ Some e → IsAllowed table (before ++ take i es) e
-each_there table before [] legal was i e at = absurd (cc)
-each_there table before (x ∷ es) legal was zero e at =
+each_there : (policy : Policy) (table : Table) (before es : List Event) → AllowedAfter policy table before es → TellAlike before → (i : ℕ) (e : Event) → slice_get es i ≡ Some e → IsAllowedBy policy table (before ++ take i es) e
+each_there policy table before [] legal was i e at = absurd (cc)
+each_there policy table before (x ∷ es) legal was zero e at =
     let same : x ≡ e = cc in
-    let P : Event → Type 0 = λ y. IsAllowed table (before ++ []) y in
-    let Q : List Event → Type 0 = λ b. IsAllowed table b x in
-    subst P same (subst Q (sym (append-nil before)) (allowed_there table before x was legal.0))
-each_there table before (x ∷ es) legal was (suc i) e at =
-    let Q : List Event → Type 0 = λ b. IsAllowed table b e in
-    subst Q (append_assoc before (x ∷ []) (take i es)) (each_there table (before ++ x ∷ []) es legal.1 (agrees_more table before x was legal.0) i e at)
+    let P : Event → Type 0 = λ y. IsAllowedBy policy table (before ++ []) y in
+    let Q : List Event → Type 0 = λ b. IsAllowedBy policy table b x in
+    subst P same (subst Q (sym (append-nil before)) (allowed_there policy table before x was legal.0))
+each_there policy table before (x ∷ es) legal was (suc i) e at =
+    let Q : List Event → Type 0 = λ b. IsAllowedBy policy table b e in
+    subst Q (append_assoc before (x ∷ []) (take i es)) (each_there policy table (before ++ x ∷ []) es legal.1 (agrees_more policy table before x was legal.0) i e at)
 
-agrees_all : (table : Table) (before es : List Event) → AllowedAfter table before es → TellAlike before → TellAlike (before ++ es)
-agrees_all table before [] legal was = let P : List Event → Type 0 = λ b. TellAlike b in subst P (sym (append-nil before)) was
-agrees_all table before (x ∷ es) legal was =
+agrees_all : (policy : Policy) (table : Table) (before es : List Event) → AllowedAfter policy table before es → TellAlike before → TellAlike (before ++ es)
+agrees_all policy table before [] legal was = let P : List Event → Type 0 = λ b. TellAlike b in subst P (sym (append-nil before)) was
+agrees_all policy table before (x ∷ es) legal was =
     let P : List Event → Type 0 = λ b. TellAlike b in
-    subst P (append_assoc before (x ∷ []) es) (agrees_all table (before ++ x ∷ []) es legal.1 (agrees_more table before x was legal.0))
+    subst P (append_assoc before (x ∷ []) es) (agrees_all policy table (before ++ x ∷ []) es legal.1 (agrees_more policy table before x was legal.0))
 
-pub legal_there : (table : Table) (es : List Event) → IsLegalAlong table es → IsLegalList table es
-legal_there table es legal = record { each = each_there table [] es legal agrees_first }
+pub legal_there : (policy : Policy) (table : Table) (es : List Event) → IsLegalAlong policy table es → IsLegalListBy policy table es
+legal_there policy table es legal = record { each = each_there policy table [] es legal agrees_first }
 
-pub agrees : (table : Table) (es : List Event) → IsLegalAlong table es → TellAlike es
-agrees table es legal = agrees_all table [] es legal agrees_first
+pub agrees : (policy : Policy) (table : Table) (es : List Event) → IsLegalAlong policy table es → TellAlike es
+agrees policy table es legal = agrees_all policy table [] es legal agrees_first

@@ -6,7 +6,8 @@ use Rattle.cal_signal.specs.Pages.{last_published}
 use Rattle.cal_signal.specs.Records.{MayFollow}
 use Rattle.cal_machine.specs.TableTasks.{threads_of_table}
 use Rattle.cal_policy.specs.History.{actions_of, sent_to}
-use Rattle.cal_policy.specs.Pass.{IsPass}
+use Rattle.cal_policy.specs.declared.policy.Policy.{Policy}
+use Rattle.cal_policy.specs.Policies.{IsPassBy}
 use Rattle.cal_kthread.specs.Journal.{State, state_after}
 use Rattle.cal_signal.specs.Records.{running_word}
 use Rattle.cal_world.specs.declared.event.Event.{Event}
@@ -32,20 +33,20 @@ IsTurnOf before k = length (looks_along before) ≡ k
 -- the place is not below the floor, and is published. Looks come one a thread, in thread order,
 -- between two Decides. A Decide: its entry has those looks, and is a pass. A Watch: as a Read, at
 -- any place in the list, with a floor of its own.
-abbrev pub IsAllowedAlong : Table → List Event → Event → Type 0
-IsAllowedAlong table before (Take k) = (k < threads_of_table table) × ((state_along before k).taken < sent_to (actions_of (history_in before)) k)
-IsAllowedAlong table before (Yield k) = (k < threads_of_table table) × IsSome (state_along before k).core
-IsAllowedAlong table before (Publish k rec) = (k < threads_of_table table) × MayBePublished (state_along before k) (published_along before k) rec
-IsAllowedAlong table before (Read k place) = (k < threads_of_table table) × (floor_along before k ≤ place) × (place ≤ length (published_along before k)) × IsTurnOf before k
-IsAllowedAlong table before (Skip k seen) = (k < threads_of_table table) × IsTurnOf before k × KeepsNone seen
-IsAllowedAlong table before (Decide entry) = IsTurnOf before (threads_of_table table) × (looks_along before ≡ entry.input.seen) × IsPass table (history_in before) entry
-IsAllowedAlong table before (Watch k place) = (k < threads_of_table table) × (watch_floor_along before k ≤ place) × (place ≤ length (published_along before k))
+abbrev pub IsAllowedAlong : Policy → Table → List Event → Event → Type 0
+IsAllowedAlong policy table before (Take k) = (k < threads_of_table table) × ((state_along before k).taken < sent_to (actions_of (history_in before)) k)
+IsAllowedAlong policy table before (Yield k) = (k < threads_of_table table) × IsSome (state_along before k).core
+IsAllowedAlong policy table before (Publish k rec) = (k < threads_of_table table) × MayBePublished (state_along before k) (published_along before k) rec
+IsAllowedAlong policy table before (Read k place) = (k < threads_of_table table) × (floor_along before k ≤ place) × (place ≤ length (published_along before k)) × IsTurnOf before k
+IsAllowedAlong policy table before (Skip k seen) = (k < threads_of_table table) × IsTurnOf before k × KeepsNone seen
+IsAllowedAlong policy table before (Decide entry) = IsTurnOf before (threads_of_table table) × (looks_along before ≡ entry.input.seen) × IsPassBy policy table (history_in before) entry
+IsAllowedAlong policy table before (Watch k place) = (k < threads_of_table table) × (watch_floor_along before k ≤ place) × (place ≤ length (published_along before k))
 
 -- each of the events is allowed after those before it, which begin with `before`
-abbrev pub AllowedAfter : Table → List Event → List Event → Type 0
-AllowedAfter table before [] = Unit {0}
-AllowedAfter table before (event ∷ events) = IsAllowedAlong table before event × AllowedAfter table (before ++ event ∷ []) events
+abbrev pub AllowedAfter : Policy → Table → List Event → List Event → Type 0
+AllowedAfter policy table before [] = Unit {0}
+AllowedAfter policy table before (event ∷ events) = IsAllowedAlong policy table before event × AllowedAfter policy table (before ++ event ∷ []) events
 
 -- a legal list
-abbrev pub IsLegalAlong : Table → List Event → Type 0
-IsLegalAlong table events = AllowedAfter table [] events
+abbrev pub IsLegalAlong : Policy → Table → List Event → Type 0
+IsLegalAlong policy table events = AllowedAfter policy table [] events

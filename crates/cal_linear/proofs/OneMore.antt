@@ -3,6 +3,7 @@ use Rattle.std.proofs.Common.{◌≡◌, ℕ, List, [], ◌∷◌, ◌++◌, sym
 use Rattle.std.specs.Prelude.{option_to_list}
 use Rattle.std.specs.List.{filter_map}
 use Rattle.cal_machine.specs.Table.{Table}
+use Rattle.cal_policy.specs.declared.policy.Policy.{Policy}
 use Rattle.cal_signal.specs.Pages.{last_from}
 use Rattle.cal_kthread.proofs.JournalLemmas.OneEntryMore.{filter_map-push}
 use Rattle.cal_kthread.specs.declared.journal.entry.Entry.{Entry}
@@ -43,9 +44,9 @@ looks_push es e = looks_after_push [] [] es e
 pub floor_push : (j : ℕ) (es : List Event) (e : Event) → floor_along (es ++ e ∷ []) j ≡ last_from 0 (filter_map (place_of_read j) es ++ option_to_list (place_of_read j e))
 floor_push j es e = ap (λ l. last_from 0 l) (filter_map-push (place_of_read j) es e)
 
-allowed_push : (table : Table) (before es : List Event) (e : Event) → AllowedAfter table before es → IsAllowedAlong table (before ++ es) e → AllowedAfter table before (es ++ e ∷ [])
-allowed_push table before [] e _ may = (subst (λ b. IsAllowedAlong table b e) (append-nil before) may, tt)
-allowed_push table before (x ∷ es) e each may = (each.0, allowed_push table (before ++ x ∷ []) es e each.1 (subst (λ b. IsAllowedAlong table b e) (sym (append_assoc before (x ∷ []) es)) may))
+allowed_push : (policy : Policy) (table : Table) (before es : List Event) (e : Event) → AllowedAfter policy table before es → IsAllowedAlong policy table (before ++ es) e → AllowedAfter policy table before (es ++ e ∷ [])
+allowed_push policy table before [] e _ may = (subst (λ b. IsAllowedAlong policy table b e) (append-nil before) may, tt)
+allowed_push policy table before (x ∷ es) e each may = (each.0, allowed_push policy table (before ++ x ∷ []) es e each.1 (subst (λ b. IsAllowedAlong policy table b e) (sym (append_assoc before (x ∷ []) es)) may))
 
-pub legal_push : (table : Table) (es : List Event) (e : Event) → IsLegalAlong table es → IsAllowedAlong table es e → IsLegalAlong table (es ++ e ∷ [])
-legal_push table es e legal may = allowed_push table [] es e legal may
+pub legal_push : (policy : Policy) (table : Table) (es : List Event) (e : Event) → IsLegalAlong policy table es → IsAllowedAlong policy table es e → IsLegalAlong policy table (es ++ e ∷ [])
+legal_push policy table es e legal may = allowed_push policy table [] es e legal may

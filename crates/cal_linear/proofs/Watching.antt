@@ -7,6 +7,7 @@ use Rattle.std.proofs.lemmas.Bool.{cases_lt}
 use mathlib.Core.Option.{some}
 use lib.ListN.{get_elem?}
 use Rattle.cal_machine.specs.Table.{Table}
+use Rattle.cal_policy.specs.declared.policy.Policy.{Policy}
 use Rattle.cal_signal.specs.declared.record.Record.{Record}
 use Rattle.cal_signal.specs.declared.look.Look.{Look}
 use Rattle.cal_signal.specs.declared.look.Look.TheVariants as found
@@ -26,8 +27,8 @@ use Rattle.cal_linear.proofs.LegalAlong.{IsLegalAlong}
 use Rattle.cal_kthread.specs.Journal.Entries.{steps_of}
 use Rattle.cal_linear.specs.Steps.{journal_at}
 use Rattle.cal_linear.specs.Linear.{whole_looks_from, whole_looks_of, watch_events, linear, passes_and_rests}
-use Rattle.cal_linear.specs.Runs.{AreOfOneRun, AreWatched, page_at}
-use Rattle.cal_linear.specs.Law.{IsLinearised}
+use Rattle.cal_linear.specs.Runs.{AreOfOneRunBy, AreWatched, page_at}
+use Rattle.cal_linear.specs.Law.{IsLinearisedBy}
 use Rattle.cal_linear.proofs.Lists.{last_from_push}
 use Rattle.cal_linear.proofs.OneMore.{history_push, journal_push, watches_push, legal_push}
 use Rattle.cal_kthread.proofs.JournalLemmas.Parts.{others-change-nothing}
@@ -45,8 +46,8 @@ AllMayCome table journals floors (watch ∷ watches) =
     (watch.0 < threads_of_table table) × (floors watch.0 ≤ watch.1) × (watch.1 ≤ length (records_of (journal_at journals watch.0))) × AllMayCome table journals (with_watch floors watch) watches
 
 -- all is listed, and these Watches
-pub record HasWatched (table : Table) (history : List PassEntry) (journals : List (List Entry)) (floors : ℕ → ℕ) (watches : List (ℕ × ℕ)) (es : List Event) : Type 0 where
-  pub legal : IsLegalAlong table es
+pub record HasWatched (policy : Policy) (table : Table) (history : List PassEntry) (journals : List (List Entry)) (floors : ℕ → ℕ) (watches : List (ℕ × ℕ)) (es : List Event) : Type 0 where
+  pub legal : IsLegalAlong policy table es
   pub decided : history_in es ≡ history
   pub done : (j : ℕ) → journal_along es j ≡ steps_of (journal_at journals j)
   pub watched : watches_in es ≡ watches
@@ -59,15 +60,15 @@ floor_after places old new true e = last_from_push 0 places new
 watch_floor_push : (es : List Event) (k place j : ℕ) → watch_floor_along (es ++ Watch k place ∷ []) j ≡ last_from 0 (filter_map (place_at j) (watches_in es) ++ option_to_list (place_at j (k, place)))
 watch_floor_push es k place j = ap (λ (l : List (ℕ × ℕ)). last_from 0 (filter_map (place_at j) l)) (watches_push es (Watch k place)) ∙ ap (last_from 0) (filter_map-push (place_at j) (watches_in es) (k, place))
 
-watch_on : (table : Table) (history : List PassEntry) (journals : List (List Entry)) (floors : ℕ → ℕ) (watches : List (ℕ × ℕ)) (es : List Event) (k place : ℕ) → HasWatched table history journals floors watches es →
+watch_on : (policy : Policy) (table : Table) (history : List PassEntry) (journals : List (List Entry)) (floors : ℕ → ℕ) (watches : List (ℕ × ℕ)) (es : List Event) (k place : ℕ) → HasWatched policy table history journals floors watches es →
     k < threads_of_table table → floors k ≤ place → place ≤ length (records_of (journal_at journals k)) →
-    HasWatched table history journals (with_watch floors (k, place)) (watches ++ (k, place) ∷ []) (es ++ Watch k place ∷ [])
-watch_on table history journals floors watches es k place has low above within =
+    HasWatched policy table history journals (with_watch floors (k, place)) (watches ++ (k, place) ∷ []) (es ++ Watch k place ∷ [])
+watch_on policy table history journals floors watches es k place has low above within =
     let e : Event = Watch k place in
     let floor = has.floors_are k in
     let count : length (published_along es k) ≡ length (records_of (journal_at journals k)) = ap (λ (l : List Record). length l) (ap records_of (has.done k) ∙ (others-change-nothing (journal_at journals k)).1) in
     record {
-      legal = legal_push table es e has.legal (low, omega (arith, floor, above), omega (arith, count, within));
+      legal = legal_push policy table es e has.legal (low, omega (arith, floor, above), omega (arith, count, within));
       decided = history_push es e ∙ append-nil (history_in es) ∙ has.decided;
       done = λ j. journal_push j es e ∙ append-nil (journal_along es j) ∙ has.done j;
       watched = watches_push es e ∙ ap (λ (l : List (ℕ × ℕ)). l ++ (k, place) ∷ []) has.watched;
@@ -75,23 +76,23 @@ watch_on table history journals floors watches es k place has low above within =
     }
 
 -- some Watches were listed, whatever the floors are now
-pub record HasListed (table : Table) (history : List PassEntry) (journals : List (List Entry)) (watches : List (ℕ × ℕ)) (es : List Event) : Type 0 where
-  pub legal : IsLegalAlong table es
+pub record HasListed (policy : Policy) (table : Table) (history : List PassEntry) (journals : List (List Entry)) (watches : List (ℕ × ℕ)) (es : List Event) : Type 0 where
+  pub legal : IsLegalAlong policy table es
   pub decided : history_in es ≡ history
   pub done : (j : ℕ) → journal_along es j ≡ steps_of (journal_at journals j)
   pub watched : watches_in es ≡ watches
 
-pub watches_on : (table : Table) (history : List PassEntry) (journals : List (List Entry)) (floors : ℕ → ℕ) (watches more : List (ℕ × ℕ)) (es : List Event) → HasWatched table history journals floors watches es →
-    AllMayCome table journals floors more → HasListed table history journals (watches ++ more) (es ++ watch_events more)
-watches_on table history journals floors watches [] es has come =
-    let P : List Event → Type 0 = λ new. HasListed table history journals (watches ++ []) new in
+pub watches_on : (policy : Policy) (table : Table) (history : List PassEntry) (journals : List (List Entry)) (floors : ℕ → ℕ) (watches more : List (ℕ × ℕ)) (es : List Event) → HasWatched policy table history journals floors watches es →
+    AllMayCome table journals floors more → HasListed policy table history journals (watches ++ more) (es ++ watch_events more)
+watches_on policy table history journals floors watches [] es has come =
+    let P : List Event → Type 0 = λ new. HasListed policy table history journals (watches ++ []) new in
     subst P (sym (append-nil es)) (record { legal = has.legal; decided = has.decided; done = has.done; watched = has.watched ∙ sym (append-nil watches) })
-watches_on table history journals floors watches (watch ∷ more) es has come =
+watches_on policy table history journals floors watches (watch ∷ more) es has come =
     let e : Event = Watch watch.0 watch.1 in
-    let next = watch_on table history journals floors watches es watch.0 watch.1 has come.0 come.1 come.2 in
-    let all = watches_on table history journals (with_watch floors watch) (watches ++ watch ∷ []) more (es ++ e ∷ []) next come.3 in
-    let P : List Event → Type 0 = λ new. HasListed table history journals (watches ++ watch ∷ more) new in
-    let Q : List (ℕ × ℕ) → Type 0 = λ l. HasListed table history journals l ((es ++ e ∷ []) ++ watch_events more) in
+    let next = watch_on policy table history journals floors watches es watch.0 watch.1 has come.0 come.1 come.2 in
+    let all = watches_on policy table history journals (with_watch floors watch) (watches ++ watch ∷ []) more (es ++ e ∷ []) next come.3 in
+    let P : List Event → Type 0 = λ new. HasListed policy table history journals (watches ++ watch ∷ more) new in
+    let Q : List (ℕ × ℕ) → Type 0 = λ l. HasListed policy table history journals l ((es ++ e ∷ []) ++ watch_events more) in
     subst P (append_assoc es (e ∷ []) (watch_events more)) (subst Q (append_assoc watches (watch ∷ []) more) all)
 
 -- looks that fit their pages, as Watches that may come one after another
@@ -147,22 +148,22 @@ rounds_may_come table journals (round ∷ rounds) sizes floors fits =
     (λ floors fits. rounds_may_come table journals rounds (λ r round e. sizes (suc r) round e) floors fits)
 
 -- all of a run's events, as they are told here
-all_listed : (table : Table) (history : List PassEntry) (journals : List (List Entry)) (watched : List (List Look)) → AreOfOneRun table history journals → AreWatched table journals watched →
-    HasListed table history journals (whole_looks_of watched) (linear history journals watched)
-all_listed table history journals watched run seen =
-    let all = all_on table history journals run in
+all_listed : (policy : Policy) (table : Table) (history : List PassEntry) (journals : List (List Entry)) (watched : List (List Look)) → AreOfOneRunBy policy table history journals → AreWatched table journals watched →
+    HasListed policy table history journals (whole_looks_of watched) (linear history journals watched)
+all_listed policy table history journals watched run seen =
+    let all = all_on policy table history journals run in
     let none : (j : ℕ) → watch_floor_along (passes_and_rests history journals) j ≡ 0 = λ j. ap (λ (l : List (ℕ × ℕ)). last_from 0 (filter_map (place_at j) l)) all.unwatched in
-    watches_on table history journals (λ j. 0) [] (whole_looks_of watched) (passes_and_rests history journals)
+    watches_on policy table history journals (λ j. 0) [] (whole_looks_of watched) (passes_and_rests history journals)
     (record { legal = all.legal; decided = all.decided; done = all.done; watched = all.unwatched; floors_are = none }) (rounds_may_come table journals watched seen.rounds (λ j. 0) seen.fit)
 
 -- and as the world tells them
-pub linear_on : (table : Table) (history : List PassEntry) (journals : List (List Entry)) (watched : List (List Look)) → AreOfOneRun table history journals → AreWatched table journals watched →
-    IsLinearised table history journals watched (linear history journals watched)
-linear_on table history journals watched run seen =
-    let listed = all_listed table history journals watched run seen in
-    let same = agrees table (linear history journals watched) listed.legal in
+pub linear_on : (policy : Policy) (table : Table) (history : List PassEntry) (journals : List (List Entry)) (watched : List (List Look)) → AreOfOneRunBy policy table history journals → AreWatched table journals watched →
+    IsLinearisedBy policy table history journals watched (linear history journals watched)
+linear_on policy table history journals watched run seen =
+    let listed = all_listed policy table history journals watched run seen in
+    let same = agrees policy table (linear history journals watched) listed.legal in
     record {
-      legal = legal_there table (linear history journals watched) listed.legal;
+      legal = legal_there policy table (linear history journals watched) listed.legal;
       decided = listed.decided;
       done = λ k. same.journals k ∙ listed.done k;
       watches = listed.watched;

@@ -1,5 +1,5 @@
 -- The outcome of a run: each field is promised by every run, in whichever order its threads made
--- their steps.
+-- their steps. What names no policy is by Policy::Caladan.
 pub mod GivenOnce
 pub mod Headline
 use Rattle.std.specs.Prelude.{◌≡◌, ◌<◌, ℕ, List, [], length, map, min}
@@ -8,6 +8,8 @@ use Rattle.cal_machine.specs.Table.{Table}
 use Rattle.cal_machine.specs.declared.request.Request.{Request}
 use Rattle.cal_signal.specs.Pages.{FitsPage}
 use Rattle.cal_policy.specs.declared.history.entry.PassEntry.{PassEntry}
+use Rattle.cal_policy.specs.declared.policy.Policy.{Policy}
+use Rattle.cal_policy.specs.declared.policy.Policy.TheVariants.{Caladan}
 use Rattle.cal_machine.specs.TableTasks.{threads_of_table}
 use Rattle.cal_policy.specs.History.{actions_of, commands_to}
 use Rattle.cal_policy.specs.History.Found.{looks_at}
@@ -16,7 +18,7 @@ use Rattle.cal_kthread.specs.Journal.{IsJournal, commands_of}
 use Rattle.cal_kthread.specs.declared.journal.entry.Entry.{Entry}
 use Rattle.cal_kthread.specs.End.OnePlace.{LeftAt, Nowhere, ServedAt, StandsInOnePlace}
 use Rattle.cal_kthread.specs.Turn.Turns.{AreTurns}
-use Rattle.cal_linear.specs.Law.{IsLinearised}
+use Rattle.cal_linear.specs.Law.{IsLinearisedBy}
 use Rattle.cal_linear.specs.Linear.{linear}
 use Rattle.cal_linear.specs.Runs.{AreFirst, AreWatched, page_at}
 use Rattle.cal_linear.specs.Steps.{journal_at}
@@ -41,8 +43,9 @@ pub record EachStandsOnce (arrivals : Arrivals) (outcome : Outcome) : Type 0 whe
   pub others : (id : ℕ) → (IsGiven arrivals.requests id → ⊥) →
       Nowhere (ServedAt outcome.journals id) × Nowhere (LeftAt outcome.left id)
 
--- The outcome of a run on these arrivals.
-pub record IsRun (table : Table) (arrivals : Arrivals) (outcome : Outcome) : Type 0 where
+-- The outcome of a run on these arrivals, whose passes are the policy's.
+pub record IsRunBy (policy : Policy) (table : Table) (arrivals : Arrivals) (outcome : Outcome) :
+    Type 0 where
   -- one pass for each given one, in order, with its clock and its bandwidth figure
   pub passes : map figures_of outcome.history ≡ arrivals.passes
   -- one journal for each thread, and in it one turn for each given one, in order: its request
@@ -63,7 +66,8 @@ pub record IsRun (table : Table) (arrivals : Arrivals) (outcome : Outcome) : Typ
       (commands_to (actions_of outcome.history) k)
   -- the steps of all are in one legal list, whose projections are the history, the steps of each
   -- journal and the watched looks
-  pub events : IsLinearised table outcome.history outcome.journals outcome.watched outcome.events
+  pub events : IsLinearisedBy policy table outcome.history outcome.journals outcome.watched
+      outcome.events
   -- and that list is the one in which `linearise` puts them
   pub order : outcome.events ≡ linear outcome.history outcome.journals outcome.watched
   -- one list of what is left for each thread; for each id as many requests arrived as were served
@@ -72,6 +76,9 @@ pub record IsRun (table : Table) (arrivals : Arrivals) (outcome : Outcome) : Typ
   pub account : IsAccounted outcome.journals outcome.left
   -- and each id stands in one place
   pub once : EachStandsOnce arrivals outcome
+
+abbrev pub IsRun : Table → Arrivals → Outcome → Type 0
+IsRun table arrivals outcome = IsRunBy Caladan table arrivals outcome
 
 -- the outcome of a run that ended with these: its events are those that `linearise` makes of them
 abbrev pub outcome_of : RunEnd → Outcome
@@ -84,22 +91,35 @@ outcome_of end = record {
 }
 
 -- a run on these arrivals ended with these
+abbrev pub IsRunEndBy : Policy → Table → Arrivals → RunEnd → Type 0
+IsRunEndBy policy table arrivals end = IsRunBy policy table arrivals (outcome_of end)
+
 abbrev pub IsRunEnd : Table → Arrivals → RunEnd → Type 0
-IsRunEnd table arrivals end = IsRun table arrivals (outcome_of end)
+IsRunEnd table arrivals end = IsRunEndBy Caladan table arrivals end
 
 -- a run on these arrivals came to some outcome, whose journals these tallies are of, and of which
 -- this is what was left
-pub record IsTalliedEnd (table : Table) (arrivals : Arrivals) (end : TalliedEnd) : Type 0 where
+pub record IsTalliedEndBy (policy : Policy) (table : Table) (arrivals : Arrivals)
+    (end : TalliedEnd) : Type 0 where
   pub outcome : Outcome
-  pub run : IsRun table arrivals outcome
+  pub run : IsRunBy policy table arrivals outcome
   pub tallies : AllZip IsTallyOf outcome.journals end.tallies
   pub left : outcome.left ≡ end.left
 
+abbrev pub IsTalliedEnd : Table → Arrivals → TalliedEnd → Type 0
+IsTalliedEnd table arrivals end = IsTalliedEndBy Caladan table arrivals end
+
 -- a run on these arrivals came to some outcome, of whose history and journals this holds, and of
 -- which this remained
-pub record IsCollectedEnd (holds : List PassEntry → List (List Entry) → Type 0) (table : Table)
-    (arrivals : Arrivals) (remaining : List (List Request)) : Type 0 where
+pub record IsCollectedEndBy (policy : Policy)
+    (holds : List PassEntry → List (List Entry) → Type 0) (table : Table) (arrivals : Arrivals)
+    (remaining : List (List Request)) : Type 0 where
   pub outcome : Outcome
-  pub run : IsRun table arrivals outcome
+  pub run : IsRunBy policy table arrivals outcome
   pub collected : holds outcome.history outcome.journals
   pub left : outcome.left ≡ remaining
+
+abbrev pub IsCollectedEnd : (List PassEntry → List (List Entry) → Type 0) → Table → Arrivals →
+    List (List Request) → Type 0
+IsCollectedEnd holds table arrivals remaining =
+    IsCollectedEndBy Caladan holds table arrivals remaining

@@ -7,6 +7,7 @@ use Rattle.cal_command.specs.Rings.{RingId, SenderView}
 use Rattle.cal_signal.specs.Ends.{ObserverView}
 use Rattle.cal_signal.specs.declared.look.Look.{Look}
 use Rattle.cal_signal.specs.declared.look.Look.TheVariants.{Busy}
+use Rattle.cal_policy.specs.declared.policy.Policy.{Policy}
 use Rattle.cal_machine.specs.TableTasks.{threads_of_table}
 use Rattle.cal_sched.specs.Scheduler.{HaveSeenNothing, SchedulerView}
 use Rattle.cal_sched.specs.Watching.{WatchView}
@@ -20,12 +21,14 @@ use Rattle.cal_run.specs.declared.parts.Parts.{Parts}
 -- what a scheduler keeps over its passes
 pub record SchedulerSeat : Type 0 where
   pub table : Table
+  pub policy : Policy
   pub pages : List TableId
   pub rings : List RingId
 
 abbrev pub scheduler_seat_of : SchedulerView → SchedulerSeat
 scheduler_seat_of s = record {
   table = s.table;
+  policy = s.policy;
   pages = map (λ (o : ObserverView). o.page) s.observers;
   rings = map (λ (r : SenderView). r.ring) s.senders;
 }

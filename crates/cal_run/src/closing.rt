@@ -4,9 +4,9 @@ mod pages_and_rings;
 mod thread_ends;
 
 ghost use Rattle.std.specs.Prelude.{◌≡◌, IfErr, IfOk, length};
-ghost use Rattle.cal_linear.specs.Runs.{AreOfOneRun, AreWatched};
+ghost use Rattle.cal_linear.specs.Runs.{AreOfOneRunBy, AreWatched};
 ghost use Rattle.cal_run.specs.Collecting.{IsCollectedOf};
-ghost use Rattle.cal_run.specs.Outcome.{IsRun, IsRunEnd, outcome_of};
+ghost use Rattle.cal_run.specs.Outcome.{IsRunBy, IsRunEndBy, outcome_of};
 ghost use Rattle.cal_run.specs.Parts.{MayBeEnded, AreParts, filled, rounds_of};
 ghost use Rattle.cal_run.specs.Workers.{journals_of};
 ghost use Rattle.cal_run.specs.declared.fault.SimFault.TheVariants.{Memory};
@@ -17,12 +17,13 @@ use crate::closing::pages_and_rings::close_threads;
 use crate::collector::collected::Collected;
 use crate::fault::SimFault;
 use crate::outcome::given_once::given_stand_once;
-use crate::outcome::headline::headline_of_runs;
+use crate::outcome::headline::headline_of_runs_by;
 use crate::outcome::{Outcome, RunEnd};
 use crate::parts::Parts;
 use cal_kthread::RequestList;
-use cal_linear::{fitting_looks_are_publications, linear_is_legal, linearise};
+use cal_linear::{fitting_looks_are_publications, linear_is_legal_by, linearise_by};
 use cal_machine::{Config, Listed};
+use cal_policy::Policy;
 use cal_sched::BareEnd;
 use cal_signal::Round;
 use cal_trace::Arrivals;
@@ -51,14 +52,15 @@ pub fn close_parts(
     requires parts { AreParts config.now arrivals.now (length arrivals.now.passes)
         (length arrivals.now.turns) (rounds_of arrivals.now) parts }
     requires collected { IsCollectedOf parts collected }
-    ensures run { IfOk result (IsRun config.now arrivals.now) }
+    ensures run { IfOk result (IsRunBy parts.scheduler.policy config.now arrivals.now) }
     ensures memory { IfErr result (λ fault. fault ≡ Memory) }
 {
     config.limits();
-    headline_of_runs();
+    headline_of_runs_by();
     fitting_looks_are_publications();
+    let policy = parts.scheduler.policy();
     let end = end_parts(alloc, config, arrivals, parts, collected)?;
-    Ok(with_events(alloc, config, end)?)
+    Ok(with_events(alloc, config, policy, end)?)
 }
 
 /// What a run ends with, whose passes, turns and rounds were all made, and of which this was
@@ -75,7 +77,7 @@ pub fn end_parts(
     requires parts { AreParts config.now arrivals.now (length arrivals.now.passes)
         (length arrivals.now.turns) (rounds_of arrivals.now) parts }
     requires collected { IsCollectedOf parts collected }
-    ensures run { IfOk result (IsRunEnd config.now arrivals.now) }
+    ensures run { IfOk result (IsRunEndBy parts.scheduler.policy config.now arrivals.now) }
     ensures memory { IfErr result (λ fault. fault ≡ Memory) }
 {
     let Collected { history, journals } = collected;
@@ -101,17 +103,18 @@ pub(crate) fn end_run(
 ) -> Result<RunRest, AllocError>
     requires fits { FitsTable config.now arrivals.now }
     requires made { MayBeEnded config.now arrivals.now parts }
-    ensures run { IfOk result (λ rest. IsRunEnd config.now arrivals.now (record {
-      history = parts.scheduler.history;
-      journals = journals_of parts.workers.items;
-      left = rest.left;
-      watched = filled config.now arrivals.now rest.watched;
-    })) }
+    ensures run { IfOk result (λ rest.
+        IsRunEndBy parts.scheduler.policy config.now arrivals.now (record {
+          history = parts.scheduler.history;
+          journals = journals_of parts.workers.items;
+          left = rest.left;
+          watched = filled config.now arrivals.now rest.watched;
+        })) }
     ensures watched { IfOk result (λ rest. rest.watched ≡ parts.watch.rounds) }
 {
     fitting_looks_are_publications();
     given_stand_once();
-    linear_is_legal();
+    linear_is_legal_by();
     let Parts {
         scheduler,
         workers,
@@ -140,22 +143,29 @@ pub fn end_told(
 ) -> Result<(), AllocError>
     requires fits { FitsTable config.now arrivals.now }
     requires made { MayBeEnded config.now arrivals.now parts }
-    ensures { IfOk result (λ _. (outcome : Outcome) × IsRun config.now arrivals.now outcome
+    ensures { IfOk result (λ _. (outcome : Outcome)
+        × IsRunBy parts.scheduler.policy config.now arrivals.now outcome
         × (outcome.history ≡ parts.scheduler.history)) }
 {
     end_run(alloc, config, arrivals, parts)?;
     Ok(())
 }
 
-/// The outcome of a run that ended with these. Fails only when out of memory.
-fn with_events(alloc: Global, config: &Config, end: RunEnd) -> Result<Outcome, AllocError>
-    requires run { AreOfOneRun config.now end.history end.journals }
+/// The outcome of a run by this policy that ended with these. Fails only when out of memory.
+fn with_events(
+    alloc: Global,
+    config: &Config,
+    policy: Policy,
+    end: RunEnd,
+) -> Result<Outcome, AllocError>
+    requires run { AreOfOneRunBy policy config.now end.history end.journals }
     requires watched { AreWatched config.now end.journals end.watched }
     ensures { IfOk result (λ outcome. outcome ≡ outcome_of end) }
 {
-    let events = linearise(
+    let events = linearise_by(
         alloc,
         config,
+        policy,
         end.history.as_slice(),
         end.journals.as_slice(),
         end.watched.as_slice(),

@@ -23,12 +23,17 @@ pub use collector::collected::Collected;
 pub use collector::scheduler::CollectingScheduler;
 pub use collector::worker::{CollectingWorker, split_workers};
 pub use fault::SimFault;
-pub use one_thread::{lockstep, lockstep_collected, lockstep_end, lockstep_tallied};
+pub use one_thread::{
+    lockstep, lockstep_by, lockstep_collected, lockstep_collected_by, lockstep_end,
+    lockstep_end_by, lockstep_tallied, lockstep_tallied_by,
+};
 pub use outcome::given_once::given_stand_once;
-pub use outcome::headline::headline_of_runs;
+pub use outcome::headline::{headline_of_runs, headline_of_runs_by};
 pub use outcome::{Outcome, RunEnd, TalliedEnd};
 pub use parts::Parts;
-pub use parts::opening::{MOST_ROUNDS, open_parts, open_unwatched};
+pub use parts::opening::{
+    MOST_ROUNDS, open_parts, open_parts_by, open_unwatched, open_unwatched_by,
+};
 pub use rounds::passes::{pass_given, step_given};
 pub use rounds::watch::watch_of_round;
 pub use rounds::{rounds_to_make, told_round};

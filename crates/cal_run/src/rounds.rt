@@ -5,7 +5,7 @@ pub mod watch;
 
 ghost use Rattle.std.specs.Prelude.{◌≡◌, ◌+◌, ◌++◌, List, length, min, max, option_to_list};
 ghost use Rattle.std.specs.Prelude.{IfOk, OnOk};
-ghost use Rattle.cal_policy.specs.Pass.{IsLegal};
+ghost use Rattle.cal_policy.specs.Policies.{IsLegalBy};
 ghost use Rattle.cal_kthread.specs.declared.journal.entry.Entry.{Entry};
 ghost use Rattle.cal_machine.specs.Table.{Table};
 ghost use Rattle.cal_policy.specs.declared.history.entry.PassEntry.{PassEntry as EntryOfPass};
@@ -39,6 +39,7 @@ pub(crate) fn make_rounds<C: Collector>(
     ensures made { IfOk result (λ _. AreAfterRounds parts.old.scheduler.table arrivals.now
         (max (length arrivals.now.passes) (length arrivals.now.turns)) parts.new) }
     ensures most { IfOk result (λ _. parts.new.watch.most ≡ parts.old.watch.most) }
+    ensures policy { IfOk result (λ _. parts.new.scheduler.policy ≡ parts.old.scheduler.policy) }
     ensures collected { C.holds collector.old parts.old.scheduler.history
         (journals_of parts.old.workers.items) →
         OnOk result (C.holds collector.new parts.new.scheduler.history
@@ -65,6 +66,7 @@ fn make_round<C: Collector>(
     ensures made { IfOk result (λ _.
         AreAfterRounds parts.old.scheduler.table arrivals.now (r + 1) parts.new) }
     ensures most { IfOk result (λ _. parts.new.watch.most ≡ parts.old.watch.most) }
+    ensures policy { IfOk result (λ _. parts.new.scheduler.policy ≡ parts.old.scheduler.policy) }
     ensures collected { C.holds collector.old parts.old.scheduler.history
         (journals_of parts.old.workers.items) →
         OnOk result (C.holds collector.new parts.new.scheduler.history
@@ -77,8 +79,8 @@ fn make_round<C: Collector>(
 }
 
 /// Round `r`, for who makes rounds one by one: the same, and the entry of its pass, if it has one.
-/// What its turns hand out is let go of. Asks for a legal history, which it keeps so. Fails only when
-/// out of memory.
+/// What its turns hand out is let go of. Asks for a history of the scheduler's policy, which it keeps
+/// so. Fails only when out of memory.
 pub fn told_round(
     parts: &mut Parts,
     arrivals: &Arrivals,
@@ -86,14 +88,16 @@ pub fn told_round(
 ) -> Result<Option<PassEntry>, AllocError>
     requires fits { FitSomeTable arrivals.now }
     requires before { AreAfterRounds parts.old.scheduler.table arrivals.now r parts.old }
-    requires legal { IsLegal parts.old.scheduler.table parts.old.scheduler.history }
+    requires legal { IsLegalBy parts.old.scheduler.policy parts.old.scheduler.table
+        parts.old.scheduler.history }
     ensures made { IfOk result (λ _.
         AreAfterRounds parts.old.scheduler.table arrivals.now (r + 1) parts.new) }
     ensures most { IfOk result (λ _. parts.new.watch.most ≡ parts.old.watch.most) }
+    ensures policy { IfOk result (λ _. parts.new.scheduler.policy ≡ parts.old.scheduler.policy) }
     ensures told { IfOk result (λ entry. parts.new.scheduler.history
         ≡ parts.old.scheduler.history ++ option_to_list entry) }
-    ensures legal { IfOk result (λ _.
-        IsLegal parts.old.scheduler.table parts.new.scheduler.history) }
+    ensures legal { IfOk result (λ _. IsLegalBy parts.old.scheduler.policy
+        parts.old.scheduler.table parts.new.scheduler.history) }
 {
     let entry = told_pass(&mut parts.scheduler, arrivals, r)?;
     turns_of_round(parts.workers.as_mut_slice(), arrivals, r, &mut Nobody)?;
@@ -123,8 +127,9 @@ fn told_pass(
     ensures entered { IfOk result (λ entry.
         scheduler.new.history ≡ scheduler.old.history ++ option_to_list entry) }
     ensures seat { scheduler_seat_of scheduler.new ≡ scheduler_seat_of scheduler.old }
-    ensures legal { IfOk result (λ _. IsLegal scheduler.old.table scheduler.old.history →
-        IsLegal scheduler.old.table scheduler.new.history) }
+    ensures legal { IfOk result (λ _.
+        IsLegalBy scheduler.old.policy scheduler.old.table scheduler.old.history →
+        IsLegalBy scheduler.old.policy scheduler.old.table scheduler.new.history) }
 {
     if r >= arrivals.passes.as_slice().len() {
         return Ok(None);

@@ -1,3 +1,4 @@
+pub mod PolicyLemmas
 pub mod Lists
 pub mod Below
 pub mod Watched

@@ -10,20 +10,22 @@ use Rattle.cal_policy.specs.declared.board.holders.Placement as placements
 use Rattle.cal_policy.specs.declared.history.entry.PassEntry.{PassEntry}
 use Rattle.cal_policy.specs.Board.{kept_number, kept_placement, kept_holder}
 use Rattle.cal_policy.specs.History.{actions_of, sent_to, holder_of}
-use Rattle.cal_policy.specs.Pass.{IsLegal}
-use Rattle.cal_laws.specs.Exclusion.{HoldersAreOfTheirLastRun, IsByLastRun, WasRun}
-use Rattle.cal_laws.specs.OneEach.{ThreadsAreSentOneCommand}
-use Rattle.cal_laws.specs.Point.{Point, IsPoint}
+use Rattle.cal_policy.specs.declared.policy.Policy.{Policy}
+use Rattle.cal_policy.specs.Policies.{IsLegalBy}
+use Rattle.cal_laws.specs.Exclusion.{IsByLastRun, WasRun}
+use Rattle.cal_laws.specs.Point.{Point}
+use Rattle.cal_laws.specs.Policies.{IsPointBy}
 use Rattle.cal_laws.proofs.PointLemmas.EachAction.{actions_more}
 use Rattle.cal_machine.proofs.Places.{slice_get_at}
+use Rattle.cal_sched.proofs.PolicyLemmas.{is_point_by, AreOfTheirLastRun, AreSentOneCommand}
 
-module _ (table : Table) (history : List PassEntry) (ok : IsTable table) (legal : IsLegal table history) where
+module _ (policy : Policy) (table : Table) (history : List PassEntry) (ok : IsTable table) (legal : IsLegalBy policy table history) where
   -- the end of a pass
   abbrev end_of : ℕ → PassEntry → Point
   end_of p entry = record { table = table; history = history; pass = p; entry = entry; made = length entry.actions }
 
-  is_end : (p : ℕ) (entry : PassEntry) → slice_get history p ≡ Some entry → IsPoint (end_of p entry)
-  is_end p entry at = record { table = ok; legal = legal; entry = at; made = omega arith }
+  is_end : (p : ℕ) (entry : PassEntry) → slice_get history p ≡ Some entry → IsPointBy policy (end_of p entry)
+  is_end p entry at = is_point_by policy (end_of p entry) ok legal at (omega arith)
 
   -- all actions by then
   by_end : (p : ℕ) (entry : PassEntry) → slice_get history p ≡ Some entry
@@ -34,7 +36,7 @@ module _ (table : Table) (history : List PassEntry) (ok : IsTable table) (legal 
       ∙ sym (actions_more history p entry at) ∙ ap (λ n. actions_of (take n history)) (add-one p)
 
   -- a thread is sent no more commands than there are passes
-  sent_at_most : ThreadsAreSentOneCommand → (k p : ℕ) → p ≤ length history → sent_to (actions_of (take p history)) k ≤ p
+  sent_at_most : AreSentOneCommand policy → (k p : ℕ) → p ≤ length history → sent_to (actions_of (take p history)) k ≤ p
   sent_at_most one k zero le = omega arith
   sent_at_most one k (suc p) le =
       let it = slice_get_at history p (omega arith) in
@@ -44,7 +46,7 @@ module _ (table : Table) (history : List PassEntry) (ok : IsTable table) (legal 
       omega arith
 
   -- the number of a core's holder is that of one of its commands
-  number_at_most : (p : ℕ) (c : ℕ) (placement : placements.Placement) (after : List Command) → p ≤ length history → ThreadsAreSentOneCommand
+  number_at_most : (p : ℕ) (c : ℕ) (placement : placements.Placement) (after : List Command) → p ≤ length history → AreSentOneCommand policy
       → WasRun (actions_of (take p history)) c placement after → placement.number ≤ length history
   number_at_most p c placement after le one was =
       let sent : sent_to (actions_of (take p history)) placement.thread ≡ length (was.earlier ++ Run c ∷ after) = ap length was.commands in
@@ -59,7 +61,7 @@ module _ (table : Table) (history : List PassEntry) (ok : IsTable table) (legal 
   same_placement : (placement : placements.Placement) → placement.number ≤ length history → length history ≤ 1048576 → kept_placement placement ≡ placement
   same_placement placement le few = ap (λ n. record placement { number = n }) (same_number placement.number le few)
 
-  same_holder : (p c : ℕ) (holder : Holder) → p ≤ length history → length history ≤ 1048576 → ThreadsAreSentOneCommand
+  same_holder : (p c : ℕ) (holder : Holder) → p ≤ length history → length history ≤ 1048576 → AreSentOneCommand policy
       → IsByLastRun (actions_of (take p history)) c holder → kept_holder holder ≡ holder
   same_holder p c Free le few one by = refl
   same_holder p c (Held placement) le few one by =
@@ -67,7 +69,7 @@ module _ (table : Table) (history : List PassEntry) (ok : IsTable table) (legal 
   same_holder p c (Leaving placement cause) le few one by =
       ap (λ q. Leaving q cause) (same_placement placement (number_at_most p c placement (Park ∷ []) le one by) few)
 
-  holder_upto : (p c : ℕ) → p ≤ length history → c < table.cores → length history ≤ 1048576 → ThreadsAreSentOneCommand → HoldersAreOfTheirLastRun
+  holder_upto : (p c : ℕ) → p ≤ length history → c < table.cores → length history ≤ 1048576 → AreSentOneCommand policy → AreOfTheirLastRun policy
       → kept_holder (holder_of (actions_of (take p history)) c) ≡ holder_of (actions_of (take p history)) c
   holder_upto zero c le low few one runs = refl
   holder_upto (suc p) c le low few one runs =
@@ -77,7 +79,7 @@ module _ (table : Table) (history : List PassEntry) (ok : IsTable table) (legal 
       same_holder (suc p) c (holder_of (actions_of (take (suc p) history)) c) le few one by
 
   -- who has a core is kept as it is
-  pub holder_kept : (c : ℕ) → c < table.cores → length history ≤ 1048576 → ThreadsAreSentOneCommand → HoldersAreOfTheirLastRun
+  pub holder_kept : (c : ℕ) → c < table.cores → length history ≤ 1048576 → AreSentOneCommand policy → AreOfTheirLastRun policy
       → kept_holder (holder_of (actions_of history) c) ≡ holder_of (actions_of history) c
   holder_kept c low few one runs =
       let le : length history ≤ length history = omega arith in

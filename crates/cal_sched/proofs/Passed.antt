@@ -1,6 +1,6 @@
 -- One pass more: what was found is its input, what was decided is sent, and what a scheduler keeps
 -- holds again.
-use Rattle.std.proofs.Common.{◌≡◌, ℕ, ◌<◌, true, false, List, [], ◌∷◌, ◌++◌, length, Some, slice_get, slice_index_or, option_map, refl, sym, ap, ◌∙◌, arith, length-append}
+use Rattle.std.proofs.Common.{◌≡◌, ℕ, ◌<◌, true, false, List, [], ◌∷◌, ◌++◌, length, Some, slice_get, slice_index_or, option_map, refl, sym, ap, subst, ◌∙◌, arith, length-append}
 use Rattle.std.specs.Option.{unwrap_or}
 use Rattle.std.proofs.lemmas.Option.{slice_get_within, slice_get-map, unwrap_or-slice_get}
 use Rattle.cal_signal.specs.declared.record.Record.{Record}
@@ -11,18 +11,20 @@ use Rattle.cal_policy.specs.declared.book.Book.{Book}
 use Rattle.cal_policy.specs.declared.judgement.open_input.FoundLook.{FoundLook}
 use Rattle.cal_policy.specs.declared.history.entry.PassEntry.{PassEntry}
 use Rattle.cal_policy.specs.declared.history.input.Input.{Input}
+use Rattle.cal_policy.specs.declared.policy.Policy.{Policy}
 use Rattle.cal_policy.specs.Book.{board_in}
 use Rattle.cal_policy.specs.State.{IsStateAfter}
 use Rattle.cal_policy.specs.History.Found.{looks_at}
 use Rattle.cal_policy.specs.Judgement.OpenInput.{judged_input, rooms_found}
 use Rattle.cal_policy.specs.Judgement.Judging.{IsInput}
-use Rattle.cal_policy.specs.Pass.{IsLegal}
-use Rattle.cal_policy.proofs.PassLemmas.Legality.{legal_more}
+use Rattle.cal_policy.specs.Policies.{IsLegalBy}
+use Rattle.cal_policy.proofs.PolicyLemmas.{pass_from}
 use Rattle.cal_sched.specs.Looking.{HasLooked}
 use Rattle.cal_sched.specs.Passing.{HasAsked, HaveFound, HaveSent, pass_on}
 use Rattle.cal_sched.specs.Scheduler.{SchedulerView, IsKept}
 use Rattle.cal_sched.specs.Sending.{MaySend}
 use Rattle.cal_sched.proofs.Fitting.{found_is_input, found_in, looks_at-append}
+use Rattle.cal_sched.proofs.PolicyLemmas.{legal_more_by}
 use Rattle.cal_machine.proofs.Places.{slice_get_at}
 
 module _ (s : SchedulerView) (now bandwidth : ℕ) (looked : List ObserverView) (asked : List SenderView) (found : List FoundLook) where
@@ -31,14 +33,15 @@ module _ (s : SchedulerView) (now bandwidth : ℕ) (looked : List ObserverView) 
   input_found = judged_input s.table s.history now bandwidth found
 
   abbrev pass_found : PassEntry
-  pass_found = pass_on s.table s.history input_found
+  pass_found = pass_on s.policy s.table s.history input_found
 
   pub is_input : IsKept s → HaveFound s.observers looked s.senders asked found → IsInput s.table s.history input_found
   is_input kept finds =
       found_is_input s.table s.history now bandwidth s.observers looked found kept.pages finds.pages finds.one_each kept.looks finds.looks
 
-  pub is_legal : IsKept s → HaveFound s.observers looked s.senders asked found → IsLegal s.table (s.history ++ pass_found ∷ [])
-  is_legal kept finds = legal_more s.table s.history pass_found kept.legal (record { input = is_input kept finds; actions = refl })
+  pub is_legal : IsKept s → HaveFound s.observers looked s.senders asked found → IsLegalBy s.policy s.table (s.history ++ pass_found ∷ [])
+  is_legal kept finds =
+      legal_more_by s.policy s.table s.history pass_found kept.legal (pass_from s.policy s.table s.history pass_found (is_input kept finds) refl)
 
   -- the room that is known where the pass was told of it
   room_found : (k : ℕ) (one : FoundLook) → slice_get found k ≡ Some one → slice_index_or (rooms_found found) k false ≡ one.room
@@ -46,13 +49,13 @@ module _ (s : SchedulerView) (now bandwidth : ℕ) (looked : List ObserverView) 
       sym (unwrap_or-slice_get (rooms_found found) k false)
       ∙ ap (λ o. unwrap_or o false) (slice_get-map (λ (f : FoundLook). f.room) found k ∙ ap (option_map (λ (f : FoundLook). f.room)) at)
 
-  pub may_send : (book : Book) → IsKept s → HaveFound s.observers looked s.senders asked found → IsStateAfter (board_in book) (s.history ++ pass_found ∷ [])
+  pub may_send : (book : Book) → book.policy ≡ s.policy → IsKept s → HaveFound s.observers looked s.senders asked found → IsStateAfter (board_in book) (s.history ++ pass_found ∷ [])
       → MaySend s.table book (s.history ++ pass_found ∷ []) asked
-  may_send book kept finds agrees = record {
+  may_send book same kept finds agrees = record {
     before = s.history;
     last = pass_found;
     whole = refl;
-    legal = is_legal kept finds;
+    legal = subst (λ (p : Policy). IsLegalBy p s.table (s.history ++ pass_found ∷ [])) (sym same) (is_legal kept finds);
     agrees = agrees;
     rings = finds.rings ∙ kept.rings;
     sent = λ k is at.
@@ -75,7 +78,7 @@ module _ (s : SchedulerView) (now bandwidth : ℕ) (looked : List ObserverView) 
           (was.0, one.0, was.1, one.1, finds.rooms k was.0 is one.0 was.1 at one.1)
 
   pub kept_after : (sent : List SenderView) → IsKept s → length s.history < 1048576 → HaveFound s.observers looked s.senders asked found
-      → HaveSent asked sent (s.history ++ pass_found ∷ []) → IsKept (record { table = s.table; history = s.history ++ pass_found ∷ []; observers = looked; senders = sent })
+      → HaveSent asked sent (s.history ++ pass_found ∷ []) → IsKept (record { table = s.table; policy = s.policy; history = s.history ++ pass_found ∷ []; observers = looked; senders = sent })
   kept_after sent kept few finds sends = record {
     legal = is_legal kept finds;
     few = omega (arith, length-append s.history (pass_found ∷ []));

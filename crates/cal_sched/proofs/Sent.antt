@@ -16,12 +16,14 @@ use Rattle.cal_policy.specs.declared.history.entry.PassEntry.{PassEntry}
 use Rattle.cal_policy.specs.Book.{board_in, RunsOnTable}
 use Rattle.cal_policy.specs.State.{IsStateAfter}
 use Rattle.cal_policy.specs.History.{actions_of, commands_to, sent_to, sends, addressed_to, command_to}
-use Rattle.cal_policy.specs.Pass.{IsLegal}
+use Rattle.cal_policy.specs.declared.policy.Policy.{Policy}
+use Rattle.cal_policy.specs.Policies.{IsLegalBy}
 use Rattle.cal_policy.proofs.HistoryLemmas.OneMore.{commands_push}
-use Rattle.cal_laws.specs.OneEach.{CommandsGoWhereIsRoom, ThreadsAreSentOneCommand}
-use Rattle.cal_laws.specs.Point.{Point, IsPoint}
+use Rattle.cal_laws.specs.Point.{Point}
+use Rattle.cal_laws.specs.Policies.{IsPointBy}
 use Rattle.cal_sched.specs.Passing.{HaveSent}
 use Rattle.cal_sched.specs.Sending.{MaySend}
+use Rattle.cal_sched.proofs.PolicyLemmas.{is_point_by, AreSentOneCommand, GoWhereIsRoom}
 use Rattle.cal_sched.proofs.Lists.{slice_get-set_other, slice_get-set_same, snoc_same}
 use Rattle.cal_machine.proofs.Places.{slice_get_at}
 use Rattle.cal_machine.proofs.Last.{some_same, slice_get-last, take_next}
@@ -99,49 +101,49 @@ module _ (before : List PassEntry) (last : PassEntry) (senders : List SenderView
   abbrev point : Table → ℕ → Point
   point table i = record { table = table; history = before ++ last ∷ []; pass = length before; entry = last; made = i }
 
-  is_point : (table : Table) (i : ℕ) → IsTable table → IsLegal table (before ++ last ∷ []) → i ≤ length last.actions → IsPoint (point table i)
-  is_point table i ok legal le = record { table = ok; legal = legal; entry = slice_get-last before last; made = le }
+  is_point : (policy : Policy) (table : Table) (i : ℕ) → IsTable table → IsLegalBy policy table (before ++ last ∷ []) → i ≤ length last.actions → IsPointBy policy (point table i)
+  is_point policy table i ok legal le = is_point_by policy (point table i) ok legal (slice_get-last before last) le
 
   -- before an action that sends to thread k nothing was sent to it in this pass
-  first_sent : (table : Table) (i : ℕ) (action : Action) (k : ℕ) (command : Command) → IsTable table → IsLegal table (before ++ last ∷ []) → ThreadsAreSentOneCommand
+  first_sent : (policy : Policy) (table : Table) (i : ℕ) (action : Action) (k : ℕ) (command : Command) → IsTable table → IsLegalBy policy table (before ++ last ∷ []) → AreSentOneCommand policy
       → slice_get last.actions i ≡ Some action → addressed_to k (Some (k, command)) ≡ sends k (upto i) action → sent_to (upto i) k ≤ sent_to (actions_of before) k
-  first_sent table i action k command ok legal one at exact =
+  first_sent policy table i action k command ok legal one at exact =
       let within : i < length last.actions = slice_get_within last.actions i action at in
       let le : i + 1 ≤ length last.actions = omega arith in
-      let most : sent_to (upto (i + 1)) k ≤ sent_to (actions_of before) k + 1 = rw (take-append_seam before (last ∷ [])) at (one (point table (i + 1)) (is_point table (i + 1) ok legal le) k) in
+      let most : sent_to (upto (i + 1)) k ≤ sent_to (actions_of before) k + 1 = rw (take-append_seam before (last ∷ [])) at (one (point table (i + 1)) (is_point policy table (i + 1) ok legal le) k) in
       let next : sent_to (upto (i + 1)) k ≡ sent_to (upto i) k + 1 =
       ap length (commands_next i action k (Some (k, command)) at exact ∙ ap (λ cs. commands_to (upto i) k ++ cs) (to_itself k command))
       ∙ length-append (commands_to (upto i) k) (command ∷ []) in
       omega arith
 
   -- room is known on the ring to which an action sends
-  pub room_known : (table : Table) (i : ℕ) (action : Action) (k : ℕ) (command : Command) (now : List SenderView) (is : SenderView) → IsTable table
-      → IsLegal table (before ++ last ∷ []) → CommandsGoWhereIsRoom → ThreadsAreSentOneCommand
+  pub room_known : (policy : Policy) (table : Table) (i : ℕ) (action : Action) (k : ℕ) (command : Command) (now : List SenderView) (is : SenderView) → IsTable table
+      → IsLegalBy policy table (before ++ last ∷ []) → GoWhereIsRoom policy → AreSentOneCommand policy
       → slice_get last.actions i ≡ Some action → addressed_to k (Some (k, command)) ≡ sends k (upto i) action → length now ≡ length senders
       → ((j : ℕ) (sender : SenderView) → slice_get senders j ≡ Some sender → slice_index_or last.input.rooms j false ≡ true → HasRoom sender)
       → SentBelow i before last senders now → slice_get now k ≡ Some is → HasRoom is
-  room_known table i action k command now is ok legal where_room one at exact many room below here =
+  room_known policy table i action k command now is ok legal where_room one at exact many room below here =
       let within : i < length last.actions = slice_get_within last.actions i action at in
       let le : i ≤ length last.actions = omega arith in
       let low : k < length now = slice_get_within now k is here in
       let was = slice_get_at senders k (omega arith) in
-      let first = first_sent table i action k command ok legal one at exact in
+      let first = first_sent policy table i action k command ok legal one at exact in
       let some : 0 < length (sends k (upto i) action) = rw (← exact, to_itself k command) (lit< tt) in
       let told : slice_index_or last.input.rooms k false ≡ true =
-      where_room (point table i) (is_point table i ok legal le) action at k (rw (take-append_seam before (last ∷ [])) some) in
+      where_room (point table i) (is_point policy table i ok legal le) action at k (rw (take-append_seam before (last ∷ [])) some) in
       elim (below.untouched k was.0 is was.1 here) [
         | inl same ↦ rw same (room k was.0 was.1 told)
         | inr more ↦ absurd (omega arith)
       ]
 
   -- an action that sends a command to thread t
-  pub SentBelow-more : (table : Table) (i : ℕ) (action : Action) (t : ℕ) (command : Command) (now : List SenderView) (is after : SenderView) → IsTable table
-      → IsLegal table (before ++ last ∷ []) → ThreadsAreSentOneCommand
+  pub SentBelow-more : (policy : Policy) (table : Table) (i : ℕ) (action : Action) (t : ℕ) (command : Command) (now : List SenderView) (is after : SenderView) → IsTable table
+      → IsLegalBy policy table (before ++ last ∷ []) → AreSentOneCommand policy
       → ((k : ℕ) (sender : SenderView) → slice_get senders k ≡ Some sender → sender.sent ≡ commands_to (actions_of before) k)
       → slice_get last.actions i ≡ Some action → ((k : ℕ) → addressed_to k (Some (t, command)) ≡ sends k (upto i) action)
       → SentBelow i before last senders now → slice_get now t ≡ Some is → after.ring ≡ is.ring → after.sent ≡ is.sent ++ command ∷ []
       → SentBelow (i + 1) before last senders (set now t after)
-  SentBelow-more table i action t command now is after ok legal one started at exact below here ring sent =
+  SentBelow-more policy table i action t command now is after ok legal one started at exact below here ring sent =
       let low : t < length now = slice_get_within now t is here in
       let mine : slice_get (set now t after) t ≡ Some after = slice_get-set_same now t after low in
       let gains : commands_to (upto (i + 1)) t ≡ commands_to (upto i) t ++ command ∷ [] =
@@ -187,7 +189,7 @@ module _ (before : List PassEntry) (last : PassEntry) (senders : List SenderView
 
 -- what may be sent, of the last pass and those before it
 pub record OfLast (table : Table) (book : Book) (before : List PassEntry) (last : PassEntry) (senders : List SenderView) : Type 0 where
-  pub legal : IsLegal table (before ++ last ∷ [])
+  pub legal : IsLegalBy book.policy table (before ++ last ∷ [])
   pub agrees : IsStateAfter (board_in book) (before ++ last ∷ [])
   pub sent : (k : ℕ) (sender : SenderView) → slice_get senders k ≡ Some sender → sender.sent ≡ commands_to (actions_of before) k
   pub room : (k : ℕ) (sender : SenderView) → slice_get senders k ≡ Some sender → slice_index_or last.input.rooms k false ≡ true → HasRoom sender
@@ -197,7 +199,7 @@ pub of_last : (table : Table) (book : Book) (history : List PassEntry) (senders 
 of_last table book history senders before last may e =
     let same = snoc_same may.before before may.last last (sym may.whole ∙ e) in
     record {
-      legal = subst (IsLegal table) e may.legal;
+      legal = subst (IsLegalBy book.policy table) e may.legal;
       agrees = subst (IsStateAfter (board_in book)) e may.agrees;
       sent = λ k sender at. may.sent k sender at ∙ ap (λ h. commands_to (actions_of h) k) same.0;
       room = λ k sender at told. may.room k sender at (ap (λ (l : PassEntry). slice_index_or l.input.rooms k false) same.1 ∙ told);

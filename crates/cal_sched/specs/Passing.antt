@@ -7,9 +7,10 @@ use Rattle.cal_machine.specs.Table.{Table}
 use Rattle.cal_policy.specs.declared.judgement.open_input.FoundLook.{FoundLook}
 use Rattle.cal_policy.specs.declared.history.entry.PassEntry.{PassEntry}
 use Rattle.cal_policy.specs.declared.history.input.Input.{Input}
+use Rattle.cal_policy.specs.declared.policy.Policy.{Policy}
 use Rattle.cal_policy.specs.Judgement.OpenInput.{judged_input}
 use Rattle.cal_policy.specs.History.{actions_of, commands_to}
-use Rattle.cal_policy.specs.Pass.{pass_of}
+use Rattle.cal_policy.specs.Policies.{pass_by}
 use Rattle.cal_policy.specs.Setting.{setting}
 use Rattle.cal_sched.specs.Looking.{HasLooked}
 use Rattle.cal_sched.specs.Scheduler.{SchedulerView}
@@ -42,11 +43,11 @@ pub record HaveSent (before after : List SenderView) (history : List PassEntry) 
   pub sent : (k : ℕ) (is : SenderView) → slice_get after k ≡ Some is →
       is.sent ≡ commands_to (actions_of history) k
 
--- the pass on this input after these passes
-abbrev pub pass_on : Table → List PassEntry → Input → PassEntry
-pass_on table before input = record {
+-- the policy's pass on this input after these passes
+abbrev pub pass_on : Policy → Table → List PassEntry → Input → PassEntry
+pass_on policy table before input = record {
   input = input;
-  actions = pass_of (setting table before input);
+  actions = pass_by policy (setting table before input);
 }
 
 -- One pass more.
@@ -57,10 +58,11 @@ pub record IsPassed (now bandwidth : ℕ) (before after : SchedulerView) : Type 
   -- one look at each page and one question to each ring, in thread order
   pub finds : HaveFound before.observers after.observers before.senders asked found
   -- the looks as they are judged, the answers and the figures that were given make the input of
-  -- the pass, and the policy its actions
+  -- the pass, and its policy the actions
   pub history : after.history ≡ before.history
-      ++ pass_on before.table before.history
+      ++ pass_on before.policy before.table before.history
       (judged_input before.table before.history now bandwidth found) ∷ []
   -- what was sent on each ring by then are its commands
   pub sends : HaveSent asked after.senders after.history
   pub table : after.table ≡ before.table
+  pub policy : after.policy ≡ before.policy

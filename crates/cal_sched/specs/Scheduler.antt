@@ -4,16 +4,18 @@ use Rattle.cal_signal.specs.Ends.{ObserverView}
 use Rattle.cal_command.specs.Rings.{SenderView}
 use Rattle.cal_machine.specs.Table.{Table}
 use Rattle.cal_policy.specs.declared.history.entry.PassEntry.{PassEntry}
+use Rattle.cal_policy.specs.declared.policy.Policy.{Policy}
 use Rattle.cal_policy.specs.History.{actions_of, commands_to}
 use Rattle.cal_policy.specs.History.Found.{looks_at}
-use Rattle.cal_policy.specs.Pass.{IsLegal}
+use Rattle.cal_policy.specs.Policies.{IsLegalBy}
 use Rattle.cal_machine.specs.TableTasks.{threads_of_table}
 use Rattle.cal_policy.specs.declared.history.entry.TheConstants.{MOST_PASSES}
 
--- its table, its passes so far, and its end of each thread's page and of each thread's ring, in
--- thread order
+-- its table, the policy that decides its passes, its passes so far, and its end of each thread's
+-- page and of each thread's ring, in thread order
 pub record SchedulerView : Type 0 where
   pub table : Table
+  pub policy : Policy
   pub history : List PassEntry
   pub observers : List ObserverView
   pub senders : List SenderView
@@ -30,8 +32,8 @@ HaveSentNothing senders = (k : ℕ) (sender : SenderView) → slice_get senders 
 
 -- What a scheduler keeps from pass to pass.
 pub record IsKept (s : SchedulerView) : Type 0 where
-  -- its history is legal
-  pub legal : IsLegal s.table s.history
+  -- its history is one of its policy
+  pub legal : IsLegalBy s.policy s.table s.history
   -- and no longer than a history may be
   pub few : length s.history ≤ MOST_PASSES
   -- it has a page of each thread

@@ -8,7 +8,7 @@ use Rattle.cal_policy.specs.declared.history.entry.PassEntry.{PassEntry}
 use Rattle.cal_policy.specs.Book.{board_in}
 use Rattle.cal_policy.specs.State.{IsStateAfter}
 use Rattle.cal_policy.specs.History.{actions_of, commands_to}
-use Rattle.cal_policy.specs.Pass.{IsLegal}
+use Rattle.cal_policy.specs.Policies.{IsLegalBy}
 use Rattle.cal_machine.specs.TableTasks.{threads_of_table}
 
 -- The commands of the last pass may be sent.
@@ -18,8 +18,8 @@ pub record MaySend (table : Table) (book : Book) (history : List PassEntry)
   pub before : List PassEntry
   pub last : PassEntry
   pub whole : history ≡ before ++ last ∷ []
-  -- the history is legal
-  pub legal : IsLegal table history
+  -- the history is one of the book's policy
+  pub legal : IsLegalBy book.policy table history
   -- the book keeps the state after it
   pub agrees : IsStateAfter (board_in book) history
   -- there is a ring for each thread

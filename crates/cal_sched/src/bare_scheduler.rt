@@ -5,6 +5,7 @@ ghost use Rattle.cal_policy.specs.Board.Counts as counts;
 ghost use Rattle.cal_policy.specs.History.{actions_of, holder_of};
 ghost use Rattle.cal_machine.specs.TableTasks.{threads_of_table};
 ghost use Rattle.cal_policy.specs.declared.history.entry.TheConstants.{MOST_PASSES};
+ghost use Rattle.cal_policy.specs.declared.policy.Policy.TheVariants.{Caladan};
 ghost use Rattle.cal_sched.specs.declared.fault.PassFault.TheVariants.{HistoryFull};
 ghost use Rattle.cal_policy.specs.Book.{board_in};
 ghost use Rattle.cal_policy.specs.State.{IsReady, IsStateAfter};
@@ -20,7 +21,9 @@ use cal_laws::{holders_are_of_their_last_run, threads_are_sent_one_command};
 use cal_machine::{Config, Past};
 use cal_policy::laws::settled_is_no_news;
 use cal_policy::state::Board;
-use cal_policy::{Actions, Book, Holder, Input, InputLists, MOST_PASSES, OpenPass, PassEntry};
+use cal_policy::{
+    Actions, Book, Holder, Input, InputLists, MOST_PASSES, OpenPass, PassEntry, Policy,
+};
 use cal_signal::Observer;
 use std::alloc::{AllocError, Global};
 use std::marker::Model;
@@ -29,8 +32,8 @@ use std::marker::Model;
 /// memory does not grow with its passes. It may be moved to a thread of its own; no call of it
 /// waits.
 ///
-/// A contract sees the same as of a `Scheduler`: its table, its history, and its ends of the pages
-/// and rings, in thread order. Its history are the entries that its passes gave, in order, whatever
+/// A contract sees the same as of a `Scheduler`: its table, its policy, its history, and its ends of
+/// the pages and rings, in thread order. Its history are the entries that its passes gave, in order, whatever
 /// became of them; a `step` adds the entry that a pass would have given.
 #[derive(Drop)]
 pub struct BareScheduler {
@@ -58,20 +61,22 @@ impl Model for BareScheduler {
 
     ghost view = { λ s. record {
       table = s.config;
-      history = history_of s.config s.past;
+      policy = s.book.policy;
+      history = history_of s.book.policy s.config s.past;
       observers = s.observers.items;
       senders = s.senders.items;
     } };
 
     ghost invariant = { λ s. IsKept (record {
       table = s.config;
-      history = history_of s.config s.past;
+      policy = s.book.policy;
+      history = history_of s.book.policy s.config s.past;
       observers = s.observers.items;
       senders = s.senders.items;
-    }) × IsStateAfter (board_in s.book) (history_of s.config s.past)
+    }) × IsStateAfter (board_in s.book) (history_of s.book.policy s.config s.past)
         × IsReady s.config (board_in s.book)
-        × (s.passes ≡ length (history_of s.config s.past))
-        × AreLast s.config s.past s.looks.value };
+        × (s.passes ≡ length (history_of s.book.policy s.config s.past))
+        × AreLast s.book.policy s.config s.past s.looks.value };
 }
 
 /// What `Scheduler::new` or `BareScheduler::new` was given, where memory was refused.
@@ -96,19 +101,24 @@ pub struct BareEnd {
     pub senders: Vec<Sender>,
 }
 
-/// The book of no pass yet, and the memory of a step.
-fn take_memory(alloc: Global, config: &Config) -> Result<(Book, Box<OpenPass>), AllocError>
+/// The policy's book of no pass yet, and the memory of a step.
+fn take_memory(
+    alloc: Global,
+    config: &Config,
+    policy: Policy,
+) -> Result<(Book, Box<OpenPass>), AllocError>
     ensures agrees { IfOk result (λ taken. IsStateAfter (board_in taken.0) []) }
     ensures of { IfOk result (λ taken. IsReady config.now (board_in taken.0)) }
+    ensures policy { IfOk result (λ taken. taken.0.policy ≡ policy) }
 {
-    let book = Book::open(alloc, config)?;
+    let book = Book::open_by(alloc, config, policy)?;
     let looks = Box::new(alloc, OpenPass::new())?;
     Ok((book, looks))
 }
 
 impl BareScheduler {
-    /// A scheduler that made no pass yet. Asks for the same as `Scheduler::new`, fails only when
-    /// out of memory, and then returns all three.
+    /// A scheduler by `Policy::Caladan` that made no pass yet. Asks for the same as
+    /// `Scheduler::new`, fails only when out of memory, and then returns all three.
     pub fn new(
         alloc: Global,
         config: Config,
@@ -121,6 +131,7 @@ impl BareScheduler {
         requires unsent { HaveSentNothing senders.items }
         ensures made { IfOk result (λ made. made ≡ record {
           table = config;
+          policy = Caladan;
           history = [];
           observers = observers.items;
           senders = senders.items;
@@ -130,7 +141,34 @@ impl BareScheduler {
             (refused.config ≡ config) × (refused.observers ≡ observers)
             × (refused.senders ≡ senders)) }
     {
-        match take_memory(alloc, &config) {
+        BareScheduler::new_by(alloc, config, Policy::Caladan, observers, senders)
+    }
+
+    /// The same by this policy, which decides all its passes.
+    pub fn new_by(
+        alloc: Global,
+        config: Config,
+        policy: Policy,
+        observers: Vec<Observer>,
+        senders: Vec<Sender>,
+    ) -> Result<BareScheduler, NotMade>
+        requires pages { length observers.items ≡ threads_of_table config }
+        requires rings { length senders.items ≡ threads_of_table config }
+        requires unseen { HaveSeenNothing observers.items }
+        requires unsent { HaveSentNothing senders.items }
+        ensures made { IfOk result (λ made. made ≡ record {
+          table = config;
+          policy = policy;
+          history = [];
+          observers = observers.items;
+          senders = senders.items;
+        }) }
+        ensures kept { IfOk result IsKept }
+        ensures handed_back { IfErr result (λ refused.
+            (refused.config ≡ config) × (refused.observers ≡ observers)
+            × (refused.senders ≡ senders)) }
+    {
+        match take_memory(alloc, &config, policy) {
             Ok((book, looks)) => Ok(BareScheduler {
                 alloc,
                 config,
@@ -240,6 +278,13 @@ impl BareScheduler {
         self.past.note(&pass);
         self.passes += 1;
         Ok(())
+    }
+
+    /// The policy that decides its passes.
+    pub fn policy(&self) -> Policy
+        ensures { result ≡ self.now.policy }
+    {
+        self.book.policy()
     }
 
     /// The state that its passes so far leave, for who counts what they did.

@@ -5,6 +5,7 @@ ghost use Rattle.cal_policy.specs.Board.Counts as counts;
 ghost use Rattle.cal_policy.specs.History.{actions_of, holder_of};
 ghost use Rattle.cal_machine.specs.TableTasks.{threads_of_table};
 ghost use Rattle.cal_policy.specs.declared.history.entry.TheConstants.{MOST_PASSES};
+ghost use Rattle.cal_policy.specs.declared.policy.Policy.TheVariants.{Caladan};
 ghost use Rattle.cal_sched.specs.declared.fault.PassFault.TheVariants.{HistoryFull};
 ghost use Rattle.cal_sched.specs.Passing.{IsPassed};
 ghost use Rattle.cal_sched.specs.Scheduler.{IsKept, HaveSeenNothing, HaveSentNothing};
@@ -13,7 +14,7 @@ use crate::bare_scheduler::{BareEnd, BareScheduler, NotMade};
 use crate::fault::PassFault;
 use cal_command::Sender;
 use cal_machine::Config;
-use cal_policy::{Holder, MOST_PASSES, PassEntry};
+use cal_policy::{Holder, MOST_PASSES, PassEntry, Policy};
 use cal_signal::Observer;
 use std::alloc::Global;
 use std::marker::Model;
@@ -21,8 +22,8 @@ use std::marker::Model;
 /// The scheduler of a table's kernel threads. It may be moved to a thread of its own; no call of it
 /// waits.
 ///
-/// A contract sees its table, its history, and its ends of the pages and rings, in thread order.
-/// The history is legal; of each thread the looks that carried a record are, in order, what its
+/// A contract sees its table, its policy, its history, and its ends of the pages and rings, in
+/// thread order. The history is one of its policy; of each thread the looks that carried a record are, in order, what its
 /// observer found, and what was sent on its ring are its commands.
 #[derive(Drop)]
 pub struct Scheduler {
@@ -56,9 +57,9 @@ pub struct SchedulerEnd {
 }
 
 impl Scheduler {
-    /// A scheduler that made no pass yet. Asks for an observer that found nothing yet and a sender
-    /// that sent nothing yet for each kernel thread of the table, in thread order. Fails only when
-    /// out of memory, and then returns all three.
+    /// A scheduler by `Policy::Caladan` that made no pass yet. Asks for an observer that found
+    /// nothing yet and a sender that sent nothing yet for each kernel thread of the table, in thread
+    /// order. Fails only when out of memory, and then returns all three.
     pub fn new(
         alloc: Global,
         config: Config,
@@ -71,6 +72,7 @@ impl Scheduler {
         requires unsent { HaveSentNothing senders.items }
         ensures made { IfOk result (λ made. made ≡ record {
           table = config;
+          policy = Caladan;
           history = [];
           observers = observers.items;
           senders = senders.items;
@@ -79,7 +81,33 @@ impl Scheduler {
             (refused.config ≡ config) × (refused.observers ≡ observers)
             × (refused.senders ≡ senders)) }
     {
-        let bare = BareScheduler::new(alloc, config, observers, senders)?;
+        Scheduler::new_by(alloc, config, Policy::Caladan, observers, senders)
+    }
+
+    /// The same by this policy, which decides all its passes.
+    pub fn new_by(
+        alloc: Global,
+        config: Config,
+        policy: Policy,
+        observers: Vec<Observer>,
+        senders: Vec<Sender>,
+    ) -> Result<Scheduler, NotMade>
+        requires pages { length observers.items ≡ threads_of_table config }
+        requires rings { length senders.items ≡ threads_of_table config }
+        requires unseen { HaveSeenNothing observers.items }
+        requires unsent { HaveSentNothing senders.items }
+        ensures made { IfOk result (λ made. made ≡ record {
+          table = config;
+          policy = policy;
+          history = [];
+          observers = observers.items;
+          senders = senders.items;
+        }) }
+        ensures handed_back { IfErr result (λ refused.
+            (refused.config ≡ config) × (refused.observers ≡ observers)
+            × (refused.senders ≡ senders)) }
+    {
+        let bare = BareScheduler::new_by(alloc, config, policy, observers, senders)?;
         Ok(Scheduler {
             bare,
             history: Vec::new(alloc),
@@ -108,6 +136,13 @@ impl Scheduler {
         let entry = self.bare.pass(now, bandwidth)?;
         self.history.push_reserved(entry);
         Ok(())
+    }
+
+    /// The policy that decides its passes.
+    pub fn policy(&self) -> Policy
+        ensures { result ≡ self.now.policy }
+    {
+        self.bare.policy()
     }
 
     /// Its passes, the first one first.

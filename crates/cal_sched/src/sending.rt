@@ -12,7 +12,7 @@ use cal_machine::{Config, Past};
 use cal_policy::{Action, Book};
 
 /// Sends the commands of this pass, one action after the other, each on its thread's ring. The past
-/// are the passes before it, and the book is the one after it.
+/// are the passes before it, and the book, whose policy made them, is the one after it.
 pub(crate) fn send_commands(
     config: &Config,
     book: &Book,
@@ -21,12 +21,14 @@ pub(crate) fn send_commands(
     actions: &[Action],
     senders: &mut [Sender],
 )
-    requires may { MaySend config.now book.now (history_of config.now past.now
-        ++ entry_of config.now (history_of config.now past.now) pass.now ∷ []) senders.old }
-    requires made { actions.now
-        ≡ (entry_of config.now (history_of config.now past.now) pass.now).actions }
-    ensures { HaveSent senders.old senders.new (history_of config.now past.now
-        ++ entry_of config.now (history_of config.now past.now) pass.now ∷ []) }
+    requires may { MaySend config.now book.now (history_of book.now.policy config.now past.now
+        ++ entry_of book.now.policy config.now
+        (history_of book.now.policy config.now past.now) pass.now ∷ []) senders.old }
+    requires made { actions.now ≡ (entry_of book.now.policy config.now
+        (history_of book.now.policy config.now past.now) pass.now).actions }
+    ensures { HaveSent senders.old senders.new (history_of book.now.policy config.now past.now
+        ++ entry_of book.now.policy config.now
+        (history_of book.now.policy config.now past.now) pass.now ∷ []) }
 {
     let _ = past;
     let _ = pass;

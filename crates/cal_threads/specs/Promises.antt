@@ -27,11 +27,12 @@ pub record HaveRun (table : Table) (arrivals : Arrivals) (parts : Parts) : Type 
       (rounds_of arrivals) parts
   pub most : parts.watch.most ≡ rounds_of arrivals
 
--- what a run of these parts comes back with where it ends well: they have run, what was collected
--- is theirs, and before each pass and each turn the gate may have answered yes
+-- what a run of these parts comes back with where it ends well: they have run, by the same policy,
+-- what was collected is theirs, and before each pass and each turn the gate may have answered yes
 pub record EndsWell (passes : ℕ → Bool → Type 0) (turns : ℕ → ℕ → Bool → Type 0)
     (arrivals : Arrivals) (parts : Parts) (run : Parts × Collected) : Type 0 where
   pub ran : HaveRun parts.scheduler.table arrivals run.0
+  pub policy : run.0.scheduler.policy ≡ parts.scheduler.policy
   pub collected : IsCollectedOf run.0 run.1
   pub passes_asked : LetsPasses passes arrivals
   pub turns_asked : LetsAllTurns turns (vec_len parts.workers) arrivals

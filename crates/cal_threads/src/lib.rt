@@ -17,4 +17,4 @@ mod working;
 
 pub use gate::{FreeGate, Gate};
 pub use running::run_threads;
-pub use simulation::{simulate, simulation_end};
+pub use simulation::{simulate, simulate_by, simulation_end, simulation_end_by};

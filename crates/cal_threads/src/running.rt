@@ -73,6 +73,7 @@ pub fn run_threads<R: Threads + Wait + Sync, G: Gate + Sync>(
     requires fits { FitSomeTable arrivals.now }
     requires parts { HaveNotRun arrivals.now parts }
     ensures ran { IfOk result (λ run. HaveRun parts.scheduler.table arrivals.now run.0) }
+    ensures policy { IfOk result (λ run. run.0.scheduler.policy ≡ parts.scheduler.policy) }
     ensures collected { IfOk result (λ run. IsCollectedOf run.0 run.1) }
     ensures passes_asked { IfOk result (λ _. LetsPasses (G.answers_pass gate.now) arrivals.now) }
     ensures turns_asked { IfOk result (λ _.

@@ -1,3 +1,4 @@
+pub mod PolicyLemmas
 pub mod ListLemmas
 pub mod ScheduleLemmas
 pub mod WorldLemmas

@@ -6,3 +6,4 @@ pub mod World
 pub mod Safe
 pub mod Schedules
 pub mod Reads
+pub mod Policies

@@ -1,4 +1,6 @@
 -- Which event may come after which: seven rules, and legal lists of events. Doranjei's own.
+--
+-- The passes of a legal list are a policy's. What names no policy is by Policy::Caladan.
 pub mod Kept
 pub mod Outbox
 pub mod Present
@@ -13,7 +15,9 @@ use Rattle.cal_signal.specs.Pages as pages
 use Rattle.cal_policy.specs.declared.history.look.Seen.{Seen}
 use Rattle.cal_policy.specs.declared.history.look.Seen.TheVariants.{Whole}
 use Rattle.cal_policy.specs.History.{sent_to}
-use Rattle.cal_policy.specs.Pass.{IsPass}
+use Rattle.cal_policy.specs.declared.policy.Policy.{Policy}
+use Rattle.cal_policy.specs.declared.policy.Policy.TheVariants.{Caladan}
+use Rattle.cal_policy.specs.Policies.{IsPassBy}
 use Rattle.cal_machine.specs.TableTasks.{threads_of_table}
 use Rattle.cal_signal.specs.Records.{running_word}
 use Rattle.cal_world.specs.declared.event.Event.{Event}
@@ -82,25 +86,31 @@ IsInTurn table before (Decide entry) = threads_of_table table ≡ length (looks_
 IsInTurn table before _ = Unit {0}
 
 -- 7: a Decide is of a pass on those looks, after the passes before
-abbrev pub IsThePass : Table → List Event → Event → Type 0
-IsThePass table before (Decide entry) =
-    (entry.input.seen ≡ looks_since before) × IsPass table (history_in before) entry
-IsThePass table before _ = Unit {0}
+abbrev pub IsThePassBy : Policy → Table → List Event → Event → Type 0
+IsThePassBy policy table before (Decide entry) =
+    (entry.input.seen ≡ looks_since before) × IsPassBy policy table (history_in before) entry
+IsThePassBy policy table before _ = Unit {0}
 
 -- an event, after these, is not refused for this cause. (Out of memory is no matter of events.)
+abbrev pub PassesBy : Policy → Illegal → Table → List Event → Event → Type 0
+PassesBy policy NoThread table before event = NamesThread table event
+PassesBy policy NothingSent table before event = HasCommand before event
+PassesBy policy NotOn table before event = IsOnCore before event
+PassesBy policy NotItsState table before event = IsItsState before event
+PassesBy policy NoSuchPlace table before event = HasPlace before event
+PassesBy policy OutOfTurn table before event = IsInTurn table before event
+PassesBy policy NotThePass table before event = IsThePassBy policy table before event
+PassesBy policy Memory table before event = Unit {0}
+
 abbrev pub Passes : Illegal → Table → List Event → Event → Type 0
-Passes NoThread table before event = NamesThread table event
-Passes NothingSent table before event = HasCommand before event
-Passes NotOn table before event = IsOnCore before event
-Passes NotItsState table before event = IsItsState before event
-Passes NoSuchPlace table before event = HasPlace before event
-Passes OutOfTurn table before event = IsInTurn table before event
-Passes NotThePass table before event = IsThePass table before event
-Passes Memory table before event = Unit {0}
+Passes why table before event = PassesBy Caladan why table before event
 
 -- an event may come after these where no cause refuses it
+abbrev pub IsAllowedBy : Policy → Table → List Event → Event → Type 0
+IsAllowedBy policy table before event = (why : Illegal) → PassesBy policy why table before event
+
 abbrev pub IsAllowed : Table → List Event → Event → Type 0
-IsAllowed table before event = (why : Illegal) → Passes why table before event
+IsAllowed table before event = IsAllowedBy Caladan table before event
 
 -- the numbers of the causes
 abbrev pub cause_number : Illegal → ℕ
@@ -114,28 +124,39 @@ cause_number NotThePass = 7
 cause_number Memory = 8
 
 -- an event is refused for this cause, and for none of a lesser number
-pub record IsRefusedFor (table : Table) (before : List Event) (event : Event) (why : Illegal)
-    : Type 0 where
-  pub refused : Passes why table before event → ⊥
+pub record IsRefusedForBy (policy : Policy) (table : Table) (before : List Event) (event : Event)
+    (why : Illegal) : Type 0 where
+  pub refused : PassesBy policy why table before event → ⊥
   pub least : (other : Illegal) → cause_number other < cause_number why →
-      Passes other table before event
+      PassesBy policy other table before event
+
+abbrev pub IsRefusedFor : Table → List Event → Event → Illegal → Type 0
+IsRefusedFor table before event why = IsRefusedForBy Caladan table before event why
 
 -- a legal list of events: each is allowed after those before it
-pub record IsLegalList (table : Table) (events : List Event) : Type 0 where
+pub record IsLegalListBy (policy : Policy) (table : Table) (events : List Event) : Type 0 where
   pub each : (i : ℕ) (event : Event) → slice_get events i ≡ Some event →
-      IsAllowed table (take i events) event
+      IsAllowedBy policy table (take i events) event
+
+abbrev pub IsLegalList : Table → List Event → Type 0
+IsLegalList table events = IsLegalListBy Caladan table events
 
 -- the answer of a test of an event after these: None where it is allowed, else the least cause for
 -- which it is refused
-abbrev pub IsRefusal : Table → List Event → Event → Option Illegal → Type 0
-IsRefusal table before event None = IsAllowed table before event
-IsRefusal table before event (Some why) = IsRefusedFor table before event why
+abbrev pub IsRefusalBy : Policy → Table → List Event → Event → Option Illegal → Type 0
+IsRefusalBy policy table before event None = IsAllowedBy policy table before event
+IsRefusalBy policy table before event (Some why) = IsRefusedForBy policy table before event why
 
--- what a world stands for: its table, and the events that it allowed
+-- what a world stands for: its table, the policy of its passes, and the events that it allowed
 pub record Past : Type 0 where
   pub table : Table
+  pub policy : Policy
   pub events : List Event
 
 -- the past, and then this event
 abbrev pub and_then : Past → Event → Past
-and_then past event = record { table = past.table; events = past.events ++ event ∷ [] }
+and_then past event = record {
+  table = past.table;
+  policy = past.policy;
+  events = past.events ++ event ∷ [];
+}

@@ -4,6 +4,9 @@
 //! Each law is the contract of a function that does nothing, its statement a definition in specs/.
 //! To cite a law, call its function.
 
+ghost use Rattle.cal_world.specs.Policies.{LegalListsAreSafeBy, OfLegalListsBy};
+ghost use Rattle.cal_world.specs.Policies.{HistoryIsLegalBy, PointsAreLegalBy};
+ghost use Rattle.cal_world.specs.Policies.{RevocationsHaveCauseBy, PassesOnReadsAreAllowedBy};
 ghost use Rattle.cal_world.specs.Safe.{LegalListsAreSafe, OfSafeLists, OfLegalLists};
 ghost use Rattle.cal_world.specs.Schedules.{HistoryIsPermitted, HistoryIsLegal};
 ghost use Rattle.cal_world.specs.Schedules.{PointsArePermitted, PointsAreLegal, AreByTheirLastRun};
@@ -14,17 +17,24 @@ ghost use Rattle.cal_world.specs.Reads.{ReadsAreWhole, PassesOnReadsAreSafe};
 ghost use Rattle.cal_world.specs.Reads.{PassesOnReadsAreAllowed};
 
 use cal_guard::{
-    banned_are_empty_after_passes, legal_is_permitted, no_banned_is_granted, permitted_is_safe,
-    permitted_is_steady, revocations_leave_guarantees,
+    banned_are_empty_after_passes, each_policy_is_permitted, no_banned_is_granted,
+    permitted_is_safe, permitted_is_steady, revocations_leave_guarantees,
 };
-use cal_laws::revocations_have_cause;
+use cal_laws::revocations_have_cause_by;
 use cal_policy::laws::{action_is_one_more, look_is_one_more};
 
-/// Each legal list is safe: its passes are the policy's, and those are permitted.
+/// Each legal list of each policy is safe: its passes are the policy's, and those are permitted.
+pub fn legal_lists_are_safe_by()
+    ensures { LegalListsAreSafeBy }
+{
+    each_policy_is_permitted();
+}
+
+/// `legal_lists_are_safe_by` of `Policy::Caladan`.
 pub fn legal_lists_are_safe()
     ensures { LegalListsAreSafe }
 {
-    legal_is_permitted();
+    legal_lists_are_safe_by();
 }
 
 /// The passes of a safe list are a permitted history: so each law of `cal_guard` holds of them.
@@ -36,10 +46,17 @@ pub fn histories_are_permitted()
     look_is_one_more();
 }
 
+/// The passes of a legal list are a history of its policy.
+pub fn histories_are_legal_by()
+    ensures { OfLegalListsBy HistoryIsLegalBy }
+{}
+
 /// The passes of a legal list are a legal history: so each law of `cal_laws` holds of them.
 pub fn histories_are_legal()
     ensures { OfLegalLists HistoryIsLegal }
-{}
+{
+    histories_are_legal_by();
+}
 
 /// Each point inside a pass of a safe list is a point of a permitted history.
 pub fn points_are_permitted()
@@ -48,11 +65,18 @@ pub fn points_are_permitted()
     histories_are_permitted();
 }
 
+/// Each point inside a pass of a legal list is a point of a history of its policy.
+pub fn points_are_legal_by()
+    ensures { OfLegalListsBy PointsAreLegalBy }
+{
+    histories_are_legal_by();
+}
+
 /// Each point inside a pass of a legal list is a point of a legal history.
 pub fn points_are_legal()
     ensures { OfLegalLists PointsAreLegal }
 {
-    histories_are_legal();
+    points_are_legal_by();
 }
 
 /// A kernel thread that runs on a core holds or leaves it, by the last Run that it took.
@@ -118,12 +142,20 @@ pub fn revocations_in_events_leave_guarantees()
     revocations_leave_guarantees();
 }
 
-/// Each revocation has its cause. This the policy alone promises: so it is said of legal lists.
+/// Each revocation has a cause of the policy's. This the policy alone promises: so it is said of
+/// legal lists.
+pub fn revocations_in_events_have_cause_by()
+    ensures { OfLegalListsBy RevocationsHaveCauseBy }
+{
+    points_are_legal_by();
+    revocations_have_cause_by();
+}
+
+/// Each revocation has its cause: `revocations_in_events_have_cause_by` of `Policy::Caladan`.
 pub fn revocations_in_events_have_cause()
     ensures { OfLegalLists RevocationsHaveCause }
 {
-    points_are_legal();
-    revocations_have_cause();
+    revocations_in_events_have_cause_by();
 }
 
 /// No banned core is held, and none is granted.
@@ -161,12 +193,19 @@ pub fn passes_on_reads_are_safe()
 }
 
 /// In a legal list whose Skips are all of busy looks a Decide on one Read of each thread, with the
-/// actions of the pass on those looks, is allowed.
-pub fn passes_on_reads_are_allowed()
-    ensures { PassesOnReadsAreAllowed }
+/// actions of the policy's pass on those looks, is allowed.
+pub fn passes_on_reads_are_allowed_by()
+    ensures { PassesOnReadsAreAllowedBy }
 {
-    legal_lists_are_safe();
+    legal_lists_are_safe_by();
     permitted_is_safe();
     action_is_one_more();
     look_is_one_more();
+}
+
+/// `passes_on_reads_are_allowed_by` of `Policy::Caladan`.
+pub fn passes_on_reads_are_allowed()
+    ensures { PassesOnReadsAreAllowed }
+{
+    passes_on_reads_are_allowed_by();
 }

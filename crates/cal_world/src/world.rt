@@ -12,21 +12,22 @@ ghost use Rattle.std.specs.Prelude.{◌≡◌, ◌<◌, ◌⊎◌, [], IfOk, IfE
 ghost use Rattle.cal_world.specs.declared.illegal.Illegal.TheVariants.{Memory};
 ghost use Rattle.cal_world.specs.Projections.{history_in};
 ghost use Rattle.cal_world.specs.Threads.{running_on};
-ghost use Rattle.cal_policy.specs.Pass.{IsLegal};
-ghost use Rattle.cal_world.specs.World.{IsAllowed, IsLegalList, IsRefusal, IsRefusedFor};
-ghost use Rattle.cal_world.specs.World.{and_then};
+ghost use Rattle.cal_policy.specs.declared.policy.Policy.TheVariants.{Caladan};
+ghost use Rattle.cal_policy.specs.Policies.{IsLegalBy};
+ghost use Rattle.cal_world.specs.World.{IsAllowedBy, IsLegalList, IsLegalListBy};
+ghost use Rattle.cal_world.specs.World.{IsRefusalBy, IsRefusedForBy, and_then};
 
 use crate::event::Event;
 use crate::illegal::Illegal;
-use crate::schedules::histories_are_legal;
+use crate::schedules::histories_are_legal_by;
 use crate::world::present::Present;
 use cal_machine::Config;
-use cal_policy::PassEntry;
+use cal_policy::{PassEntry, Policy};
 use std::alloc::{AllocError, Global};
 use std::marker::Model;
 
-/// A list of events, each of which was allowed after those before it. Contracts see the table and
-/// the events.
+/// A list of events, each of which was allowed after those before it. Contracts see the table, the
+/// policy of its passes and the events.
 ///
 /// It keeps the state after the events as plain data, so that a step costs what its kind asks and
 /// not what went before; but a Decide goes over the whole history, by the plain pass.
@@ -34,6 +35,7 @@ use std::marker::Model;
 pub struct World {
     alloc: Global,
     config: Config,
+    policy: Policy,
     events: Vec<Event>,
     present: Present,
 }
@@ -44,34 +46,57 @@ impl Model for World {
 
     ghost Value = { Past };
 
-    ghost view = { λ w. record { table = w.config; events = w.events.items } };
+    ghost view = { λ w. record {
+      table = w.config;
+      policy = w.policy;
+      events = w.events.items;
+    } };
 
-    ghost invariant = { λ w. IsWorld w.config w.events.items w.present };
+    ghost invariant = { λ w. IsWorld w.policy w.config w.events.items w.present };
 }
 
 impl World {
-    /// The world in which nothing has happened. Fails only when out of memory.
+    /// The world by `Policy::Caladan` in which nothing has happened. Fails only when out of memory.
     pub fn start(alloc: Global, config: &Config) -> Result<World, AllocError>
         ensures table { IfOk result (λ world. world.table ≡ config.now) }
+        ensures policy { IfOk result (λ world. world.policy ≡ Caladan) }
         ensures events { IfOk result (λ world. world.events ≡ []) }
         ensures legal { IfOk result (λ world. IsLegalList world.table world.events) }
+    {
+        World::start_by(alloc, config, Policy::Caladan)
+    }
+
+    /// The world by this policy in which nothing has happened. Fails only when out of memory.
+    pub fn start_by(alloc: Global, config: &Config, policy: Policy) -> Result<World, AllocError>
+        ensures table { IfOk result (λ world. world.table ≡ config.now) }
+        ensures policy { IfOk result (λ world. world.policy ≡ policy) }
+        ensures events { IfOk result (λ world. world.events ≡ []) }
+        ensures legal { IfOk result (λ world. IsLegalListBy policy world.table world.events) }
     {
         config.limits();
         Ok(World {
             alloc,
             config: config.copy(alloc)?,
+            policy,
             events: Vec::new(alloc),
             present: Present::open(alloc, config.threads())?,
         })
     }
 
-    /// The passes so far. The events are a legal list, and so the history is legal.
-    pub fn history(&self) -> &[PassEntry]
-        ensures events { IsLegalList self.now.table self.now.events }
-        ensures history { result.now ≡ history_in self.now.events }
-        ensures legal { IsLegal self.now.table result.now }
+    /// The policy that decides its passes.
+    pub fn policy(&self) -> Policy
+        ensures { result ≡ self.now.policy }
     {
-        histories_are_legal();
+        self.policy
+    }
+
+    /// The passes so far. The events are a legal list, and so the history is one of its policy.
+    pub fn history(&self) -> &[PassEntry]
+        ensures events { IsLegalListBy self.now.policy self.now.table self.now.events }
+        ensures history { result.now ≡ history_in self.now.events }
+        ensures legal { IsLegalBy self.now.policy self.now.table result.now }
+    {
+        histories_are_legal_by();
         self.present.history.as_slice()
     }
 
@@ -89,21 +114,22 @@ impl World {
     /// Why an event may not come next, the least cause; None where it may. Fails only when out of
     /// memory.
     fn refusal(&self, event: &Event) -> Result<Option<Illegal>, AllocError>
-        ensures legal { IsLegalList self.now.table self.now.events }
+        ensures legal { IsLegalListBy self.now.policy self.now.table self.now.events }
         ensures refusal { IfOk result (λ refusal.
-            IsRefusal self.now.table self.now.events event.now refusal) }
+            IsRefusalBy self.now.policy self.now.table self.now.events event.now refusal) }
     {
-        histories_are_legal();
-        self.present.refusal(self.alloc, &self.config, event)
+        histories_are_legal_by();
+        self.present
+            .refusal(self.alloc, &self.config, self.policy, event)
     }
 
     /// Takes in an event that is allowed. Fails only when out of memory; then the world is
     /// unchanged.
     fn take(&mut self, event: &Event) -> Result<(), AllocError>
-        requires { IsAllowed self.old.table self.old.events event.now }
+        requires { IsAllowedBy self.old.policy self.old.table self.old.events event.now }
         ensures ok { OnOk result (self.new ≡ and_then self.old event.now) }
         ensures err { OnErr result (self.new ≡ self.old) }
-        ensures legal { IsLegalList self.new.table self.new.events }
+        ensures legal { IsLegalListBy self.new.policy self.new.table self.new.events }
     {
         let copy = event.copy(self.alloc)?;
         self.events.reserve(1)?;
@@ -117,12 +143,14 @@ impl World {
     /// answer there may be `Memory`; then too the world is unchanged. Either way its events are a
     /// legal list.
     pub fn step(&mut self, event: &Event) -> Result<(), Illegal>
-        ensures allowed { OnOk result (IsAllowed self.old.table self.old.events event.now) }
+        ensures allowed { OnOk result
+            (IsAllowedBy self.old.policy self.old.table self.old.events event.now) }
         ensures taken { OnOk result (self.new ≡ and_then self.old event.now) }
         ensures refused { IfErr result (λ why.
-            (why ≡ Memory) ⊎ IsRefusedFor self.old.table self.old.events event.now why) }
+            (why ≡ Memory)
+            ⊎ IsRefusedForBy self.old.policy self.old.table self.old.events event.now why) }
         ensures same { OnErr result (self.new ≡ self.old) }
-        ensures legal { IsLegalList self.new.table self.new.events }
+        ensures legal { IsLegalListBy self.new.policy self.new.table self.new.events }
     {
         if let Some(why) = self.refusal(event)? {
             return Err(why);

@@ -7,6 +7,8 @@ use Rattle.std.proofs.lemmas.List.{get_or_past, length-map}
 use Rattle.std.proofs.lemmas.Option.{slice_get_past, get_or_from_slice_get}
 use Rattle.std.proofs.Math.Seq.{take-length}
 use Rattle.cal_machine.proofs.Places.{slice_get_at}
+use Rattle.cal_policy.proofs.PolicyLemmas.{pass_input}
+use Rattle.cal_world.proofs.PolicyLemmas.{pass_at_by}
 use Rattle.cal_machine.specs.Table.{Table}
 use Rattle.cal_machine.specs.declared.request.Request.{Request}
 use Rattle.cal_signal.specs.declared.look.Look.{Look}
@@ -19,16 +21,16 @@ use Rattle.cal_policy.specs.declared.history.entry.PassEntry.{PassEntry}
 use Rattle.cal_policy.specs.History.{actions_of, commands_to}
 use Rattle.cal_policy.specs.History.Found.{looks_at}
 use Rattle.cal_policy.specs.History.Looks.{look_of}
-use Rattle.cal_policy.specs.Pass.{IsLegal}
+use Rattle.cal_policy.specs.Policies.{IsLegalBy}
 use Rattle.cal_machine.specs.TableTasks.{threads_of_table}
 use Rattle.cal_sched.specs.Scheduler.{IsKept, SchedulerView}
 use Rattle.cal_sched.specs.Watching as watching
 use Rattle.cal_kthread.specs.Journal.{IsJournal, commands_of}
 use Rattle.cal_kthread.specs.Turn.Turns.{AreTurns, Given}
 use Rattle.cal_kthread.specs.declared.journal.entry.Entry.{Entry}
-use Rattle.cal_linear.specs.Law.{FittingLooksArePublications, IsLinearised}
+use Rattle.cal_linear.specs.Law.{FittingLooksArePublications, IsLinearisedBy}
 use Rattle.cal_linear.specs.Linear.{linear}
-use Rattle.cal_linear.specs.Runs.{AreFirst, AreOfOneRun, AreWatched, page_at}
+use Rattle.cal_linear.specs.Runs.{AreFirst, AreOfOneRunBy, AreWatched, page_at}
 use Rattle.cal_linear.specs.Steps.{journal_at}
 use Rattle.cal_trace.specs.Arrivals.FitsTable.{FitsTable}
 use Rattle.cal_trace.specs.declared.arrivals.Arrival.{Arrival}
@@ -37,7 +39,7 @@ use Rattle.cal_world.specs.declared.event.Event.{Event}
 use Rattle.cal_run.specs.Closing.{HaveClosed}
 use Rattle.cal_run.specs.Workers.GivenTurns.{turns_from, turns_given}
 use Rattle.cal_run.specs.Outcome.GivenOnce.{GivenStandOnce}
-use Rattle.cal_run.specs.Outcome.{IsRun}
+use Rattle.cal_run.specs.Outcome.{IsRunBy}
 use Rattle.cal_run.specs.Parts.{AreOfOneTeam, HasPassed, rounds_of, scheduler_seat_of, watch_seat_of}
 use Rattle.cal_run.specs.Workers.{HaveMade, Seat, seat_of, seats_of}
 use Rattle.cal_run.specs.declared.outcome.Outcome.{Outcome}
@@ -90,8 +92,8 @@ module _ (table : Table) (s : SchedulerView) (w : watching.WatchView) (workers :
   pub many_watchers : length w.observers ≡ threads_of_table table
   many_watchers = sym (length-map w.observers (λ (o : ObserverView). o.page)) ∙ ap length together.watched ∙ length-map (seats_of workers) (λ (s : Seat). s.page) ∙ together.threads
 
-  legal : IsLegal table s.history
-  legal = subst (λ (t : Table). IsLegal t s.history) together.same_table kept.legal
+  legal : IsLegalBy s.policy table s.history
+  legal = subst (λ (t : Table). IsLegalBy s.policy t s.history) together.same_table kept.legal
 
   pub kept_journals : (k : ℕ) → IsJournal (journal_at journals k)
   kept_journals k = ⊎_elim
@@ -106,7 +108,7 @@ module _ (table : Table) (s : SchedulerView) (w : watching.WatchView) (workers :
       let same : o.0.looks ≡ looks_at s.history k = kept.looks k o.0 o.1 in
       subst (λ (looks : List (ℕ × Record)). FitsPage (page_at journals k) looks) same (closed.observed k o.0 o.1))
       (λ past.
-      let none = none_shown s.history k (threads_of_table table) (λ p entry at. (legal.passes p entry at).input.looks.looks) past in
+      let none = none_shown s.history k (threads_of_table table) (λ p entry at. (pass_input s.policy table (take p s.history) entry (pass_at_by s.policy table s.history legal p entry at)).looks.looks) past in
       subst (λ (looks : List (ℕ × Record)). FitsPage (page_at journals k) looks) (sym none) tt)
       (cases_lt k (threads_of_table table))
 
@@ -145,7 +147,7 @@ module _ (table : Table) (s : SchedulerView) (w : watching.WatchView) (workers :
         (cases_lt k (threads_of_table table));
   }
 
-  pub are_of_one_run : FittingLooksArePublications → AreOfOneRun table s.history journals
+  pub are_of_one_run : FittingLooksArePublications → AreOfOneRunBy s.policy table s.history journals
   are_of_one_run law = record {
     legal = legal;
     count = many_journals;
@@ -168,8 +170,8 @@ module _ (table : Table) (s : SchedulerView) (w : watching.WatchView) (workers :
       subst (λ (journal : List Entry). AreTurns turns [] journal) (sym own) (subst (λ (given : List Given). AreTurns given [] worker.0.thread.journal) all its)
 
   pub is_run : (arrivals : Arrivals) (events : List Event) → FitsTable table arrivals → HasPassed arrivals (length arrivals.passes) s → HaveMade arrivals (length arrivals.turns) workers →
-      length w.rounds ≡ rounds_of arrivals → IsLinearised table s.history journals w.rounds events → events ≡ linear s.history journals w.rounds → GivenStandOnce →
-      IsRun table arrivals (record { history = s.history; journals = journals; left = lefts; events = events; watched = w.rounds })
+      length w.rounds ≡ rounds_of arrivals → IsLinearisedBy s.policy table s.history journals w.rounds events → events ≡ linear s.history journals w.rounds → GivenStandOnce →
+      IsRunBy s.policy table arrivals (record { history = s.history; journals = journals; left = lefts; events = events; watched = w.rounds })
   is_run arrivals events fits passed made rounds linearised ordered law =
       let outcome : Outcome = record { history = s.history; journals = journals; left = lefts; events = events; watched = w.rounds } in
       record {

@@ -7,6 +7,7 @@ use Rattle.cal_kthread.specs.Team.Opening.{AreOpened}
 use Rattle.cal_kthread.specs.Team.{IsTeam, Place, place_of}
 use Rattle.cal_kthread.specs.Turn.Thread.{KernelView}
 use Rattle.cal_machine.specs.Table.{Table}
+use Rattle.cal_policy.specs.declared.policy.Policy.{Policy}
 use Rattle.cal_machine.specs.TableTasks.{threads_of_table}
 use Rattle.cal_sched.specs.Scheduler.{HaveSeenNothing, HaveSentNothing, SchedulerView}
 use Rattle.cal_sched.specs.Watching.{WatchView, new_watch}
@@ -76,12 +77,12 @@ pub seats_give : {Y : Type 0} (f : Seat → Y) (threads : List KernelView) (work
 seats_give f threads workers same = ap (λ (l : List KernelView). map (λ (t : KernelView). f (seat_of t)) l) (sym same) ∙ of_seats f workers
 
 -- the parts belong together, and did nothing yet
-pub are_opened : (table : Table) (arrivals : Arrivals) (m : ℕ) (parts : Parts) (threads : List KernelView) (observers : List ObserverView) (senders : List SenderView) (watchers : List ObserverView) →
+pub are_opened : (policy : Policy) (table : Table) (arrivals : Arrivals) (m : ℕ) (parts : Parts) (threads : List KernelView) (observers : List ObserverView) (senders : List SenderView) (watchers : List ObserverView) →
     length threads ≡ threads_of_table table → AreOpened threads observers senders watchers → IsTeam (map (λ (k : KernelView). place_of k.thread) threads) →
     map (λ (w : Worker). w.thread) parts.workers.items ≡ threads → HaveMade arrivals 0 parts.workers.items →
-    parts.scheduler ≡ record { table = table; history = []; observers = observers; senders = senders } →
+    parts.scheduler ≡ record { table = table; policy = policy; history = []; observers = observers; senders = senders } →
     parts.watch ≡ new_watch watchers m → AreParts table arrivals 0 0 0 parts
-are_opened table arrivals m parts threads observers senders watchers count opened team same made scheduler watch = record {
+are_opened policy table arrivals m parts threads observers senders watchers count opened team same made scheduler watch = record {
   together = record {
     same_table = ap (λ (s : SchedulerView). s.table) scheduler;
     threads = length-map parts.workers.items (λ (w : Worker). seat_of w.thread)

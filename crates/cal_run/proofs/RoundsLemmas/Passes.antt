@@ -40,6 +40,7 @@ pub seat_stays : (now bandwidth : ℕ) (before after : SchedulerView) → IsPass
     scheduler_seat_of after ≡ scheduler_seat_of before
 seat_stays now bandwidth before after passed kept =
     let table = passed.table in
+    let policy = passed.policy in
     let pages = pages_stay now bandwidth before after passed in
     let rings = rings_stay now bandwidth before after passed kept in
-    λ i. record { table = table i; pages = pages i; rings = rings i }
+    λ i. record { table = table i; policy = policy i; pages = pages i; rings = rings i }

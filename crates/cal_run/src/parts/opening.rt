@@ -2,6 +2,7 @@
 
 ghost use Rattle.std.specs.Prelude.{◌≡◌, ◌≤◌, length, map, IfOk, IfErr};
 ghost use Rattle.cal_machine.specs.declared.numbering.TheConstants.{MOST_THREADS};
+ghost use Rattle.cal_policy.specs.declared.policy.Policy.TheVariants.{Caladan};
 ghost use Rattle.cal_trace.specs.Arrivals.FitsTable.{FitsTable};
 ghost use Rattle.cal_run.specs.declared.fault.SimFault.TheVariants.{Memory};
 ghost use Rattle.cal_run.specs.declared.workers.worker.Worker.{Worker};
@@ -13,6 +14,7 @@ use crate::parts::Parts;
 use crate::workers::worker::Worker;
 use cal_kthread::{BareTeam, BareThread, open_bare_threads};
 use cal_machine::Config;
+use cal_policy::Policy;
 use cal_sched::{BareScheduler, Watch};
 use cal_trace::Arrivals;
 use std::alloc::{AllocError, Global};
@@ -20,22 +22,55 @@ use std::alloc::{AllocError, Global};
 /// The most rounds that the watch of a run makes.
 pub const MOST_ROUNDS: usize = 1024;
 
-/// The parts of a run on these arrivals: a scheduler, a worker for each kernel thread of the table,
-/// and a watch for as many rounds as passes, `MOST_ROUNDS` at most. None of them did anything yet.
+/// The parts of a run on these arrivals: a scheduler by this policy, a worker for each kernel thread
+/// of the table, and a watch for as many rounds as passes, `MOST_ROUNDS` at most. None of them did anything yet.
 /// Fails only when out of memory.
-pub fn open_parts(alloc: Global, config: &Config, arrivals: &Arrivals) -> Result<Parts, SimFault>
+pub fn open_parts_by(
+    alloc: Global,
+    config: &Config,
+    policy: Policy,
+    arrivals: &Arrivals,
+) -> Result<Parts, SimFault>
     requires fits { FitsTable config.now arrivals.now }
     ensures parts { IfOk result (λ parts. AreParts config.now arrivals.now 0 0 0 parts) }
+    ensures policy { IfOk result (λ parts. parts.scheduler.policy ≡ policy) }
     ensures most { IfOk result (λ parts. parts.watch.most ≡ rounds_of arrivals.now) }
     ensures memory { IfErr result (λ fault. fault ≡ Memory) }
 {
     let rounds = arrivals.passes.as_slice().len().min(MOST_ROUNDS);
-    open_parts_for(alloc, config, arrivals, rounds as u64)
+    open_parts_for(alloc, config, policy, arrivals, rounds as u64)
 }
 
-/// As `open_parts`, with a watch for no round, which takes no memory for any: for a run of which
+/// `open_parts_by` of `Policy::Caladan`.
+pub fn open_parts(alloc: Global, config: &Config, arrivals: &Arrivals) -> Result<Parts, SimFault>
+    requires fits { FitsTable config.now arrivals.now }
+    ensures parts { IfOk result (λ parts. AreParts config.now arrivals.now 0 0 0 parts) }
+    ensures policy { IfOk result (λ parts. parts.scheduler.policy ≡ Caladan) }
+    ensures most { IfOk result (λ parts. parts.watch.most ≡ rounds_of arrivals.now) }
+    ensures memory { IfErr result (λ fault. fault ≡ Memory) }
+{
+    open_parts_by(alloc, config, Policy::Caladan, arrivals)
+}
+
+/// As `open_parts_by`, with a watch for no round, which takes no memory for any: for a run of which
 /// nobody reads what the watch finds. `end_told` ends such parts; `end_parts` and `close_parts` ask
 /// for all rounds. Fails only when out of memory.
+pub fn open_unwatched_by(
+    alloc: Global,
+    config: &Config,
+    policy: Policy,
+    arrivals: &Arrivals,
+) -> Result<Parts, SimFault>
+    requires fits { FitsTable config.now arrivals.now }
+    ensures parts { IfOk result (λ parts. AreParts config.now arrivals.now 0 0 0 parts) }
+    ensures policy { IfOk result (λ parts. parts.scheduler.policy ≡ policy) }
+    ensures most { IfOk result (λ parts. parts.watch.most ≡ 0) }
+    ensures memory { IfErr result (λ fault. fault ≡ Memory) }
+{
+    open_parts_for(alloc, config, policy, arrivals, 0)
+}
+
+/// `open_unwatched_by` of `Policy::Caladan`.
 pub fn open_unwatched(
     alloc: Global,
     config: &Config,
@@ -43,21 +78,24 @@ pub fn open_unwatched(
 ) -> Result<Parts, SimFault>
     requires fits { FitsTable config.now arrivals.now }
     ensures parts { IfOk result (λ parts. AreParts config.now arrivals.now 0 0 0 parts) }
+    ensures policy { IfOk result (λ parts. parts.scheduler.policy ≡ Caladan) }
     ensures most { IfOk result (λ parts. parts.watch.most ≡ 0) }
     ensures memory { IfErr result (λ fault. fault ≡ Memory) }
 {
-    open_parts_for(alloc, config, arrivals, 0)
+    open_unwatched_by(alloc, config, Policy::Caladan, arrivals)
 }
 
-/// The parts of a run, with a watch for so many rounds.
+/// The parts of a run by this policy, with a watch for so many rounds.
 fn open_parts_for(
     alloc: Global,
     config: &Config,
+    policy: Policy,
     arrivals: &Arrivals,
     rounds: u64,
 ) -> Result<Parts, SimFault>
     requires fits { FitsTable config.now arrivals.now }
     ensures parts { IfOk result (λ parts. AreParts config.now arrivals.now 0 0 0 parts) }
+    ensures policy { IfOk result (λ parts. parts.scheduler.policy ≡ policy) }
     ensures most { IfOk result (λ parts. parts.watch.most ≡ rounds) }
     ensures memory { IfErr result (λ fault. fault ≡ Memory) }
 {
@@ -70,7 +108,7 @@ fn open_parts_for(
     } = open_bare_threads(alloc, config)?;
     let workers = open_workers(alloc, threads, arrivals)?;
     let config = config.copy(alloc)?;
-    let Ok(scheduler) = BareScheduler::new(alloc, config, observers, senders) else {
+    let Ok(scheduler) = BareScheduler::new_by(alloc, config, policy, observers, senders) else {
         return Err(SimFault::Memory);
     };
     let Ok(watch) = Watch::new(alloc, watchers, rounds) else {

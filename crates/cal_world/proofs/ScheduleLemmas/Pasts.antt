@@ -1,9 +1,10 @@
 -- A legal list, one event more.
 use Rattle.std.proofs.Common.{List, [], ◌∷◌, ◌++◌}
 use Rattle.cal_machine.specs.Table.{Table}
+use Rattle.cal_policy.specs.declared.policy.Policy.{Policy}
 use Rattle.cal_world.specs.declared.event.Event.{Event}
-use Rattle.cal_world.specs.World.{IsAllowed, IsLegalList}
+use Rattle.cal_world.specs.World.{IsAllowedBy, IsLegalListBy}
 use Rattle.cal_world.proofs.ListLemmas.OneMore.{each_more}
 
-pub list_more : (table : Table) (events : List Event) (event : Event) → IsLegalList table events → IsAllowed table events event → IsLegalList table (events ++ event ∷ [])
-list_more table events event legal allowed = record { each = each_more (IsAllowed table) events event legal.each allowed }
+pub list_more : (policy : Policy) (table : Table) (events : List Event) (event : Event) → IsLegalListBy policy table events → IsAllowedBy policy table events event → IsLegalListBy policy table (events ++ event ∷ [])
+list_more policy table events event legal allowed = record { each = each_more (IsAllowedBy policy table) events event legal.each allowed }

@@ -18,7 +18,8 @@ use Rattle.cal_policy.specs.Laws.{ActionIsOneMore, LookIsOneMore}
 use Rattle.cal_guard.specs.Permitted.{ArePermitted}
 use Rattle.cal_guard.specs.Histories.{PermittedIsSafe}
 use Rattle.cal_signal.specs.declared.look.Look.TheVariants as found
-use Rattle.cal_policy.specs.Pass.{pass_of}
+use Rattle.cal_policy.specs.declared.policy.Policy.{Policy}
+use Rattle.cal_policy.specs.Policies.{pass_by}
 use Rattle.cal_policy.specs.Setting.{setting_of}
 use Rattle.cal_signal.specs.declared.shown.Shown.{Shown}
 use Rattle.cal_policy.specs.declared.board.holders.Placement as placements
@@ -37,7 +38,7 @@ use Rattle.cal_world.specs.declared.illegal.Illegal.TheVariants as causes
 use Rattle.cal_world.specs.Projections.{history_in, actions_in, entries_for, publishes_in, takes_in, next_command, took, entry_in}
 use Rattle.cal_world.specs.Threads.{published_by, read_floor}
 use Rattle.cal_world.specs.Looks.{look_made, looks_since, since_decide, record_at, decided_at}
-use Rattle.cal_world.specs.World.{IsItsState, IsAllowed}
+use Rattle.cal_world.specs.World.{IsItsState, IsAllowedBy}
 use Rattle.cal_world.specs.Safe.{IsSafeEvent, IsSafeList}
 use Rattle.cal_world.specs.Reads.{IsBusy, SkipsBusy, AllSkipsAreBusy, IsOnReads, ReadsAreWhole}
 use Rattle.cal_machine.specs.declared.command.Command.{Command}
@@ -53,6 +54,7 @@ use Rattle.cal_world.proofs.ScheduleLemmas.Invariant.{Holds, unleft_in, holds_fi
 use Rattle.cal_machine.proofs.Places.{slice_get_parts}
 use Rattle.cal_policy.proofs.HistoryLemmas.OneMore.{shown_push}
 use Rattle.cal_policy.proofs.BoardLemmas.Replayed.{looks_push}
+use Rattle.cal_policy.proofs.PolicyLemmas.{pass_from}
 
 -- what was published is in order
 
@@ -306,17 +308,17 @@ safe_on_reads table events entry inv busy pass actions causes.NotThePass =
     (pass.looks, record { input = input_fits table events entry inv busy pass; actions = actions })
 safe_on_reads table events entry inv busy pass actions causes.Memory = tt
 
-pub allowed_on_reads : (table : Table) (events : List Event) (entry : PassEntry) → Holds table events → HoldsBusy events → IsOnReads table events entry →
-    entry.actions ≡ pass_of (setting_of table (history_in events) entry) → IsAllowed table events (Decide entry)
-allowed_on_reads table events entry inv busy pass actions causes.NoThread = tt
-allowed_on_reads table events entry inv busy pass actions causes.NothingSent = tt
-allowed_on_reads table events entry inv busy pass actions causes.NotOn = tt
-allowed_on_reads table events entry inv busy pass actions causes.NotItsState = tt
-allowed_on_reads table events entry inv busy pass actions causes.NoSuchPlace = tt
-allowed_on_reads table events entry inv busy pass actions causes.OutOfTurn = sym pass.all
-allowed_on_reads table events entry inv busy pass actions causes.NotThePass =
-    (pass.looks, record { input = input_fits table events entry inv busy pass; actions = actions })
-allowed_on_reads table events entry inv busy pass actions causes.Memory = tt
+pub allowed_on_reads : (policy : Policy) (table : Table) (events : List Event) (entry : PassEntry) → Holds table events → HoldsBusy events → IsOnReads table events entry →
+    entry.actions ≡ pass_by policy (setting_of table (history_in events) entry) → IsAllowedBy policy table events (Decide entry)
+allowed_on_reads policy table events entry inv busy pass actions causes.NoThread = tt
+allowed_on_reads policy table events entry inv busy pass actions causes.NothingSent = tt
+allowed_on_reads policy table events entry inv busy pass actions causes.NotOn = tt
+allowed_on_reads policy table events entry inv busy pass actions causes.NotItsState = tt
+allowed_on_reads policy table events entry inv busy pass actions causes.NoSuchPlace = tt
+allowed_on_reads policy table events entry inv busy pass actions causes.OutOfTurn = sym pass.all
+allowed_on_reads policy table events entry inv busy pass actions causes.NotThePass =
+    (pass.looks, pass_from policy table (history_in events) entry (input_fits table events entry inv busy pass) actions)
+allowed_on_reads policy table events entry inv busy pass actions causes.Memory = tt
 
 pub holds_busy : PermittedIsSafe → ActionIsOneMore → LookIsOneMore → (table : Table) (events : List Event) → IsTable table → IsSafeList table events →
     AllSkipsAreBusy events → Holds table events × HoldsBusy events

@@ -3,6 +3,7 @@ use Rattle.std.proofs.Common.{◌≡◌, ℕ, ◌<◌, arith, List, [], ◌∷�
 use Rattle.std.specs.List.{filter_map}
 use Rattle.cal_machine.specs.Table.{Table}
 use Rattle.cal_policy.specs.declared.history.entry.PassEntry.{PassEntry}
+use Rattle.cal_policy.specs.declared.policy.Policy.{Policy}
 use Rattle.cal_policy.specs.History.{actions_of}
 use Rattle.cal_world.specs.declared.event.Event.{Event}
 use Rattle.cal_world.specs.declared.event.Event.TheVariants.{Take, Yield, Publish, Read, Skip, Decide, Watch}
@@ -13,7 +14,7 @@ use Rattle.cal_world.specs.World.Sending.{AreSent, AreGranted}
 use Rattle.cal_world.specs.World.Standing.{StandingsAreOf, PagesAreOf}
 use Rattle.cal_machine.specs.TableTasks.{threads_of_table}
 use Rattle.cal_world.specs.declared.illegal.Illegal.TheVariants.{NoThread}
-use Rattle.cal_world.specs.World.{IsAllowed}
+use Rattle.cal_world.specs.World.{IsAllowedBy}
 use Rattle.cal_world.specs.World.Present.{IsPresent, KeepsThread, KeepsThreadOf}
 use Rattle.cal_world.proofs.ScheduleLemmas.Moves.{history_same, history_more}
 use Rattle.cal_world.proofs.WorldLemmas.Noted.{standings_kept, of_other}
@@ -93,11 +94,11 @@ one table before k p was low =
     let s = was.all_standings in let g = was.all_pages in let o = was.all_sent in record { standing = omega arith; page = omega arith; sent = omega arith }
 
 -- an event that is allowed is of a thread that is kept
-pub has_thread : (table : Table) (before : List Event) (event : Event) (p : Present) → IsPresent table before p → IsAllowed table before event → KeepsThreadOf p event
-has_thread table before (Take thread) p was allowed = one table before thread p was (allowed NoThread)
-has_thread table before (Yield thread) p was allowed = one table before thread p was (allowed NoThread)
-has_thread table before (Publish thread rec) p was allowed = one table before thread p was (allowed NoThread)
-has_thread table before (Read thread number) p was allowed = one table before thread p was (allowed NoThread)
-has_thread table before (Skip thread seen) p was allowed = tt
-has_thread table before (Decide entry) p was allowed = tt
-has_thread table before (Watch thread number) p was allowed = one table before thread p was (allowed NoThread)
+pub has_thread : (policy : Policy) (table : Table) (before : List Event) (event : Event) (p : Present) → IsPresent table before p → IsAllowedBy policy table before event → KeepsThreadOf p event
+has_thread policy table before (Take thread) p was allowed = one table before thread p was (allowed NoThread)
+has_thread policy table before (Yield thread) p was allowed = one table before thread p was (allowed NoThread)
+has_thread policy table before (Publish thread rec) p was allowed = one table before thread p was (allowed NoThread)
+has_thread policy table before (Read thread number) p was allowed = one table before thread p was (allowed NoThread)
+has_thread policy table before (Skip thread seen) p was allowed = tt
+has_thread policy table before (Decide entry) p was allowed = tt
+has_thread policy table before (Watch thread number) p was allowed = one table before thread p was (allowed NoThread)

@@ -1,6 +1,7 @@
 -- When all the plain data that a world keeps is what the events say.
 use Rattle.std.specs.Prelude.{◌≡◌, ℕ, ◌<◌, List, [], ◌∷◌, ◌++◌, length}
 use Rattle.cal_machine.specs.Table.{Table, IsTable}
+use Rattle.cal_policy.specs.declared.policy.Policy.{Policy}
 use Rattle.cal_policy.specs.declared.history.look.Seen.{Seen}
 use Rattle.cal_policy.specs.declared.history.look.Seen.TheVariants.{Whole}
 use Rattle.cal_machine.specs.TableTasks.{threads_of_table}
@@ -10,7 +11,7 @@ use Rattle.cal_world.specs.declared.event.Event.TheVariants.{Read, Skip, Decide,
 use Rattle.cal_world.specs.declared.world.present.Present.{Present}
 use Rattle.cal_world.specs.Projections.{history_in, actions_in}
 use Rattle.cal_world.specs.Looks.{looks_since, record_at}
-use Rattle.cal_world.specs.World.{IsAllowed, IsLegalList}
+use Rattle.cal_world.specs.World.{IsAllowedBy, IsLegalListBy}
 use Rattle.cal_world.specs.World.Sending.{AreSent, AreGranted}
 use Rattle.cal_world.specs.World.Standing.{StandingsAreOf, PagesAreOf}
 
@@ -62,6 +63,6 @@ looks_with looks before (Decide entry) = []
 looks_with looks before _ = looks
 
 abbrev pub LooksGoOn : Type 0
-LooksGoOn = (table : Table) (before : List Event) (event : Event) → IsTable table →
-    IsLegalList table before → IsAllowed table before event →
+LooksGoOn = (policy : Policy) (table : Table) (before : List Event) (event : Event) →
+    IsTable table → IsLegalListBy policy table before → IsAllowedBy policy table before event →
     looks_since (before ++ event ∷ []) ≡ looks_with (looks_since before) before event

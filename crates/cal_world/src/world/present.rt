@@ -4,18 +4,19 @@ ghost use Rattle.std.specs.Prelude.{◌≡◌, ◌<◌, ◌++◌, ◌∷◌, [],
 ghost use Rattle.std.specs.Prelude.{OnOk, OnErr, length};
 ghost use Rattle.cal_machine.specs.Table.{Table, IsTable};
 ghost use Rattle.cal_machine.specs.TableTasks.{threads_of_table};
+ghost use Rattle.cal_policy.specs.declared.policy.Policy.{Policy};
 ghost use Rattle.cal_world.specs.declared.event.Event.{Event};
 ghost use Rattle.cal_world.specs.declared.event.Event.TheVariants.{Take, Yield, Publish};
 ghost use Rattle.cal_world.specs.declared.event.Event.TheVariants.{Read, Decide, Watch};
 ghost use Rattle.cal_world.specs.Projections.{actions_in};
 ghost use Rattle.cal_world.specs.World.Standing.{StandingsAreOf, PagesAreOf};
 ghost use Rattle.cal_world.specs.World.Sending.{AreSent};
-ghost use Rattle.cal_world.specs.World.{IsAllowed, IsLegalList, HasCommand};
+ghost use Rattle.cal_world.specs.World.{IsAllowedBy, IsLegalListBy, HasCommand};
 ghost use Rattle.cal_world.specs.Looks.{record_at};
 ghost use Rattle.cal_world.specs.World.Present.{IsPresent, KeepsThreadOf, LooksGoOn};
 
 use crate::event::Event;
-use crate::schedules::legal_lists_are_safe;
+use crate::schedules::legal_lists_are_safe_by;
 use crate::world::outbox::Outbox;
 use crate::world::page::Page;
 use crate::world::sending::{make_room, none_granted, send_all};
@@ -46,7 +47,7 @@ pub(crate) struct Present {
 fn looks_go_on()
     ensures { LooksGoOn }
 {
-    legal_lists_are_safe();
+    legal_lists_are_safe_by();
     permitted_is_safe();
     action_is_one_more();
     look_is_one_more();
@@ -198,8 +199,9 @@ impl Present {
     /// Takes in an event that is allowed. Fails only when out of memory; then nothing has changed.
     pub fn note(&mut self, alloc: Global, event: &Event) -> Result<(), AllocError>
         requires { KeepsThreadOf self.old event.now }
-        ensures ok { OnOk result ((table : Table) (before : List Event) → IsTable table →
-            IsLegalList table before → IsAllowed table before event.now →
+        ensures ok { OnOk result ((policy : Policy) (table : Table) (before : List Event) →
+            IsTable table → IsLegalListBy policy table before →
+            IsAllowedBy policy table before event.now →
             IsPresent table before self.old → IsPresent table (before ++ event.now ∷ []) self.new) }
         ensures err { OnErr result ((table : Table) (before : List Event) →
             IsPresent table before self.old → IsPresent table before self.new) }

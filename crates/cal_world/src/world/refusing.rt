@@ -3,7 +3,8 @@
 ghost use Rattle.std.specs.Prelude.{◌≡◌, ℕ, ◌<◌, ◌↔◌, List, IsTrue, IfOk, length, slice_get};
 ghost use Rattle.cal_machine.specs.Table.{Table};
 ghost use Rattle.cal_machine.specs.TableTasks.{threads_of_table};
-ghost use Rattle.cal_policy.specs.Pass.{IsPass, IsLegal};
+ghost use Rattle.cal_policy.specs.declared.policy.Policy.{Policy as PolicyOf};
+ghost use Rattle.cal_policy.specs.Policies.{IsPassBy, IsLegalBy};
 ghost use Rattle.cal_policy.specs.History.{commands_to};
 ghost use Rattle.cal_world.specs.Projections.{history_in, actions_in};
 ghost use Rattle.cal_signal.specs.Pages as pages;
@@ -14,7 +15,7 @@ ghost use Rattle.cal_world.specs.declared.event.Event.TheVariants.{Read, Skip, D
 ghost use Rattle.cal_world.specs.World.Standing.{IsOf};
 ghost use Rattle.cal_world.specs.Looks.{looks_since};
 ghost use Rattle.cal_world.specs.World.Present.{IsPresent, HasAll};
-ghost use Rattle.cal_world.specs.World.{IsRefusal, NamesThread};
+ghost use Rattle.cal_world.specs.World.{IsRefusalBy, NamesThread};
 
 use crate::event::Event;
 use crate::illegal::Illegal;
@@ -22,8 +23,7 @@ use crate::world::present::Present;
 use crate::world::standing::Standing;
 use cal_command::Command;
 use cal_machine::Config;
-use cal_policy::laws::legal_is_orderly;
-use cal_policy::{Actions, PassEntry, Record, Seen, is_pass, later, shaped};
+use cal_policy::{Actions, PassEntry, Policy, Record, Seen, is_pass_by, later, shaped};
 use cal_signal::running_word;
 use std::alloc::{AllocError, Global};
 
@@ -45,9 +45,10 @@ fn names_thread(config: &Config, event: &Event) -> bool
 /// Of a Take by a thread of the table, where this is the command that was sent to it after those
 /// that it took.
 fn refusal_of_take(next: Option<Command>) -> Option<Illegal>
-    ensures { (table : Table) (before : List Event) (k : ℕ) → k < threads_of_table table →
+    ensures { (policy : PolicyOf) (table : Table) (before : List Event) (k : ℕ) →
+        k < threads_of_table table →
         next ≡ slice_get (commands_to (actions_in before) k) (state_in before k).taken →
-        IsRefusal table before (Take k) result }
+        IsRefusalBy policy table before (Take k) result }
 {
     if next.is_some() {
         None
@@ -58,8 +59,9 @@ fn refusal_of_take(next: Option<Command>) -> Option<Illegal>
 
 /// Of a Yield by a thread of the table.
 fn refusal_of_yield(standing: &Standing) -> Option<Illegal>
-    ensures { (table : Table) (before : List Event) (k : ℕ) → k < threads_of_table table →
-        IsOf standing.now before k → IsRefusal table before (Yield k) result }
+    ensures { (policy : PolicyOf) (table : Table) (before : List Event) (k : ℕ) →
+        k < threads_of_table table →
+        IsOf standing.now before k → IsRefusalBy policy table before (Yield k) result }
 {
     if standing.core.is_some() {
         None
@@ -70,9 +72,10 @@ fn refusal_of_yield(standing: &Standing) -> Option<Illegal>
 
 /// Of a Publish by a thread of the table, after this last record on its page.
 fn refusal_of_publish(standing: &Standing, last: &Record, rec: &Record) -> Option<Illegal>
-    ensures { (table : Table) (before : List Event) (k : ℕ) → k < threads_of_table table →
+    ensures { (policy : PolicyOf) (table : Table) (before : List Event) (k : ℕ) →
+        k < threads_of_table table →
         IsOf standing.now before k → last.now ≡ pages.last_published (published_by before k) →
-        IsRefusal table before (Publish k rec.now) result }
+        IsRefusalBy policy table before (Publish k rec.now) result }
 {
     if rec.taken == standing.taken as u64
         && rec.running == running_word(standing.core)
@@ -94,9 +97,11 @@ fn refusal_of_read(
     thread: u8,
     number: u64,
 ) -> Option<Illegal>
-    ensures { (table : Table) (before : List Event) → thread < threads_of_table table →
+    ensures { (policy : PolicyOf) (table : Table) (before : List Event) →
+        thread < threads_of_table table →
         IsOf standing.now before thread → places ≡ length (page_in before thread) →
-        looks ≡ length (looks_since before) → IsRefusal table before (Read thread number) result }
+        looks ≡ length (looks_since before) →
+        IsRefusalBy policy table before (Read thread number) result }
 {
     if number < standing.read_floor || number >= places as u64 {
         Some(Illegal::NoSuchPlace)
@@ -109,9 +114,10 @@ fn refusal_of_read(
 
 /// Of a Watch of a page of the table's with so many places.
 fn refusal_of_watch(standing: &Standing, places: usize, number: u64) -> Option<Illegal>
-    ensures { (table : Table) (before : List Event) (k : ℕ) → k < threads_of_table table →
+    ensures { (policy : PolicyOf) (table : Table) (before : List Event) (k : ℕ) →
+        k < threads_of_table table →
         IsOf standing.now before k → places ≡ length (page_in before k) →
-        IsRefusal table before (Watch k number) result }
+        IsRefusalBy policy table before (Watch k number) result }
 {
     if number < standing.watch_floor || number >= places as u64 {
         Some(Illegal::NoSuchPlace)
@@ -122,8 +128,10 @@ fn refusal_of_watch(standing: &Standing, places: usize, number: u64) -> Option<I
 
 /// Of a Skip of a thread of the table, after so many looks since the last Decide.
 fn refusal_of_skip(looks: usize, thread: u8, seen: Seen) -> Option<Illegal>
-    ensures { (table : Table) (before : List Event) → thread < threads_of_table table →
-        looks ≡ length (looks_since before) → IsRefusal table before (Skip thread seen) result }
+    ensures { (policy : PolicyOf) (table : Table) (before : List Event) →
+        thread < threads_of_table table →
+        looks ≡ length (looks_since before) →
+        IsRefusalBy policy table before (Skip thread seen) result }
 {
     if thread as usize != looks {
         return Some(Illegal::OutOfTurn);
@@ -143,34 +151,37 @@ fn same_looks(a: &[Seen], b: &[Seen]) -> bool
     a == b
 }
 
-/// Whether the entry is the pass after a legal history. Fails only when out of memory.
+/// Whether the entry is the policy's pass after a history of the policy. Fails only when out of
+/// memory.
 fn is_next_pass(
     alloc: Global,
     config: &Config,
+    policy: Policy,
     history: &[PassEntry],
     entry: &PassEntry,
 ) -> Result<bool, AllocError>
-    requires { IsLegal config.now history.now }
-    ensures { IfOk result (λ answer. IsTrue answer ↔ IsPass config.now history.now entry.now) }
+    requires { IsLegalBy policy config.now history.now }
+    ensures { IfOk result (λ answer.
+        IsTrue answer ↔ IsPassBy policy config.now history.now entry.now) }
 {
     config.limits();
-    legal_is_orderly();
     let mut actions = Actions::reserved(alloc)?;
-    Ok(is_pass(config, history, entry, &mut actions))
+    Ok(is_pass_by(policy, config, history, entry, &mut actions))
 }
 
-/// Of a Decide after a legal history and these looks. Fails only when out of memory.
+/// Of a Decide after a history of the policy and these looks. Fails only when out of memory.
 fn refusal_of_decide(
     alloc: Global,
     config: &Config,
+    policy: Policy,
     history: &[PassEntry],
     looks: &[Seen],
     entry: &PassEntry,
 ) -> Result<Option<Illegal>, AllocError>
-    requires { IsLegal config.now history.now }
+    requires { IsLegalBy policy config.now history.now }
     ensures { IfOk result (λ refusal. (before : List Event) →
         history.now ≡ history_in before → looks.now ≡ looks_since before →
-        IsRefusal config.now before (Decide entry.now) refusal) }
+        IsRefusalBy policy config.now before (Decide entry.now) refusal) }
 {
     if looks.len() != config.threads() {
         return Ok(Some(Illegal::OutOfTurn));
@@ -178,7 +189,7 @@ fn refusal_of_decide(
     if !same_looks(entry.input.seen.as_slice(), looks) {
         return Ok(Some(Illegal::NotThePass));
     }
-    if is_next_pass(alloc, config, history, entry)? {
+    if is_next_pass(alloc, config, policy, history, entry)? {
         Ok(None)
     } else {
         Ok(Some(Illegal::NotThePass))
@@ -192,12 +203,14 @@ impl Present {
         &self,
         alloc: Global,
         config: &Config,
+        policy: Policy,
         event: &Event,
     ) -> Result<Option<Illegal>, AllocError>
         requires all { HasAll config.now self.now }
-        requires legal { IsLegal config.now self.now.history.items }
+        requires legal { IsLegalBy policy config.now self.now.history.items }
         ensures { IfOk result (λ refusal. (before : List Event) →
-            IsPresent config.now before self.now → IsRefusal config.now before event.now refusal) }
+            IsPresent config.now before self.now →
+            IsRefusalBy policy config.now before event.now refusal) }
     {
         if !names_thread(config, event) {
             return Ok(Some(Illegal::NoThread));
@@ -219,7 +232,7 @@ impl Present {
             }
             Event::Skip(k, seen) => Ok(refusal_of_skip(self.looks.len(), *k, *seen)),
             Event::Decide(entry) => {
-                refusal_of_decide(alloc, config, &self.history, &self.looks, entry)
+                refusal_of_decide(alloc, config, policy, &self.history, &self.looks, entry)
             }
             Event::Watch(k, number) => {
                 let places = self.pages[*k as usize].places();

@@ -25,7 +25,7 @@ returns-clause-run c =
     let closed : HaveClosed workers s.observers w.observers s.senders journals lefts =
     rw (← c.end-observers.ensures.observers, ← c.end-watchers.ensures.observers, ← c.end-observers.ensures.senders) c.in_ok-left.ensures in
     let watched = filled_watched table arrivals v.given v.observers v.rounds (many_watchers table s v workers journals lefts kept c.end-watchers.ensures.watched together closed) c.end-watchers.ensures.watched in
-    let linearised = c.linear_is_legal.ensures table s.history journals w.rounds
+    let linearised = c.linear_is_legal_by.ensures s.policy table s.history journals w.rounds
     (are_of_one_run table s w workers journals lefts kept watched together closed c.fitting_looks_are_publications.ensures)
     (are_watched table s w workers journals lefts kept watched together closed) in
     rw (c.new.ensures, c.new-2.ensures, c.end-watchers.ensures.rounds)

@@ -7,6 +7,7 @@ pub loop-r-init : goal.loop-r-init
 loop-r-init g c = record {
   made = before_rounds c.args.parts.now.scheduler.table c.args.arrivals.now c.args.parts.now c.requires.opened;
   most = refl;
+  policy = refl;
   suits = c.requires.suits;
   collected = λ held. held;
 }
@@ -27,6 +28,7 @@ loop-r-preserved g c =
     let P : Table → Type 0 = λ t. g.C.Collector.suits c.make_round.new.collector t in
     record {
       most = c.in_ok-make_round.ensures.most ∙ c.loop-r.invariant.most;
+      policy = c.in_ok-make_round.ensures.policy ∙ c.loop-r.invariant.policy;
       suits = subst P made.together.same_table c.in_ok-make_round.ensures.suits;
       made = with_table _ c.args.parts.now.scheduler.table c.args.arrivals.now _ c.make_round.new.parts made.together.same_table c.in_ok-make_round.ensures.made;
       collected = λ held. c.in_ok-make_round.ensures.collected (c.loop-r.invariant.collected held);

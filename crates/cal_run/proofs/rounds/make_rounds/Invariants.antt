@@ -8,6 +8,7 @@ abbrev pub invariant-loop-r : goal.invariant-loop-r
 invariant-loop-r g l = record {
   made : AreAfterRounds l.initial.parts.scheduler.table l.arrivals l.r l.parts;
   most : l.parts.watch.most ≡ l.initial.parts.watch.most;
+  policy : l.parts.scheduler.policy ≡ l.initial.parts.scheduler.policy;
   suits : g.C.Collector.suits l.collector l.initial.parts.scheduler.table;
   collected : g.C.Collector.holds l.initial.collector l.initial.parts.scheduler.history (journals_of l.initial.parts.workers.items) →
       g.C.Collector.holds l.collector l.parts.scheduler.history (journals_of l.parts.workers.items);

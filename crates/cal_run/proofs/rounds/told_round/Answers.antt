@@ -1,7 +1,7 @@
 use Rattle.std.proofs.Common.{◌≡◌, ◌+◌, List, sym, ap, subst, ◌∙◌, length, min, arith}
 use Rattle.std.specs.Vec.{with_items}
 use Rattle.std.proofs.lemmas.List.{length-map, with_items_is}
-use Rattle.cal_run.specs.Parts.{WatchSeat}
+use Rattle.cal_run.specs.Parts.{SchedulerSeat, WatchSeat}
 use Rattle.cal_run.specs.Workers.{HaveMade, Seat, seat_of, seats_of}
 use Rattle.cal_run.specs.declared.parts.Parts.{Parts}
 use Rattle.cal_run.specs.declared.workers.worker.Worker.{Worker}
@@ -34,3 +34,7 @@ returns-clause-legal c = c.in_ok-entry.ensures.legal c.requires.legal
 -- the watch stays in its seat
 pub returns-clause-most : goal.returns-clause-most
 returns-clause-most c = ap (λ (w : WatchSeat). w.most) c.watch_of_round.ensures.seat
+
+-- and the scheduler in its own, with its policy
+pub returns-clause-policy : goal.returns-clause-policy
+returns-clause-policy c = ap (λ (s : SchedulerSeat). s.policy) c.told_pass.ensures.seat

@@ -1,4 +1,5 @@
 use Rattle.std.proofs.Common.{List, length, sym, subst, ap, ◌∙◌}
+use Rattle.cal_run.specs.Parts.{SchedulerSeat}
 use Rattle.cal_run.specs.Workers.{HaveMade, seats_of}
 use Rattle.cal_run.specs.declared.workers.worker.Worker.{Worker}
 use Rattle.cal_sched.specs.Scheduler.{SchedulerView}
@@ -26,6 +27,7 @@ returns-in_ok-made-in-Ok-clause-ran g c =
     record {
       ran = ran _ _ before c.in_ok-made-in-Ok.made.0 c.requires.parts.opened c.requires.parts.most (subst P (sym apart.scheduler) passes) (subst Q (sym apart.workers) turns)
           (ap seats_of apart.workers ∙ seats) (subst R (sym apart.watch) rounds);
+      policy = ap (λ (s : SchedulerView). s.policy) apart.scheduler ∙ ap (λ (s : SchedulerSeat). s.policy) passes.seat;
       collected = apart.collected;
       passes_asked = rw (← c.in_ok-passing.ensures.gate, ← c.in_ok-passing.ensures.arrivals) joined.asked;
       turns_asked = rw both.1 at c.run_others-others.ensures.asked;

@@ -1,5 +1,5 @@
-use Rattle.cal_world.proofs.ScheduleLemmas.Safety.{legal_history}
+use Rattle.cal_policy.specs.declared.policy.Policy.TheVariants.{Caladan}
 use Rattle.cal_world.proofs.schedules.histories_are_legal.Goals as goal
 
 pub returns : goal.returns
-returns c = λ table events ok is n le. legal_history table events is n le
+returns c = c.histories_are_legal_by.ensures Caladan

@@ -20,8 +20,8 @@ pub returns-clause-parts : goal.returns-clause-parts
 returns-clause-parts c =
     let team = c.in_ok-threads.field-0 in
     let arrivals = c.args.arrivals.now in
-    let fresh : Table → SchedulerView = λ t. record { table = t; history = []; observers = team.observers.items; senders = team.senders.items } in
-    are_opened c.args.config.now arrivals c.args.rounds _ team.threads.items team.observers.items team.senders.items team.watchers.items
+    let fresh : Table → SchedulerView = λ t. record { table = t; policy = c.args.policy; history = []; observers = team.observers.items; senders = team.senders.items } in
+    are_opened c.args.policy c.args.config.now arrivals c.args.rounds _ team.threads.items team.observers.items team.senders.items team.watchers.items
     c.in_ok-threads.ensures.count c.in_ok-threads.ensures.opened c.in_ok-threads.ensures.team c.in_ok-workers.ensures.threads c.in_ok-workers.ensures.made
     (c.in-Ok.ensures.made ∙ ap fresh c.in_ok-config.ensures)
     c.in-Ok-new.ensures.made

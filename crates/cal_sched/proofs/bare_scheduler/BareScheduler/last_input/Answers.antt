@@ -16,20 +16,20 @@ pub input-requires-clause-all : goal.input-requires-clause-all
 input-requires-clause-all c =
     let s = c.self.inside in
     let is = c.requires.made in
-    let whole : history_of s.config s.past ≡ is.0 ++ is.1 ∷ [] = ap (λ (v : SchedulerView). v.history) c.self.view_is ∙ is.2 in
-    let last = last_made s.config s.past is.0 is.1 whole in
+    let whole : history_of s.book.policy s.config s.past ≡ is.0 ++ is.1 ∷ [] = ap (λ (v : SchedulerView). v.history) c.self.view_is ∙ is.2 in
+    let last = last_made s.book.policy s.config s.past is.0 is.1 whole in
     let count : s.looks.value.count ≡ threads_of_table s.config = (c.self.invariant.4 last.front last.made last.whole).1 in
     rw c.deref.ensures count
 
 pub returns : goal.returns
 returns c = λ before entry is clock figure.
     let s = c.self.inside in
-    let whole : history_of s.config s.past ≡ before ++ entry ∷ [] = ap (λ (v : SchedulerView). v.history) c.self.view_is ∙ is in
-    let last = last_made s.config s.past before entry whole in
-    let h : List PassEntry = history_of s.config last.front in
-    let made : PassEntry = entry_of s.config h last.made in
+    let whole : history_of s.book.policy s.config s.past ≡ before ++ entry ∷ [] = ap (λ (v : SchedulerView). v.history) c.self.view_is ∙ is in
+    let last = last_made s.book.policy s.config s.past before entry whole in
+    let h : List PassEntry = history_of s.book.policy s.config last.front in
+    let made : PassEntry = entry_of s.book.policy s.config h last.made in
     let opened : IsOpenAt s.config h last.made.found s.looks.value = (c.self.invariant.4 last.front last.made last.whole).0 in
-    let pushed : history_of s.config s.past ≡ h ++ made ∷ [] = ap (history_of s.config) last.whole ∙ history_push s.config last.front last.made in
+    let pushed : history_of s.book.policy s.config s.past ≡ h ++ made ∷ [] = ap (history_of s.book.policy s.config) last.whole ∙ history_push s.book.policy s.config last.front last.made in
     let after : IsStateAfter (board_in s.book) (h ++ made ∷ []) = subst (IsStateAfter (board_in s.book)) pushed c.self.invariant.1 in
     let input : ℕ → ℕ → Input = λ n b. judged_input s.config h n b last.made.found in
     let at_clock : last.made.clock ≡ c.args.now = sym (ap (λ (e : PassEntry). e.input.now) last.entry_is) ∙ clock in

@@ -3,6 +3,7 @@ use Rattle.cal_signal.specs.Ends.{ObserverView}
 use Rattle.cal_command.specs.Rings.{SenderView}
 use Rattle.cal_policy.specs.declared.history.action.Action.{Action}
 use Rattle.cal_policy.specs.declared.history.entry.PassEntry.{PassEntry}
+use Rattle.cal_policy.specs.declared.policy.Policy.{Policy}
 use Rattle.cal_policy.specs.Book.{board_in}
 use Rattle.cal_policy.specs.State.{IsStateAfter}
 use Rattle.cal_policy.specs.Judgement.OpenInput.{judged_input}
@@ -16,6 +17,7 @@ use Rattle.cal_sched.specs.Scheduler.{SchedulerView, IsKept}
 use Rattle.cal_sched.proofs.Lists.{written_whole}
 use Rattle.cal_sched.proofs.Passed.{may_send, kept_after}
 use Rattle.cal_sched.proofs.Past.{history_push, last_push}
+use Rattle.cal_sched.proofs.PolicyLemmas.{no_news_by}
 use Rattle.cal_sched.proofs.bare_scheduler.BareScheduler.step.Goals as goal
 use Rattle.cal_sched.proofs.bare_scheduler.BareScheduler.step.Goals.{After-as_mut_slice-3, After-drop-pass}
 
@@ -23,7 +25,8 @@ use Rattle.cal_sched.proofs.bare_scheduler.BareScheduler.step.Goals.{After-as_mu
 abbrev start : After-as_mut_slice-3 → SchedulerView
 start c = record {
   table = c.self.inside.config;
-  history = history_of c.self.inside.config c.self.inside.past;
+  policy = c.self.inside.book.policy;
+  history = history_of c.self.inside.book.policy c.self.inside.config c.self.inside.past;
   observers = c.self.inside.observers.items;
   senders = c.self.inside.senders.items;
 }
@@ -34,7 +37,7 @@ made c = record { clock = c.args.now; bandwidth = c.args.bandwidth; found = c.fi
 
 -- the pass, and the history with it
 abbrev entry : After-as_mut_slice-3 → PassEntry
-entry c = entry_of (start c).table (start c).history (made c)
+entry c = entry_of (start c).policy (start c).table (start c).history (made c)
 
 abbrev after : After-as_mut_slice-3 → List PassEntry
 after c = (start c).history ++ entry c ∷ []
@@ -59,18 +62,19 @@ decided c =
     let pages : c.as_mut_slice.result.now ≡ s.observers = c.as_mut_slice.ensures.value in
     let rings : c.as_mut_slice-2.result.now ≡ s.senders = c.as_mut_slice-2.ensures.value in
     let finds : HaveFound s.observers looked s.senders asked found = rw (pages, rings) at c.find_news.ensures.found in
-    let quiet : SettledAreNoNews s.table s.history = c.settled_is_no_news.ensures s.table s.history c.limits.ensures kept.legal in
+    let quiet : SettledAreNoNews s.table s.history = no_news_by c.settled_is_no_news.ensures s.policy s.table s.history c.limits.ensures kept.legal in
     let so : HaveFoundSo s.history c.as_mut_slice.result.now = rw pages kept.looks in
     let came : IsOpenAt s.table s.history found c.find_news.new.pass = c.find_news.ensures.taken s.history quiet (c.board.ensures.agrees s.history agrees) so in
     let opened : IsOpenAt s.table s.history found c.deref.result.now = rw c.deref.ensures came in
     let ring_items = c.self.inside.senders in
     let many_rings : length asked ≡ length ring_items.items = finds.rings in
+    let next = c.pass.ensures.own s.history found kept.legal agrees opened in
     record {
       kept = kept;
       finds = finds;
       opened = came;
-      acts = c.pass.ensures.acts s.history found kept.legal agrees opened;
-      agreed = subst (IsStateAfter (board_in c.pass.new.self)) (ap (λ (l : List Action). let e : PassEntry = record { input = judged_input s.table s.history c.args.now c.args.bandwidth found; actions = l } in s.history ++ e ∷ []) (c.pass.ensures.acts s.history found kept.legal agrees opened)) (c.pass.ensures.agrees s.history found kept.legal agrees opened);
+      acts = next.acts;
+      agreed = subst (IsStateAfter (board_in c.pass.new.self)) (ap (λ (l : List Action). let e : PassEntry = record { input = judged_input s.table s.history c.args.now c.args.bandwidth found; actions = l } in s.history ++ e ∷ []) next.acts) next.agrees;
       rung = written_whole ring_items.len asked ring_items.items ring_items.ok.0 many_rings;
     }
 
@@ -80,11 +84,11 @@ find_news-requires-clause-begun c = λ h. rw c.deref_mut-2.ensures.value (c.begi
 pub send_commands-requires-clause-may : goal.send_commands-requires-clause-may
 send_commands-requires-clause-may c =
     let was = decided c in
-    rw (c.as_mut_slice-3.ensures.value, was.rung)
-    (may_send (start c) c.args.now c.args.bandwidth c.find_news.new.observers c.find_news.new.senders c.find_news.new.found c.pass.new.self was.kept was.finds was.agreed)
+    rw (c.as_mut_slice-3.ensures.value, was.rung, c.pass.ensures.policy)
+    (may_send (start c) c.args.now c.args.bandwidth c.find_news.new.observers c.find_news.new.senders c.find_news.new.found c.pass.new.self c.pass.ensures.policy was.kept was.finds was.agreed)
 
 pub send_commands-requires-clause-made : goal.send_commands-requires-clause-made
-send_commands-requires-clause-made c = c.as_slice.ensures ∙ (decided c).acts
+send_commands-requires-clause-made c = rw c.pass.ensures.policy (c.as_slice.ensures ∙ (decided c).acts)
 
 -- the pass at the end, and as it began to send
 abbrev sending : After-drop-pass → After-as_mut_slice-3
@@ -99,7 +103,8 @@ end c =
     let pages = c.self.inside.observers in
     let rings = c.self.inside.senders in record {
       table = c.self.inside.config;
-      history = history_of c.self.inside.config c.note.new.self;
+      policy = c.pass.new.self.policy;
+      history = history_of c.pass.new.self.policy c.self.inside.config c.note.new.self;
       observers = take pages.len (looked ++ drop (length looked) pages.items);
       senders = take rings.len (sent ++ drop (length sent) (take rings.len (asked ++ drop (length asked) rings.items)));
     }
@@ -108,8 +113,8 @@ end c =
 record Sent (c : After-drop-pass) : Type 0 where
   was : Decided (sending c)
   sends : HaveSent c.find_news.new.senders c.send_commands.new.senders (after (sending c))
-  history : history_of c.self.inside.config c.note.new.self ≡ after (sending c)
-  ends : end c ≡ record { table = c.self.inside.config; history = after (sending c); observers = c.find_news.new.observers; senders = c.send_commands.new.senders }
+  history : history_of c.pass.new.self.policy c.self.inside.config c.note.new.self ≡ after (sending c)
+  ends : end c ≡ record { table = c.self.inside.config; policy = c.self.inside.book.policy; history = after (sending c); observers = c.find_news.new.observers; senders = c.send_commands.new.senders }
 
 all_sent : (c : After-drop-pass) → Sent c
 all_sent c =
@@ -122,13 +127,16 @@ all_sent c =
     let many_pages : length looked ≡ length pages.items = was.finds.pages in
     let paged : take pages.len (looked ++ drop (length looked) pages.items) ≡ looked = written_whole pages.len looked pages.items pages.ok.0 many_pages in
     let given : c.as_mut_slice-3.result.now ≡ asked = c.as_mut_slice-3.ensures.value ∙ was.rung in
-    let history : history_of c.self.inside.config c.note.new.self ≡ after (sending c) =
-    ap (history_of c.self.inside.config) c.note.ensures ∙ history_push c.self.inside.config c.self.inside.past (made (sending c)) in
-    let sends : HaveSent asked sent (after (sending c)) = rw given at c.send_commands.ensures in
+    let by : Policy = c.self.inside.book.policy in
+    let same : c.pass.new.self.policy ≡ by = c.pass.ensures.policy in
+    let history : history_of c.pass.new.self.policy c.self.inside.config c.note.new.self ≡ after (sending c) =
+    ap (λ (p : Policy). history_of p c.self.inside.config c.note.new.self) same
+    ∙ ap (history_of by c.self.inside.config) c.note.ensures ∙ history_push by c.self.inside.config c.self.inside.past (made (sending c)) in
+    let sends : HaveSent asked sent (after (sending c)) = rw (given, same) at c.send_commands.ensures in
     let many_sent : length sent ≡ length asked = sends.rings in
     let many_rings : length asked ≡ length rings.items = was.finds.rings in
     let rung : take rings.len (sent ++ drop (length sent) asked) ≡ sent = written_whole rings.len sent asked (rings.ok.0 ∙ sym many_rings) many_sent in
-    record { was = was; sends = sends; history = history; ends = rw (history, paged, was.rung, rung) refl }
+    record { was = was; sends = sends; history = history; ends = rw (history, same, paged, was.rung, rung) refl }
 
 kept : (c : After-drop-pass) → IsKept (end c)
 kept c =
@@ -143,12 +151,15 @@ pub invariant_of-self : goal.invariant_of-self
 invariant_of-self c =
     let all = all_sent c in
     let s : SchedulerView = start (sending c) in
-    let counted : c.self.inside.passes + 1 ≡ length (history_of c.self.inside.config c.note.new.self) =
+    let counted : c.self.inside.passes + 1 ≡ length (history_of c.pass.new.self.policy c.self.inside.config c.note.new.self) =
     ap (λ n. n + 1) c.self.invariant.3 ∙ sym (length-append s.history (entry (sending c) ∷ [])) ∙ ap length (sym all.history) in
-    let last : AreLast c.self.inside.config c.note.new.self c.find_news.new.pass =
-    subst (λ (l : List FoundPass). AreLast c.self.inside.config l c.find_news.new.pass) (sym c.note.ensures)
-    (last_push c.self.inside.config c.self.inside.past (made (sending c)) c.find_news.new.pass all.was.opened c.find_news.ensures.all) in
-    (kept c, rw all.history all.was.agreed, c.pass.ensures.of, counted, last)
+    let by : Policy = c.self.inside.book.policy in
+    let last : AreLast by c.self.inside.config c.note.new.self c.find_news.new.pass =
+    subst (λ (l : List FoundPass). AreLast by c.self.inside.config l c.find_news.new.pass) (sym c.note.ensures)
+    (last_push by c.self.inside.config c.self.inside.past (made (sending c)) c.find_news.new.pass all.was.opened c.find_news.ensures.all) in
+    let ever : AreLast c.pass.new.self.policy c.self.inside.config c.note.new.self c.find_news.new.pass =
+    subst (λ (p : Policy). AreLast p c.self.inside.config c.note.new.self c.find_news.new.pass) (sym c.pass.ensures.policy) last in
+    (kept c, rw all.history all.was.agreed, c.pass.ensures.of, counted, ever)
 
 pub returns-clause-passed : goal.returns-clause-passed
 returns-clause-passed c =
@@ -160,6 +171,7 @@ returns-clause-passed c =
       history = refl;
       sends = all.sends;
       table = refl;
+      policy = refl;
     }) in
     subst (λ (before : SchedulerView). IsPassed c.args.now c.args.bandwidth before (end c)) c.self.view_is at_start
 

@@ -3,7 +3,7 @@ use Rattle.std.proofs.lemmas.Result.{IfOk-weaker}
 use Rattle.cal_trace.specs.declared.arrivals.GivenPass.{GivenPass}
 use Rattle.cal_run.specs.Parts.{rounds_of}
 use Rattle.cal_run.specs.declared.parts.Parts.{Parts}
-use Rattle.cal_run.proofs.parts.opening.open_parts.Goals as goal
+use Rattle.cal_run.proofs.parts.opening.open_parts_by.Goals as goal
 
 pub returns-clause-most : goal.returns-clause-most
 returns-clause-most c =

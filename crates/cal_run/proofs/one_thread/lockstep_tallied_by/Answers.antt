@@ -1,14 +1,16 @@
-use Rattle.std.proofs.Common.{◌≡◌, length, refl, ◌∙◌, arith}
+use Rattle.std.proofs.Common.{◌≡◌, length, refl, subst, ◌∙◌, arith}
 use Rattle.std.specs.List.{AllZip}
 use Rattle.std.proofs.lemmas.List.{length-map}
 use Rattle.cal_trace.specs.Report.Summary.{IsTallyOf}
-use Rattle.cal_run.specs.Outcome.{outcome_of}
+use Rattle.cal_policy.specs.declared.policy.Policy.{Policy}
+use Rattle.cal_run.specs.Outcome.{IsRunEndBy, outcome_of}
 use Rattle.cal_run.specs.Parts.{filled}
 use Rattle.cal_run.specs.Workers.{journals_of}
+use Rattle.cal_run.specs.declared.outcome.RunEnd.{RunEnd}
 use Rattle.cal_run.specs.declared.workers.worker.Worker.{Worker}
 use Rattle.cal_run.proofs.CollectorLemmas.Opened.{no_turn_yet, none_counted}
 use Rattle.cal_run.proofs.RoundsLemmas.Rounds.{unwatched_end}
-use Rattle.cal_run.proofs.one_thread.lockstep_tallied.Goals as goal
+use Rattle.cal_run.proofs.one_thread.lockstep_tallied_by.Goals as goal
 
 pub end_run-requires-clause-made : goal.end_run-requires-clause-made
 end_run-requires-clause-made c =
@@ -31,9 +33,11 @@ returns-clause-run c =
     let many : length journals ≡ c.len.result = omega (arith, size, own, threads) in
     let fresh : AllZip IsTallyOf journals c.in_ok-tallies.tallies.tallies.items = rw c.in_ok-tallies.ensures (none_counted journals c.len.result many (no_turn_yet arrivals opened.workers.items are.turns)) in
     let held : AllZip IsTallyOf (journals_of made.workers.items) c.make_rounds.new.collector.tallies.items = c.in_ok-make_rounds.ensures.collected fresh in
+    let end : RunEnd = record { history = made.scheduler.history; journals = journals_of made.workers.items; left = c.in_ok-left.field-0.left; watched = filled c.args.config.now arrivals c.in_ok-left.field-0.watched } in
+    let R : Policy → Type 0 = λ p. IsRunEndBy p c.args.config.now arrivals end in
     record {
-      outcome = outcome_of (record { history = made.scheduler.history; journals = journals_of made.workers.items; left = c.in_ok-left.field-0.left; watched = filled c.args.config.now arrivals c.in_ok-left.field-0.watched });
-      run = c.in_ok-left.ensures.run;
+      outcome = outcome_of end;
+      run = subst R (c.in_ok-make_rounds.ensures.policy ∙ c.in_ok-parts.ensures.policy) c.in_ok-left.ensures.run;
       tallies = rw c.new-2.ensures held;
       left = refl;
     }

@@ -4,13 +4,15 @@ use Rattle.cal_kthread.specs.declared.journal.entry.Entry.{Entry}
 use Rattle.cal_machine.specs.Table.{Table}
 use Rattle.cal_machine.specs.TableTasks.{threads_of_table}
 use Rattle.cal_policy.specs.declared.history.entry.PassEntry.{PassEntry}
-use Rattle.cal_run.specs.Outcome.{outcome_of}
+use Rattle.cal_policy.specs.declared.policy.Policy.{Policy}
+use Rattle.cal_run.specs.Outcome.{IsRunEndBy, outcome_of}
 use Rattle.cal_run.specs.Parts.{filled}
 use Rattle.cal_run.specs.Workers.{journals_of, seat_of}
+use Rattle.cal_run.specs.declared.outcome.RunEnd.{RunEnd}
 use Rattle.cal_run.specs.declared.workers.worker.Worker.{Worker}
 use Rattle.cal_run.proofs.CollectorLemmas.Opened.{all_empty, no_pass_yet, no_turn_yet}
 use Rattle.cal_run.proofs.RoundsLemmas.Rounds.{unwatched_end}
-use Rattle.cal_run.proofs.one_thread.lockstep_collected.Goals as goal
+use Rattle.cal_run.proofs.one_thread.lockstep_collected_by.Goals as goal
 
 pub make_rounds-requires-clause-suits : goal.make_rounds-requires-clause-suits
 make_rounds-requires-clause-suits g c =
@@ -41,9 +43,11 @@ returns-clause-run g c =
     let P : List (List Entry) → Type 0 = λ l. g.C.Collector.holds c.args.collector.now [] l in
     let Q : List PassEntry → Type 0 = λ h. g.C.Collector.holds c.args.collector.now h journals in
     let held : Q opened.scheduler.history = subst Q (sym (no_pass_yet arrivals opened.scheduler are.passes)) (subst P nothing c.requires.opened) in
+    let end : RunEnd = record { history = made.scheduler.history; journals = journals_of made.workers.items; left = c.in_ok-left.field-0.left; watched = filled c.args.config.now arrivals c.in_ok-left.field-0.watched } in
+    let R : Policy → Type 0 = λ p. IsRunEndBy p c.args.config.now arrivals end in
     record {
-      outcome = outcome_of (record { history = made.scheduler.history; journals = journals_of made.workers.items; left = c.in_ok-left.field-0.left; watched = filled c.args.config.now arrivals c.in_ok-left.field-0.watched });
-      run = c.in_ok-left.ensures.run;
+      outcome = outcome_of end;
+      run = subst R (c.in_ok-make_rounds.ensures.policy ∙ c.in-Ok.ensures.policy) c.in_ok-left.ensures.run;
       collected = c.in_ok-make_rounds.ensures.collected held;
       left = refl;
     }
