@@ -1,0 +1,50 @@
+-- A paced run while it is made.
+use Rattle.std.specs.Prelude.{◌≡◌, ◌*◌, ◌<◌, ℕ, List, [], ◌∷◌, Some, length, min, slice_get}
+use Rattle.cal_machine.specs.Table.{Table}
+use Rattle.cal_run.specs.Parts.{AreParts}
+use Rattle.cal_run.specs.Workers.{journals_of}
+use Rattle.cal_run.specs.declared.parts.Parts.{Parts}
+use Rattle.cal_run.specs.declared.workers.worker.Worker.{Worker}
+use Rattle.cal_trace.specs.declared.arrivals.Arrivals.{Arrivals}
+use Rattle.cal_trace.specs.declared.arrivals.GivenPass.{GivenPass}
+use Rattle.cal_paced.specs.Figures.{figure_before}
+use Rattle.cal_paced.specs.Pace.{pass_of}
+use Rattle.cal_paced.specs.Rounds.{AreFirstRounds, Standing}
+use Rattle.cal_paced.specs.declared.plan.Plan.{Plan}
+use Rattle.cal_paced.specs.declared.plan.TheConstants.{WHOLE}
+
+-- these threads, with what they have left over, in the same order
+abbrev pub standings_of : List Worker → List ℕ → List Standing
+standings_of (worker ∷ workers) (saved ∷ others) =
+    record { thread = worker.thread; saved = saved } ∷ standings_of workers others
+standings_of _ _ = []
+
+-- each amount that is left over is below a turn's whole work
+abbrev pub AreBelowWhole : List ℕ → Type 0
+AreBelowWhole saved = (k amount : ℕ) → slice_get saved k ≡ Some amount → amount < WHOLE
+
+-- the parts after the first n rounds: so many passes to each, one turn of each thread, and as many
+-- rounds of the watch as passes, as long as there are any left
+abbrev pub AreAfterRounds : Plan → Table → Arrivals → ℕ → Parts → Type 0
+AreAfterRounds plan table given n parts =
+    AreParts table given (plan.pace * n) n (min (plan.pace * n) parts.watch.most) parts
+
+-- arrivals that differ in the figures of passes alone, and there from this pass on
+pub record DifferFrom (p : ℕ) (before after : Arrivals) : Type 0 where
+  pub turns : after.turns ≡ before.turns
+  pub requests : after.requests ≡ before.requests
+  pub many : length after.passes ≡ length before.passes
+  pub clocks : (i : ℕ) (was is : GivenPass) → slice_get before.passes i ≡ Some was →
+      slice_get after.passes i ≡ Some is → is.now ≡ was.now
+  pub same : (i : ℕ) → i < p → slice_get after.passes i ≡ slice_get before.passes i
+
+-- the passes of the first n rounds have the figures of the plan
+abbrev pub HaveFiguresUpTo : ℕ → Plan → List GivenPass → Parts → List GivenPass → Type 0
+HaveFiguresUpTo n plan file parts passes = (j i : ℕ) (pass : GivenPass) → j < n → i < plan.pace →
+    slice_get passes (pass_of plan.pace j i) ≡ Some pass →
+    pass.bandwidth ≡ figure_before plan.figure file (journals_of parts.workers.items) j
+
+-- the first n rounds of turns led to these threads
+abbrev pub HaveLedTo : Plan → Arrivals → ℕ → List Standing → Type 0
+HaveLedTo plan given n standings = (rounds : List (List Standing))
+    × AreFirstRounds plan given n rounds × (slice_get rounds n ≡ Some standings)

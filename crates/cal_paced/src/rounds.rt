@@ -1,0 +1,222 @@
+//! The rounds of a paced run.
+
+ghost use Rattle.std.specs.Prelude.{◌≡◌, ◌+◌, ◌*◌, ◌<◌, ◌≤◌, List, length, min, IfOk, OnOk};
+ghost use Rattle.std.specs.Prelude.{replicate, sum_by};
+ghost use Rattle.cal_kthread.specs.declared.journal.entry.Entry.{Entry};
+ghost use Rattle.cal_machine.specs.Table.{Table};
+ghost use Rattle.cal_policy.specs.declared.history.entry.PassEntry.{PassEntry};
+ghost use Rattle.cal_run.specs.Parts.{AreParts, HasPassed, scheduler_seat_of, watch_seat_of};
+ghost use Rattle.cal_run.specs.Workers.{FitSomeTable, HaveMade, journals_of, seats_of};
+ghost use Rattle.cal_run.specs.declared.workers.worker.Worker.{Worker as WorkerOf};
+ghost use Rattle.cal_paced.specs.Making.{AreAfterRounds, AreBelowWhole, DifferFrom, HaveLedTo};
+ghost use Rattle.cal_paced.specs.Making.{standings_of};
+ghost use Rattle.cal_paced.specs.Paced.{IsPlan};
+ghost use Rattle.cal_paced.specs.Rounds.{IsRound};
+ghost use Rattle.cal_paced.specs.Shares.{last_record};
+ghost use Rattle.cal_paced.specs.declared.plan.Figure.TheVariants.{Given};
+
+use crate::plan::{Figure, Plan};
+use crate::shares::Interference;
+use cal_machine::Listed;
+use cal_run::{Collector, Parts, Worker, watch_of_round};
+use cal_sched::{BareScheduler, Watch};
+use cal_trace::Arrivals;
+use std::alloc::{AllocError, Global};
+use std::mem::replace;
+
+/// What a paced run keeps from round to round beside its parts.
+#[derive(Drop)]
+pub(crate) struct Keeping {
+    /// What each thread has left over of a turn's work, in thousandths, in thread order.
+    pub(crate) saved: Vec<u16>,
+    /// The misses that all records showed before the last round of turns.
+    pub(crate) misses: u64,
+}
+
+impl Keeping {
+    /// Nothing left over, of so many threads, and no misses. Fails only when out of memory.
+    pub(crate) fn new(alloc: Global, threads: usize) -> Result<Keeping, AllocError>
+        ensures saved { IfOk result (λ keeping. keeping.saved.items ≡ replicate threads 0) }
+        ensures misses { IfOk result (λ keeping. keeping.misses ≡ 0) }
+    {
+        let mut saved = Vec::new(alloc);
+        for _ in 0..threads {
+            saved.push(0)?;
+        }
+        Ok(Keeping { saved, misses: 0 })
+    }
+}
+
+/// All rounds of a run on these paced arrivals by this plan. In round `r` come first the passes
+/// before turn `r`, then turn `r` of each thread in thread order, then as many rounds of the watch as
+/// there were passes. Fails only when out of memory, or where the collector does.
+pub(crate) fn make_rounds<C: Collector>(
+    alloc: Global,
+    parts: &mut Parts,
+    given: &mut Arrivals,
+    plan: &Plan,
+    keeping: &mut Keeping,
+    collector: &mut C,
+) -> Result<(), C::Fault>
+    requires plan { IsPlan plan.now }
+    requires suits { C.suits collector.old parts.old.scheduler.table }
+    requires fits { FitSomeTable given.old }
+    requires many { length given.old.passes ≡ plan.now.pace * length given.old.turns }
+    requires opened { AreParts parts.old.scheduler.table given.old 0 0 0 parts.old }
+    requires nothing { keeping.old.saved.items ≡ replicate (length parts.old.workers.items) 0 }
+    ensures suits { IfOk result (λ _. C.suits collector.new parts.old.scheduler.table) }
+    ensures given { DifferFrom 0 given.old given.new }
+    ensures as_given { plan.now.figure ≡ Given → given.new ≡ given.old }
+    ensures made { IfOk result (λ _. AreAfterRounds plan.now parts.old.scheduler.table given.new
+        (length given.new.turns) parts.new) }
+    ensures most { IfOk result (λ _. parts.new.watch.most ≡ parts.old.watch.most) }
+    ensures policy { IfOk result (λ _. parts.new.scheduler.policy ≡ parts.old.scheduler.policy) }
+    ensures shares { IfOk result (λ _. HaveLedTo plan.now given.new (length given.new.turns)
+        (standings_of parts.new.workers.items keeping.new.saved.items)) }
+    ensures collected { C.holds collector.old parts.old.scheduler.history
+        (journals_of parts.old.workers.items) →
+        OnOk result (C.holds collector.new parts.new.scheduler.history
+        (journals_of parts.new.workers.items)) }
+{
+    for r in 0..given.turns.as_slice().len() {
+        if plan.figure == Figure::Shown {
+            show_figure(
+                alloc,
+                parts.workers.as_slice(),
+                given,
+                plan.pace,
+                r,
+                keeping,
+            );
+        }
+        make_passes(&mut parts.scheduler, given, plan.pace, r, collector)?;
+        let workers = parts.workers.as_mut_slice();
+        make_turns(workers, given, plan, r, keeping, collector)?;
+        watch_passes(&mut parts.watch, plan.pace);
+    }
+    Ok(())
+}
+
+/// The passes before turn `r`.
+fn make_passes<C: Collector>(
+    scheduler: &mut BareScheduler,
+    given: &Arrivals,
+    pace: u16,
+    r: usize,
+    collector: &mut C,
+) -> Result<(), C::Fault>
+    requires suits { C.suits collector.old scheduler.old.table }
+    requires fits { FitSomeTable given.now }
+    requires some { pace * r + pace ≤ length given.now.passes }
+    requires passed { HasPassed given.now (pace * r) scheduler.old }
+    ensures suits { IfOk result (λ _. C.suits collector.new scheduler.old.table) }
+    ensures passed { IfOk result (λ _. HasPassed given.now (pace * (r + 1)) scheduler.new) }
+    ensures seat { scheduler_seat_of scheduler.new ≡ scheduler_seat_of scheduler.old }
+    ensures collected { (journals : List (List Entry)) →
+        C.holds collector.old scheduler.old.history journals →
+        OnOk result (C.holds collector.new scheduler.new.history journals) }
+{
+    let first = r * pace as usize;
+    for p in first..first + pace as usize {
+        collector.make_pass(scheduler, given, p)?;
+    }
+    Ok(())
+}
+
+/// Turn `r` of each thread, in thread order. Who is at work is by what the threads are before.
+fn make_turns<C: Collector>(
+    workers: &mut [Worker],
+    given: &Arrivals,
+    plan: &Plan,
+    r: usize,
+    keeping: &mut Keeping,
+    collector: &mut C,
+) -> Result<(), C::Fault>
+    requires plan { IsPlan plan.now }
+    requires fits { FitSomeTable given.now }
+    requires given { r < length given.now.turns }
+    requires made { HaveMade given.now r workers.old }
+    requires kept { length keeping.old.saved.items ≡ length workers.old }
+    requires below { AreBelowWhole keeping.old.saved.items }
+    ensures suits { (table : Table) → C.suits collector.old table →
+        IfOk result (λ _. C.suits collector.new table) }
+    ensures made { IfOk result (λ _. HaveMade given.now (r + 1) workers.new) }
+    ensures seats { IfOk result (λ _. seats_of workers.new ≡ seats_of workers.old) }
+    ensures kept { length keeping.new.saved.items ≡ length keeping.old.saved.items }
+    ensures below { AreBelowWhole keeping.new.saved.items }
+    ensures misses { keeping.new.misses ≡ keeping.old.misses }
+    ensures shares { IfOk result (λ _. IsRound plan.now given.now r
+        (standings_of workers.old keeping.old.saved.items)
+        (standings_of workers.new keeping.new.saved.items)) }
+    ensures collected { (history : List PassEntry) →
+        C.holds collector.old history (journals_of workers.old) →
+        OnOk result (C.holds collector.new history (journals_of workers.new)) }
+{
+    let interference = Interference::of(plan, workers);
+    let saved = keeping.saved.as_mut_slice();
+    for k in 0..workers.len() {
+        let shows = workers[k].thread.last_record();
+        let shares = interference.shares_of(&shows);
+        let works = shares.cores(saved[k]);
+        let entries = workers[k].turn_on(given, r, works)?;
+        saved[k] = shares.left_over(saved[k], &entries);
+        collector.add_turn(k, &entries)?;
+    }
+    Ok(())
+}
+
+/// As many rounds of the watch as there were passes, where it has them left to make.
+fn watch_passes(watch: &mut Watch, pace: u16)
+    requires few { length watch.old.rounds ≤ watch.old.most }
+    ensures rounds { length watch.new.rounds
+        ≡ min (length watch.old.rounds + pace) watch.old.most }
+    ensures seat { watch_seat_of watch.new ≡ watch_seat_of watch.old }
+{
+    for _ in 0..pace {
+        watch_of_round(watch);
+    }
+}
+
+/// Gives the passes before turn `r` the misses by which the records rose in the turns before.
+fn show_figure(
+    alloc: Global,
+    workers: &[Worker],
+    given: &mut Arrivals,
+    pace: u16,
+    r: usize,
+    keeping: &mut Keeping,
+)
+    requires some { pace * r + pace ≤ length given.old.passes }
+    ensures given { DifferFrom (pace * r) given.old given.new }
+    ensures saved { keeping.new.saved ≡ keeping.old.saved }
+{
+    let misses = misses_shown(workers);
+    let figure = misses.saturating_sub(keeping.misses);
+    keeping.misses = misses;
+    let first = r * pace as usize;
+    set_figures(alloc, given, first, first + pace as usize, figure);
+}
+
+/// The misses that the last records of these threads show, all together. (No sum is above 2^63: a
+/// table has at most 128 threads, and each record at most 2^56 misses.)
+fn misses_shown(workers: &[Worker]) -> u64
+    ensures { result ≡ sum_by (λ (w : WorkerOf). (last_record w.thread).misses) workers.now }
+{
+    let mut misses = 0;
+    for worker in workers {
+        misses += worker.thread.last_record().misses;
+    }
+    misses
+}
+
+/// Gives these passes this figure.
+fn set_figures(alloc: Global, given: &mut Arrivals, first: usize, end: usize, figure: u64)
+    ensures { DifferFrom first given.old given.new }
+{
+    let listed = replace(&mut given.passes, Listed::new(Vec::new(alloc)));
+    let mut passes = listed.into_items();
+    for p in first..end.min(passes.len()) {
+        passes[p].bandwidth = figure;
+    }
+    given.passes = Listed::new(passes);
+}
