@@ -1,6 +1,13 @@
 -- A paced run while it is made.
-use Rattle.std.specs.Prelude.{◌≡◌, ◌*◌, ◌<◌, ℕ, List, [], ◌∷◌, Some, length, min, slice_get}
+use Rattle.std.specs.Prelude.{◌≡◌, ◌*◌, ◌<◌, ℕ, zero, suc, Bool, Option, Some, List, [], ◌∷◌, ◌++◌}
+use Rattle.std.specs.Prelude.{length, min, slice_get}
+use Rattle.cal_kthread.specs.Turn.Entries.{work}
+use Rattle.cal_kthread.specs.Turn.OnCores.{turned_on, work_in_turn}
+use Rattle.cal_kthread.specs.Turn.Thread.{KernelView}
+use Rattle.cal_kthread.specs.Turn.{Answers}
+use Rattle.cal_kthread.specs.declared.turn.entries.TurnEntries.{TurnEntries}
 use Rattle.cal_machine.specs.Table.{Table}
+use Rattle.cal_machine.specs.declared.request.Request.{Request}
 use Rattle.cal_run.specs.Parts.{AreParts}
 use Rattle.cal_run.specs.Workers.{journals_of}
 use Rattle.cal_run.specs.declared.parts.Parts.{Parts}
@@ -8,10 +15,25 @@ use Rattle.cal_run.specs.declared.workers.worker.Worker.{Worker}
 use Rattle.cal_trace.specs.declared.arrivals.Arrivals.{Arrivals}
 use Rattle.cal_trace.specs.declared.arrivals.GivenPass.{GivenPass}
 use Rattle.cal_paced.specs.Figures.{figure_before}
-use Rattle.cal_paced.specs.Pace.{pass_of}
+use Rattle.cal_paced.specs.Pace.{pass_clock, pass_of}
 use Rattle.cal_paced.specs.Rounds.{AreFirstRounds, Standing}
+use Rattle.cal_paced.specs.Shares.{last_record}
 use Rattle.cal_paced.specs.declared.plan.Plan.{Plan}
 use Rattle.cal_paced.specs.declared.plan.TheConstants.{WHOLE}
+
+-- the first n passes before a turn, in order
+abbrev pub passes_before : (pace before turn bandwidth n : ℕ) → List GivenPass
+passes_before pace before turn bandwidth zero = []
+passes_before pace before turn bandwidth (suc n) = passes_before pace before turn bandwidth n
+    ++ (record { now = pass_clock pace before turn n; bandwidth = bandwidth }) ∷ []
+
+-- what a turn handed out is what the definition of it says: what its third step put into the
+-- journal, and the record that it published
+pub record IsTurnTold (works : ℕ → Bool) (now : ℕ) (request : Option Request) (answers : Answers)
+    (before after : KernelView) (entries : TurnEntries) : Type 0 where
+  pub thread : after ≡ turned_on works now request answers before
+  pub work : work entries ≡ work_in_turn works now request answers before
+  pub shows : entries.published.shown ≡ last_record after
 
 -- these threads, with what they have left over, in the same order
 abbrev pub standings_of : List Worker → List ℕ → List Standing

@@ -1,5 +1,5 @@
 -- Paced runs, and what they end with.
-use Rattle.std.specs.Prelude.{◌≡◌, ◌≤◌, ◌*◌, ℕ, List, [], length, map, Some, slice_get}
+use Rattle.std.specs.Prelude.{◌≡◌, ◌≢◌, ◌≤◌, ◌<◌, ◌*◌, ℕ, List, [], length, map, Some, slice_get}
 use Rattle.cal_kthread.specs.declared.journal.entry.Entry.{Entry}
 use Rattle.cal_machine.specs.Table.{Table}
 use Rattle.cal_machine.specs.declared.request.Request.{Request}
@@ -14,6 +14,8 @@ use Rattle.cal_trace.specs.declared.arrivals.Arrivals.{Arrivals}
 use Rattle.cal_paced.specs.Figures.{HaveFigures, figure_before}
 use Rattle.cal_paced.specs.Pace.{StandEvenly}
 use Rattle.cal_paced.specs.Rounds.{AreRounds, Standing}
+use Rattle.cal_paced.specs.declared.fault.PaceFault.TheVariants.{Memory, Passes, Rows}
+use Rattle.cal_paced.specs.declared.fault.PaceFault.{PaceFault}
 use Rattle.cal_paced.specs.declared.plan.Figure.TheVariants.{Given}
 use Rattle.cal_paced.specs.declared.plan.Plan.{Plan}
 use Rattle.cal_paced.specs.declared.plan.TheConstants.{WHOLE}
@@ -28,6 +30,13 @@ pub record IsPlan (plan : Plan) : Type 0 where
 pub record MayBePaced (pace : ℕ) (arrivals : Arrivals) : Type 0 where
   pub rows : length arrivals.passes ≡ length arrivals.turns
   pub few : pace * length arrivals.turns ≤ MOST_PASSES
+
+-- why arrivals cannot be paced, in this order; where memory was refused they could be
+abbrev pub IsPaceFault : ℕ → Arrivals → PaceFault → Type 0
+IsPaceFault pace arrivals Rows = length arrivals.passes ≢ length arrivals.turns
+IsPaceFault pace arrivals Passes = (length arrivals.passes ≡ length arrivals.turns)
+    × (MOST_PASSES < pace * length arrivals.turns)
+IsPaceFault pace arrivals Memory = MayBePaced pace arrivals
 
 -- these are paced arrivals: the turns and the requests are as they were, and the passes stand
 -- evenly before their turns

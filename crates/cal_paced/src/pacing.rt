@@ -1,14 +1,14 @@
 //! Arrivals with as many passes to a turn as a plan has.
 
-ghost use Rattle.std.specs.Prelude.{◌≡◌, ◌+◌, ◌*◌, ◌<◌, ◌≤◌, Err, IfErr, IfOk, Ok, length, map};
+ghost use Rattle.std.specs.Prelude.{◌≡◌, ◌<◌, ◌≤◌, ◌++◌, IfErr, IfOk, length, map};
 ghost use Rattle.std.specs.Prelude.{slice_index};
 ghost use Rattle.cal_machine.specs.Table.{Table};
 ghost use Rattle.cal_trace.specs.Arrivals.FitsTable.{FitsTable};
 ghost use Rattle.cal_trace.specs.declared.arrivals.GivenPass.{GivenPass as Pass};
 ghost use Rattle.cal_paced.specs.Figures.{HaveFigures};
-ghost use Rattle.cal_paced.specs.Pace.{before_first, clock_before, pass_clock};
-ghost use Rattle.cal_paced.specs.Paced.{ArePaced, MayBePaced};
-ghost use Rattle.cal_paced.specs.declared.fault.PaceFault.TheVariants.{Memory};
+ghost use Rattle.cal_paced.specs.Pace.{StandEvenly, before_first, pass_clock};
+ghost use Rattle.cal_paced.specs.Making.{passes_before};
+ghost use Rattle.cal_paced.specs.Paced.{ArePaced, IsPaceFault, MayBePaced};
 
 use crate::fault::PaceFault;
 use cal_machine::Listed;
@@ -29,7 +29,7 @@ pub fn paced_arrivals(alloc: Global, arrivals: Arrivals, pace: u16) -> Result<Ar
     ensures fits { IfOk result (λ given.
         (table : Table) → FitsTable table arrivals → FitsTable table given) }
     ensures may { IfOk result (λ _. MayBePaced pace arrivals) }
-    ensures fault { IfErr result (λ fault. fault ≡ Memory → MayBePaced pace arrivals) }
+    ensures fault { IfErr result (IsPaceFault pace arrivals) }
 {
     let Arrivals {
         passes,
@@ -59,6 +59,10 @@ fn paced_passes(
     pace: u16,
 ) -> Result<Vec<GivenPass>, AllocError>
     requires rows { length passes.now ≡ length turns.now }
+    requires pace { 1 ≤ pace }
+    ensures clocks { IfOk result (λ paced. StandEvenly pace turns.now paced.items) }
+    ensures figures { IfOk result (λ paced. HaveFigures pace
+        (slice_index (map (λ (pass : Pass). pass.bandwidth) passes.now)) paced.items) }
 {
     let mut paced = Vec::new(alloc);
     let mut before = before_first(turns);
@@ -77,7 +81,10 @@ fn put_passes(
     before: u64,
     turn: u64,
     bandwidth: u64,
-) -> Result<(), AllocError> {
+) -> Result<(), AllocError>
+    ensures { IfOk result (λ _. paced.new.items
+        ≡ paced.old.items ++ passes_before pace before turn bandwidth pace) }
+{
     for i in 0..pace {
         let now = pass_clock(pace, before, turn, i);
         paced.push(GivenPass { now, bandwidth })?;

@@ -1,12 +1,17 @@
 //! What threads do of a turn's work.
 
-ghost use Rattle.std.specs.Prelude.{◌≡◌, ◌<◌, ◌≤◌, ℕ, List, map, nat_lt};
+ghost use Rattle.std.specs.Prelude.{◌≡◌, ◌<◌, ◌≤◌, ℕ, Bool, List, Option, map, nat_lt};
+ghost use Rattle.cal_kthread.specs.Turn.OnCores.{core_in_turn};
 ghost use Rattle.cal_kthread.specs.Turn.Thread.{KernelView};
+ghost use Rattle.cal_kthread.specs.Turn.{Answers};
 ghost use Rattle.cal_machine.specs.CoreSet.{has};
 ghost use Rattle.cal_machine.specs.Machine.{sibling_of};
 ghost use Rattle.cal_machine.specs.declared.machine.TheConstants.{MOST_CORES as NUMBERS};
+ghost use Rattle.cal_machine.specs.declared.request.Request.{Request};
+ghost use Rattle.cal_signal.specs.Records.{IsShaped};
 ghost use Rattle.cal_run.specs.declared.workers.worker.Worker.{Worker as WorkerOf};
-ghost use Rattle.cal_paced.specs.Rounds.{comes_to_turn};
+ghost use Rattle.cal_paced.specs.Making.{IsTurnTold};
+ghost use Rattle.cal_paced.specs.Rounds.{comes_to_turn, left_over};
 ghost use Rattle.cal_paced.specs.Shares.{AreShares, IsInterference, is_at_work, last_record};
 ghost use Rattle.cal_paced.specs.Shares.{memory_part, share_on};
 ghost use Rattle.cal_paced.specs.declared.plan.Plan.{Plan as PlanOf};
@@ -126,13 +131,20 @@ impl Shares {
         requires saved { saved < ALL }
         requires alone { self.now.alone ≤ ALL }
         requires beside { self.now.beside ≤ self.now.alone }
-        ensures { result < ALL }
+        requires shaped { IsShaped entries.now.published.shown }
+        ensures left { (works : ℕ → Bool) (now : ℕ) (request : Option Request) (answers : Answers)
+            (before after : KernelView) →
+            IsTurnTold works now request answers before after entries.now →
+            ((core : ℕ) → works core ≡ comes_to_turn saved (share_on self.now) core) →
+            result ≡ left_over saved (share_on self.now)
+            (core_in_turn now request answers before) after.thread.current }
+        ensures below { result < ALL }
     {
         if entries.worked.is_some() {
             return 0;
         }
         let running = entries.published.shown.running;
-        if running == 0 || running > MOST_CORES as u64 {
+        if running == 0 {
             return saved;
         }
         let total = saved + self.on((running - 1) as u8);

@@ -53,6 +53,13 @@ abbrev pub turned_on : (ℕ → Bool) → ℕ → Option Request → Answers →
 turned_on works now request answers k =
     turned_if (does_work works (core_in_turn now request answers k)) now request answers k
 
+-- what its third step puts into the journal after a theft: a service, or that the core is given up
+abbrev pub work_in_turn : (ℕ → Bool) → ℕ → Option Request → Answers → KernelView → Option Entry
+work_in_turn works now request answers k =
+    let taking = taken now answers.command (arrived now request k.thread).0 in
+    let does = does_work works taking.0.core in
+    (worked_if does (provided_if does now answers.own answers.theft taking.0).0).1
+
 -- the misses that a turn's work costs of the request that a thread serves on its core, else 0
 abbrev pub misses_on : Option ℕ → Option Current → ℕ
 misses_on None current = 0

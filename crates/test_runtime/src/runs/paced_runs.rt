@@ -1,13 +1,13 @@
 //! Paced runs that were worked out by hand: two passes to a turn, a slowed sibling, and memory that
 //! bears less than two threads would bring.
 
-use crate::one_thread::ONE_THREAD;
+use crate::one_thread::{ONE_THREAD, first_passes};
 use crate::same::assert_same;
 use cal_kthread::Entry;
 use cal_machine::Config;
 use cal_paced::{Figure, Plan, WHOLE, paced_arrivals, paced_end_by};
 use cal_policy::Policy;
-use cal_run::RunEnd;
+use cal_run::{RunEnd, lockstep_end};
 use cal_trace::read_arrivals;
 use std::alloc::{AllocError, Global};
 use std::process::Abort;
@@ -241,5 +241,42 @@ fn memory_bears_less(rt: HostRuntime) -> Result<(), Fail> {
         [800, 160],
     ];
     assert_same(&rt, passes(rt.alloc(), &end)?.as_slice(), meant.as_slice());
+    Ok(())
+}
+
+/// The run of lockstep on these arrivals, where there is memory.
+fn in_lockstep(alloc: Global, table: &[u8], rows: &[u8]) -> Option<RunEnd> {
+    let config = Config::read(alloc, table).ok()?;
+    let arrivals = read_arrivals(alloc, &config, rows).ok()?;
+    lockstep_end(alloc, &config, &arrivals).ok()
+}
+
+// The passes of the file stand in the middle between its turns. So at one pass to a turn, where nobody
+// slows anybody, the run is that of lockstep: its passes, what they did, and each journal.
+#[test]
+fn neutral_is_lockstep(rt: HostRuntime) -> Result<(), Fail> {
+    let paced = run(rt.alloc(), TWO_THREADS, TWO_REQUESTS, Plan::NEUTRAL);
+    let plain = in_lockstep(rt.alloc(), TWO_THREADS, TWO_REQUESTS);
+    let (Some(paced), Some(plain)) = (paced, plain) else {
+        return Err(Fail::new("there is memory"));
+    };
+    let clocks = passes(rt.alloc(), &plain)?;
+    assert_same(
+        &rt,
+        passes(rt.alloc(), &paced)?.as_slice(),
+        clocks.as_slice(),
+    );
+    let did = first_passes(rt.alloc(), plain.history.as_slice(), 8)?;
+    let does = first_passes(rt.alloc(), paced.history.as_slice(), 8)?;
+    assert_same(&rt, does.as_slice(), did.as_slice());
+    for (k, journal) in plain.journals.as_slice().iter().enumerate() {
+        let same = paced.journals.as_slice().get(k).map(|kept| kept.as_slice());
+        assert_same(&rt, same, Some(journal.as_slice()));
+    }
+    assert_same(
+        &rt,
+        paced.watched.as_slice().len(),
+        plain.watched.as_slice().len(),
+    );
     Ok(())
 }

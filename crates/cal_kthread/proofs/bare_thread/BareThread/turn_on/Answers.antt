@@ -2,16 +2,16 @@ use Rattle.std.proofs.Common.{◌≡◌, ℕ, ◌<◌, ◌∙◌, ◌++◌, Bool
 use Rattle.cal_signal.specs.declared.record.Record.{Record}
 use Rattle.cal_signal.specs.Ends.{PublisherView}
 use Rattle.cal_signal.specs.Pages.{last_published}
-use Rattle.cal_signal.specs.Records.{zero_record}
+use Rattle.cal_signal.specs.Records.{IsShaped, zero_record}
 use Rattle.cal_machine.specs.CoreSet.{has}
 use Rattle.cal_kthread.specs.contracts.bare_thread.BareThread.{the_view}
 use Rattle.cal_kthread.specs.Turn.Agreement.{IsJournalOf}
 use Rattle.cal_kthread.specs.declared.journal.entry.Entry.{Entry}
 use Rattle.cal_kthread.specs.Journal.{records_of}
 use Rattle.cal_kthread.specs.Team.{place_of}
-use Rattle.cal_kthread.specs.Turn.OnCores.{core_in_turn, does_work, turned_if, turned_on}
+use Rattle.cal_kthread.specs.Turn.OnCores.{core_in_turn, does_work, provided_if, turned_if, turned_on, work_in_turn, worked_if}
 use Rattle.cal_kthread.specs.Turn.Thread.{ThreadView, KernelView}
-use Rattle.cal_kthread.specs.Turn.{Answers, AreAnswers, noted, shown, taken}
+use Rattle.cal_kthread.specs.Turn.{Answers, AreAnswers, arrived, noted, shown, taken}
 use Rattle.cal_kthread.proofs.TurnLemmas.Publishing.{last_snoc}
 use Rattle.cal_kthread.proofs.TeamLemmas.Turns.{keeps-page, keeps-ring, on-keeps-place}
 use Rattle.cal_kthread.proofs.TurnLemmas.Steps.{turns, agrees}
@@ -78,9 +78,20 @@ does c = c.does_work-does.result
 abbrev does_so : goal.After-note_turn → Answers → Bool
 does_so c answers = does_work (has c.args.works) (core_in_turn c.args.now c.args.request answers c.args.self.now)
 
+two-is : (c : goal.After-note_turn) → two c ≡ taken c.args.now (answers_of c).command (arrived c.args.now c.args.request c.self.inside.thread).0
+two-is c = c.take-took.ensures.taken.1 ∙ ap (λ (z : Stepped). taken c.args.now (answers_of c).command z.0) c.in_ok-arrived.ensures.arrived
+
 does-is : (c : goal.After-note_turn) → does c ≡ does_work (has c.args.works) (core_in_turn c.args.now c.args.request (answers_of c) (the_view c.self.inside))
-does-is c = c.does_work-does.ensures ∙ ap (λ (z : Stepped). does_work (has c.args.works) z.0.core)
-    (c.take-took.ensures.taken.1 ∙ ap (λ (z : Stepped). taken c.args.now (answers_of c).command z.0) c.in_ok-arrived.ensures.arrived)
+does-is c = c.does_work-does.ensures ∙ ap (λ (z : Stepped). does_work (has c.args.works) z.0.core) (two-is c)
+
+-- what the third step put into the journal
+work-is : (c : goal.After-note_turn) → work (entries c) ≡ work_in_turn (has c.args.works) c.args.now c.args.request (answers_of c) (the_view c.self.inside)
+work-is c =
+    let provides : Bool → Stepped → Stepped = λ b z. provided_if b c.args.now (answers_of c).own (answers_of c).theft z.0 in
+    ap (λ (z : Stepped). z.1) c.work_if-worked.ensures.worked
+    ∙ ap (λ (z : Stepped). (worked_if (does c) z.0).1) c.provide_if-stole.ensures.provided.3
+    ∙ ap (λ (z : Stepped). (worked_if (does c) (provides (does c) z).0).1) (two-is c)
+    ∙ ap (λ (b : Bool). (worked_if b (provides b (taken c.args.now (answers_of c).command (arrived c.args.now c.args.request c.self.inside.thread).0)).0).1) (does-is c)
 
 noting : (c : goal.After-note_turn) → c.note_turn.new.past ≡ noted (noted (noted (noted (noted c.self.inside.past (one c).1) (two c).1) (three c).1) (four c).1) (Some (last c).1)
 noting c = c.note_turn.ensures
@@ -104,6 +115,7 @@ returns-clause-turned c =
           c.in_ok-arrived.ensures.arrived c.take-took.ensures.taken.1 c.provide_if-stole.ensures.provided.3 c.work_if-worked.ensures.worked c.fill_front.ensures.fronted.1 c.publish-published.ensures.shown (noting c)
           ∙ ap (λ (b : Bool). turned_if b c.args.now c.args.request (answers_of c) (the_view c.self.inside)) (does-is c)
           ∙ ap (turned_on (has c.args.works) c.args.now c.args.request (answers_of c)) c.self.view_is,
+      work-is c ∙ ap (work_in_turn (has c.args.works) c.args.now c.args.request (answers_of c)) c.self.view_is,
     )
 
 pub returns-clause-place : goal.returns-clause-place
@@ -142,3 +154,17 @@ pub returns-clause-handed : goal.returns-clause-handed
 returns-clause-handed c =
     noting c ∙ noted-turn c.self.inside.past (entries c) refl refl refl refl refl
     ∙ ap (λ (k : KernelView). k.journal ++ entries_of (entries c)) c.self.view_is
+
+-- the record that was handed out
+shows-is : (c : goal.After-note_turn) → c.publish-published.result.shown ≡ shown c.args.now c.fill_front.new.self
+shows-is c = let published = ap (λ (z : ThreadView × Entry). z.1) c.publish-published.ensures.shown in cc
+
+pub returns-clause-shows : goal.returns-clause-shows
+returns-clause-shows c =
+    let t = c.fill_front.new.self in
+    let last = ap (λ (z : ThreadView × Entry). last_published z.0.publisher.published) c.publish-published.ensures.shown
+    ∙ last_snoc zero_record t.publisher.published (shown c.args.now t) in
+    shows-is c ∙ sym last
+
+pub returns-clause-shaped : goal.returns-clause-shaped
+returns-clause-shaped c = subst IsShaped (sym (shows-is c)) c.publish-published.ensures.follows.1

@@ -2,7 +2,7 @@ use Rattle.std.proofs.Common.{◌≡◌, ◌+◌, ℕ, List, sym, ap, subst, ◌
 use Rattle.std.specs.List.{slice_get}
 use Rattle.std.proofs.lemmas.Option.{slice_get-get_or}
 use Rattle.cal_machine.specs.CoreSet.{has}
-use Rattle.cal_kthread.specs.Turn.OnCores.{turned_on}
+use Rattle.cal_kthread.specs.Turn.OnCores.{turned_on, work_in_turn}
 use Rattle.cal_trace.specs.declared.arrivals.reading.TheConstants.{MOST_TURNS}
 use Rattle.cal_run.specs.Workers.GivenTurns.{request_at}
 use Rattle.cal_run.specs.Workers.{IsNext}
@@ -34,5 +34,9 @@ returns-clause-turned c =
     let j = c.args.j in
     let t = c.in_ok-entries.ensures.turned in
     let clock = ap (λ (l : List ℕ). slice_index_or l j 0) c.as_slice.ensures in
-    let came = c.coming-request.ensures.request ∙ ap (λ l. request_at l was.number j) c.as_slice-requests.ensures in
-    (t.0, t.1, t.2 ∙ (λ i. turned_on (has c.args.works) (clock i) (came i) t.0 was.thread))
+    let came = c.coming-request.ensures.request ∙ ap (λ l. request_at l was.number j) c.as_slice-requests.ensures in (
+      t.0,
+      t.1,
+      t.2 ∙ (λ i. turned_on (has c.args.works) (clock i) (came i) t.0 was.thread),
+      t.3 ∙ (λ i. work_in_turn (has c.args.works) (clock i) (came i) t.0 was.thread),
+    )
