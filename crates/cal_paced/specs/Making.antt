@@ -1,12 +1,15 @@
 -- A paced run while it is made.
 use Rattle.std.specs.Prelude.{◌≡◌, ◌*◌, ◌<◌, ℕ, zero, suc, Bool, Option, Some, List, [], ◌∷◌, ◌++◌}
-use Rattle.std.specs.Prelude.{length, min, slice_get}
+use Rattle.std.specs.Prelude.{length, min, nat_lt, slice_get}
 use Rattle.cal_kthread.specs.Turn.Entries.{work}
 use Rattle.cal_kthread.specs.Turn.OnCores.{turned_on, work_in_turn}
 use Rattle.cal_kthread.specs.Turn.Thread.{KernelView}
 use Rattle.cal_kthread.specs.Turn.{Answers}
 use Rattle.cal_kthread.specs.declared.turn.entries.TurnEntries.{TurnEntries}
+use Rattle.cal_machine.specs.CoreSet.{has}
 use Rattle.cal_machine.specs.Table.{Table}
+use Rattle.cal_machine.specs.declared.core_set.CoreSet.{CoreSet}
+use Rattle.cal_machine.specs.declared.machine.TheConstants.{MOST_CORES}
 use Rattle.cal_machine.specs.declared.request.Request.{Request}
 use Rattle.cal_run.specs.Parts.{AreParts}
 use Rattle.cal_run.specs.Workers.{journals_of}
@@ -40,6 +43,10 @@ abbrev pub standings_of : List Worker → List ℕ → List Standing
 standings_of (worker ∷ workers) (saved ∷ others) =
     record { thread = worker.thread; saved = saved } ∷ standings_of workers others
 standings_of _ _ = []
+
+-- these are all cores that a machine can have
+abbrev pub AreAllCores : CoreSet → Type 0
+AreAllCores set = (core : ℕ) → has set core ≡ nat_lt core MOST_CORES
 
 -- each amount that is left over is below a turn's whole work
 abbrev pub AreBelowWhole : List ℕ → Type 0

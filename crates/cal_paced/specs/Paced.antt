@@ -1,5 +1,5 @@
 -- Paced runs, and what they end with.
-use Rattle.std.specs.Prelude.{◌≡◌, ◌≢◌, ◌≤◌, ◌<◌, ◌*◌, ℕ, List, [], length, map, Some, slice_get}
+use Rattle.std.specs.Prelude.{◌≡◌, ◌≢◌, ◌≤◌, ◌<◌, ◌*◌, ℕ, List, [], length, map, Some, None, slice_get}
 use Rattle.cal_kthread.specs.declared.journal.entry.Entry.{Entry}
 use Rattle.cal_machine.specs.Table.{Table}
 use Rattle.cal_machine.specs.declared.request.Request.{Request}
@@ -24,6 +24,10 @@ use Rattle.cal_paced.specs.declared.plan.TheConstants.{WHOLE}
 pub record IsPlan (plan : Plan) : Type 0 where
   pub pace : 1 ≤ plan.pace
   pub beside : plan.beside ≤ WHOLE
+
+-- each turn does all of its work by this plan, whatever the threads are
+abbrev pub SlowsNobody : Plan → Type 0
+SlowsNobody plan = (plan.beside ≡ WHOLE) × (plan.memory ≡ None)
 
 -- the arrivals can be paced: there is one pass row for each turn, and no more passes come of them
 -- than a history has room for

@@ -1,5 +1,8 @@
 //! What makes a run like a machine.
 
+ghost use Rattle.std.specs.Prelude.{◌↔◌, IsTrue};
+ghost use Rattle.cal_paced.specs.Paced.{SlowsNobody};
+
 /// A turn's whole work, in thousandths.
 pub const WHOLE: u16 = 1_000;
 
@@ -33,4 +36,11 @@ impl Plan {
         memory: None,
         figure: Figure::Given,
     };
+
+    /// Whether each turn does all of its work by this plan, whatever the threads are.
+    pub fn slows_nobody(&self) -> bool
+        ensures { IsTrue result ↔ SlowsNobody self.now }
+    {
+        self.beside == WHOLE && self.memory.is_none()
+    }
 }

@@ -8,16 +8,17 @@ ghost use Rattle.cal_policy.specs.declared.history.entry.PassEntry.{PassEntry};
 ghost use Rattle.cal_run.specs.Parts.{AreParts, HasPassed, scheduler_seat_of, watch_seat_of};
 ghost use Rattle.cal_run.specs.Workers.{FitSomeTable, HaveMade, journals_of, seats_of};
 ghost use Rattle.cal_run.specs.declared.workers.worker.Worker.{Worker as WorkerOf};
-ghost use Rattle.cal_paced.specs.Making.{AreAfterRounds, AreBelowWhole, DifferFrom, HaveLedTo};
-ghost use Rattle.cal_paced.specs.Making.{standings_of};
-ghost use Rattle.cal_paced.specs.Paced.{IsPlan};
+ghost use Rattle.cal_paced.specs.Making.{AreAfterRounds, AreAllCores, AreBelowWhole, DifferFrom};
+ghost use Rattle.cal_paced.specs.Making.{HaveLedTo, standings_of};
+ghost use Rattle.cal_paced.specs.Paced.{IsPlan, SlowsNobody};
 ghost use Rattle.cal_paced.specs.Rounds.{IsRound};
 ghost use Rattle.cal_paced.specs.Shares.{last_record};
 ghost use Rattle.cal_paced.specs.declared.plan.Figure.TheVariants.{Given};
+ghost use Rattle.cal_paced.specs.declared.plan.Plan.{Plan as PlanOf};
 
 use crate::plan::{Figure, Plan};
-use crate::shares::Interference;
-use cal_machine::Listed;
+use crate::shares::{Interference, all_cores};
+use cal_machine::{CoreSet, Listed};
 use cal_run::{Collector, Parts, Worker, watch_of_round};
 use cal_sched::{BareScheduler, Watch};
 use cal_trace::Arrivals;
@@ -29,6 +30,8 @@ use std::mem::replace;
 pub(crate) struct Keeping {
     /// What each thread has left over of a turn's work, in thousandths, in thread order.
     pub(crate) saved: Vec<u16>,
+    /// All cores.
+    pub(crate) all: CoreSet,
     /// The misses that all records showed before the last round of turns.
     pub(crate) misses: u64,
 }
@@ -37,13 +40,18 @@ impl Keeping {
     /// Nothing left over, of so many threads, and no misses. Fails only when out of memory.
     pub(crate) fn new(alloc: Global, threads: usize) -> Result<Keeping, AllocError>
         ensures saved { IfOk result (λ keeping. keeping.saved.items ≡ replicate threads 0) }
+        ensures cores { IfOk result (λ keeping. AreAllCores keeping.all) }
         ensures misses { IfOk result (λ keeping. keeping.misses ≡ 0) }
     {
         let mut saved = Vec::new(alloc);
         for _ in 0..threads {
             saved.push(0)?;
         }
-        Ok(Keeping { saved, misses: 0 })
+        Ok(Keeping {
+            saved,
+            all: all_cores(),
+            misses: 0,
+        })
     }
 }
 
@@ -64,6 +72,7 @@ pub(crate) fn make_rounds<C: Collector>(
     requires many { length given.old.passes ≡ plan.now.pace * length given.old.turns }
     requires opened { AreParts parts.old.scheduler.table given.old 0 0 0 parts.old }
     requires nothing { keeping.old.saved.items ≡ replicate (length parts.old.workers.items) 0 }
+    requires cores { AreAllCores keeping.old.all }
     ensures suits { IfOk result (λ _. C.suits collector.new parts.old.scheduler.table) }
     ensures given { DifferFrom 0 given.old given.new }
     ensures as_given { plan.now.figure ≡ Given → given.new ≡ given.old }
@@ -123,7 +132,7 @@ fn make_passes<C: Collector>(
     Ok(())
 }
 
-/// Turn `r` of each thread, in thread order. Who is at work is by what the threads are before.
+/// Turn `r` of each thread, in thread order.
 fn make_turns<C: Collector>(
     workers: &mut [Worker],
     given: &Arrivals,
@@ -138,12 +147,17 @@ fn make_turns<C: Collector>(
     requires made { HaveMade given.now r workers.old }
     requires kept { length keeping.old.saved.items ≡ length workers.old }
     requires below { AreBelowWhole keeping.old.saved.items }
+    requires cores { AreAllCores keeping.old.all }
+    requires nothing { SlowsNobody plan.now →
+        keeping.old.saved.items ≡ replicate (length workers.old) 0 }
     ensures suits { (table : Table) → C.suits collector.old table →
         IfOk result (λ _. C.suits collector.new table) }
     ensures made { IfOk result (λ _. HaveMade given.now (r + 1) workers.new) }
     ensures seats { IfOk result (λ _. seats_of workers.new ≡ seats_of workers.old) }
     ensures kept { length keeping.new.saved.items ≡ length keeping.old.saved.items }
     ensures below { AreBelowWhole keeping.new.saved.items }
+    ensures cores { AreAllCores keeping.new.all }
+    ensures nothing { SlowsNobody plan.now → keeping.new.saved ≡ keeping.old.saved }
     ensures misses { keeping.new.misses ≡ keeping.old.misses }
     ensures shares { IfOk result (λ _. IsRound plan.now given.now r
         (standings_of workers.old keeping.old.saved.items)
@@ -152,7 +166,81 @@ fn make_turns<C: Collector>(
         C.holds collector.old history (journals_of workers.old) →
         OnOk result (C.holds collector.new history (journals_of workers.new)) }
 {
-    let interference = Interference::of(plan, workers);
+    if plan.slows_nobody() {
+        return whole_turns(workers, given, r, keeping, collector);
+    }
+    shared_turns(workers, given, plan, r, keeping, collector)
+}
+
+/// The same where nobody is slowed.
+fn whole_turns<C: Collector>(
+    workers: &mut [Worker],
+    given: &Arrivals,
+    r: usize,
+    keeping: &mut Keeping,
+    collector: &mut C,
+) -> Result<(), C::Fault>
+    requires fits { FitSomeTable given.now }
+    requires given { r < length given.now.turns }
+    requires made { HaveMade given.now r workers.old }
+    requires kept { length keeping.old.saved.items ≡ length workers.old }
+    requires nothing { keeping.old.saved.items ≡ replicate (length workers.old) 0 }
+    requires cores { AreAllCores keeping.old.all }
+    ensures suits { (table : Table) → C.suits collector.old table →
+        IfOk result (λ _. C.suits collector.new table) }
+    ensures made { IfOk result (λ _. HaveMade given.now (r + 1) workers.new) }
+    ensures seats { IfOk result (λ _. seats_of workers.new ≡ seats_of workers.old) }
+    ensures kept { length keeping.new.saved.items ≡ length keeping.old.saved.items }
+    ensures below { AreBelowWhole keeping.new.saved.items }
+    ensures cores { AreAllCores keeping.new.all }
+    ensures nothing { keeping.new.saved ≡ keeping.old.saved }
+    ensures misses { keeping.new.misses ≡ keeping.old.misses }
+    ensures shares { (plan : PlanOf) → SlowsNobody plan → IfOk result (λ _.
+        IsRound plan given.now r (standings_of workers.old keeping.old.saved.items)
+        (standings_of workers.new keeping.new.saved.items)) }
+    ensures collected { (history : List PassEntry) →
+        C.holds collector.old history (journals_of workers.old) →
+        OnOk result (C.holds collector.new history (journals_of workers.new)) }
+{
+    for k in 0..workers.len() {
+        let entries = workers[k].turn_on(given, r, keeping.all)?;
+        collector.add_turn(k, &entries)?;
+    }
+    Ok(())
+}
+
+/// The same where threads are slowed: each does its share by what all are before.
+fn shared_turns<C: Collector>(
+    workers: &mut [Worker],
+    given: &Arrivals,
+    plan: &Plan,
+    r: usize,
+    keeping: &mut Keeping,
+    collector: &mut C,
+) -> Result<(), C::Fault>
+    requires plan { IsPlan plan.now }
+    requires fits { FitSomeTable given.now }
+    requires given { r < length given.now.turns }
+    requires made { HaveMade given.now r workers.old }
+    requires kept { length keeping.old.saved.items ≡ length workers.old }
+    requires below { AreBelowWhole keeping.old.saved.items }
+    requires cores { AreAllCores keeping.old.all }
+    ensures suits { (table : Table) → C.suits collector.old table →
+        IfOk result (λ _. C.suits collector.new table) }
+    ensures made { IfOk result (λ _. HaveMade given.now (r + 1) workers.new) }
+    ensures seats { IfOk result (λ _. seats_of workers.new ≡ seats_of workers.old) }
+    ensures kept { length keeping.new.saved.items ≡ length keeping.old.saved.items }
+    ensures below { AreBelowWhole keeping.new.saved.items }
+    ensures cores { AreAllCores keeping.new.all }
+    ensures misses { keeping.new.misses ≡ keeping.old.misses }
+    ensures shares { IfOk result (λ _. IsRound plan.now given.now r
+        (standings_of workers.old keeping.old.saved.items)
+        (standings_of workers.new keeping.new.saved.items)) }
+    ensures collected { (history : List PassEntry) →
+        C.holds collector.old history (journals_of workers.old) →
+        OnOk result (C.holds collector.new history (journals_of workers.new)) }
+{
+    let interference = Interference::of(plan, keeping.all, workers);
     let saved = keeping.saved.as_mut_slice();
     for k in 0..workers.len() {
         let shows = workers[k].thread.last_record();
@@ -189,6 +277,7 @@ fn show_figure(
     requires some { pace * r + pace ≤ length given.old.passes }
     ensures given { DifferFrom (pace * r) given.old given.new }
     ensures saved { keeping.new.saved ≡ keeping.old.saved }
+    ensures cores { keeping.new.all ≡ keeping.old.all }
 {
     let misses = misses_shown(workers);
     let figure = misses.saturating_sub(keeping.misses);

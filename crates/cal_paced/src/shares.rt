@@ -37,11 +37,11 @@ pub(crate) struct Interference {
 }
 
 impl Interference {
-    /// By what these threads are before a round.
-    pub(crate) fn of(plan: &Plan, workers: &[Worker]) -> Interference
+    /// By what these threads are before a round; `all` are all cores.
+    pub(crate) fn of(plan: &Plan, all: CoreSet, workers: &[Worker]) -> Interference
+        requires { (core : ℕ) → has all core ≡ nat_lt core NUMBERS }
         ensures { IsInterference plan.now (map (λ (w : WorkerOf). w.thread) workers.now) result }
     {
-        let all = all_cores();
         let mut clear = all;
         let mut brought = 0;
         for worker in workers {
@@ -153,7 +153,7 @@ impl Shares {
 }
 
 /// All cores that a machine can have.
-fn all_cores() -> CoreSet
+pub(crate) fn all_cores() -> CoreSet
     ensures { (c : ℕ) → has result c ≡ nat_lt c NUMBERS }
 {
     let mut all = CoreSet::empty();
