@@ -10,6 +10,7 @@ ghost use Rattle.cal_kthread.specs.Turn.{Answers, AreAnswers, turned};
 ghost use Rattle.cal_kthread.specs.Turn.Entries.{entries_of};
 ghost use Rattle.cal_kthread.specs.Turn.Turns.{IsOneTurn};
 ghost use Rattle.cal_signal.specs.Pages.{last_published};
+ghost use Rattle.cal_signal.specs.Records.{IsShaped};
 ghost use Rattle.cal_signal.specs.declared.publisher.TheConstants.{LAST_PLACE};
 
 use crate::journal::entry::Entry;
@@ -104,7 +105,8 @@ impl BareThread {
 
     /// The record that it published last, the zero record before its first turn.
     pub fn last_record(&self) -> Record
-        ensures { result ≡ last_published self.now.thread.publisher.published }
+        ensures last { result ≡ last_published self.now.thread.publisher.published }
+        ensures shaped { IsShaped result }
     {
         let (_, last) = self.thread.publisher.last();
         last

@@ -4,6 +4,7 @@ ghost use Rattle.std.specs.Prelude.{◌≡◌, ◌+◌, ◌*◌, ◌<◌, ◌≤
 ghost use Rattle.std.specs.Prelude.{replicate, sum_by};
 ghost use Rattle.cal_kthread.specs.declared.journal.entry.Entry.{Entry};
 ghost use Rattle.cal_machine.specs.Table.{Table};
+ghost use Rattle.cal_machine.specs.declared.numbering.TheConstants.{MOST_THREADS};
 ghost use Rattle.cal_policy.specs.declared.history.entry.PassEntry.{PassEntry};
 ghost use Rattle.cal_run.specs.Parts.{AreParts, HasPassed, scheduler_seat_of, watch_seat_of};
 ghost use Rattle.cal_run.specs.Workers.{FitSomeTable, HaveMade, journals_of, seats_of};
@@ -70,6 +71,7 @@ pub(crate) fn make_rounds<C: Collector>(
     requires suits { C.suits collector.old parts.old.scheduler.table }
     requires fits { FitSomeTable given.old }
     requires many { length given.old.passes ≡ plan.now.pace * length given.old.turns }
+    requires few { length parts.old.workers.items ≤ MOST_THREADS }
     requires opened { AreParts parts.old.scheduler.table given.old 0 0 0 parts.old }
     requires nothing { keeping.old.saved.items ≡ replicate (length parts.old.workers.items) 0 }
     requires cores { AreAllCores keeping.old.all }
@@ -274,6 +276,7 @@ fn show_figure(
     r: usize,
     keeping: &mut Keeping,
 )
+    requires few { length workers.now ≤ MOST_THREADS }
     requires some { pace * r + pace ≤ length given.old.passes }
     ensures given { DifferFrom (pace * r) given.old given.new }
     ensures saved { keeping.new.saved ≡ keeping.old.saved }
@@ -289,6 +292,7 @@ fn show_figure(
 /// The misses that the last records of these threads show, all together. (No sum is above 2^63: a
 /// table has at most 128 threads, and each record at most 2^56 misses.)
 fn misses_shown(workers: &[Worker]) -> u64
+    requires few { length workers.now ≤ MOST_THREADS }
     ensures { result ≡ sum_by (λ (w : WorkerOf). (last_record w.thread).misses) workers.now }
 {
     let mut misses = 0;

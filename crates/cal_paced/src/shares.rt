@@ -43,13 +43,13 @@ impl Interference {
         ensures { IsInterference plan.now (map (λ (w : WorkerOf). w.thread) workers.now) result }
     {
         let mut clear = all;
-        let mut brought = 0;
+        let mut brought: u128 = 0;
         for worker in workers {
             let shows = worker.thread.last_record();
             if !is_at_work(&shows) {
                 continue;
             }
-            brought += worker.thread.would_bring();
+            brought += worker.thread.would_bring() as u128;
             if shows.running <= MOST_CORES as u64 {
                 clear.remove(sibling_of((shows.running - 1) as u8));
             }
@@ -180,15 +180,15 @@ fn sibling_of(core: u8) -> u8
 }
 
 /// The part of a turn's work for which memory bears the misses, in thousandths.
-fn memory_part(memory: Option<u64>, misses: u64) -> u16
+fn memory_part(memory: Option<u64>, misses: u128) -> u16
     ensures part { result ≡ memory_part memory misses }
     ensures within { result ≤ ALL }
 {
     let Some(most) = memory else {
         return WHOLE;
     };
-    if misses <= most {
+    if misses <= most as u128 {
         return WHOLE;
     }
-    (most as u128 * WHOLE as u128 / misses as u128) as u16
+    (most as u128 * WHOLE as u128 / misses) as u16
 }
