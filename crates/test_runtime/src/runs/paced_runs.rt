@@ -125,7 +125,7 @@ turn,750
 turn,850
 request,0,0,1,4,100
 request,1,0,2,3,60
-end,19
+end,18
 ";
 
 // Beside a sibling at work a turn does half of its work. Thread 0 begins in turn 1, alone. Thread 1
