@@ -108,6 +108,14 @@ impl BareThread {
         ensures last { result ≡ last_published self.now.thread.publisher.published }
         ensures shaped { IsShaped result }
     {
+        self.agrees();
+        self.shown()
+    }
+
+    /// The last record, of which nothing more is said.
+    fn shown(&self) -> Record
+        ensures { result ≡ last_published self.now.thread.publisher.published }
+    {
         let (_, last) = self.thread.publisher.last();
         last
     }

@@ -1,5 +1,5 @@
-use Rattle.std.proofs.Common.{List, sym, ap, subst, ◌∙◌}
-use Rattle.cal_signal.specs.Pages.{IsPage, last_published, page_of}
+use Rattle.std.proofs.Common.{List, sym, subst}
+use Rattle.cal_signal.specs.Pages.{IsPage, page_of}
 use Rattle.cal_signal.specs.Records.{IsShaped}
 use Rattle.cal_signal.specs.declared.record.Record.{Record}
 use Rattle.cal_kthread.proofs.TurnLemmas.Publishing.{last-shaped}
@@ -9,5 +9,5 @@ use Rattle.cal_kthread.proofs.bare_thread.BareThread.last_record.Goals as goal
 pub returns-clause-shaped : goal.returns-clause-shaped
 returns-clause-shaped c =
     let P : List Record → Type 0 = λ l. IsPage (page_of l) in
-    let page = subst P c.self.invariant.records c.self.invariant.is_journal.page in
-    subst IsShaped (sym c.last.ensures.last) (last-shaped c.self.inside.thread.publisher.published page)
+    let page = subst P c.agrees.ensures.page c.agrees.ensures.journal.page in
+    subst IsShaped (sym c.shown.ensures) (last-shaped c.args.self.now.thread.publisher.published page)
