@@ -12,7 +12,7 @@ use Rattle.cal_trace.specs.declared.arrivals.Arrivals.{Arrivals}
 use Rattle.cal_trace.specs.declared.arrivals.GivenPass.{GivenPass}
 use Rattle.cal_paced.specs.Laws.{AtPaceOneIsRun, NeutralSharesAreWhole}
 use Rattle.cal_paced.specs.Pace.{StandEvenly, pass_of}
-use Rattle.cal_paced.specs.Shares.{is_beside_work, share}
+use Rattle.cal_paced.specs.Shares.{is_at_work, is_beside_work, last_record, share}
 use Rattle.cal_paced.specs.declared.plan.TheConstants.{WHOLE}
 use Rattle.cal_paced.specs.declared.plan.TheConstants.Plan.{NEUTRAL}
 
@@ -62,4 +62,6 @@ either true = refl
 either false = refl
 
 pub neutral-shares : NeutralSharesAreWhole
-neutral-shares threads k core = let whole = either (is_beside_work threads core) in let P : ℕ → Type 0 = λ n. n * WHOLE / WHOLE ≡ WHOLE in subst P (sym whole) refl
+neutral-shares threads k core =
+    let beside = either (is_beside_work threads core) in
+    let memory = either (is_at_work (last_record k)) in λ i. beside i * memory i / WHOLE
