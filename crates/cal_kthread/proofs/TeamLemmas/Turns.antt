@@ -11,9 +11,9 @@ use Rattle.cal_kthread.specs.declared.queue.waiting.Waiting.{Waiting}
 use Rattle.cal_kthread.specs.Queue.{QueueId, QueueView}
 use Rattle.cal_kthread.specs.Team.{IsTeam, Place, place_of, thief_place}
 use Rattle.cal_kthread.specs.Team.Turns.{TurnKeepsPlace, SamePlaceKeepsTeam}
-use Rattle.cal_kthread.specs.Turn.OnCores.{TurnOnAllIsTurn, TurnOnKeepsPlace, core_in_turn, does_work, provided_if, worked_if, turned_if, turned_on}
+use Rattle.cal_kthread.specs.Turn.OnCores.{TurnOnAllIsTurn, TurnOnKeepsPlace, core_in_turn, does_work, provided_if, worked_if, turned_if}
 use Rattle.cal_kthread.specs.Turn.Thread.{ThreadView, KernelView}
-use Rattle.cal_kthread.specs.Turn.{Answers, arrived, taken, robbed, provided, worked_on, fronted, turned}
+use Rattle.cal_kthread.specs.Turn.{Answers, arrived, taken, robbed, provided, worked_on, fronted}
 use Rattle.cal_kthread.proofs.ListSums.{map-set-like}
 
 -- a thief that stole is at the same queue

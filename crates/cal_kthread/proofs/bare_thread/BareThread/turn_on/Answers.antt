@@ -1,4 +1,4 @@
-use Rattle.std.proofs.Common.{◌≡◌, ℕ, ◌<◌, ◌∙◌, ◌++◌, Bool, subst, sym, ap, length, Option, IfSome, Some, refl, arith}
+use Rattle.std.proofs.Common.{◌≡◌, ◌<◌, ◌∙◌, ◌++◌, Bool, subst, sym, ap, length, Option, IfSome, Some, refl, arith}
 use Rattle.cal_signal.specs.declared.record.Record.{Record}
 use Rattle.cal_signal.specs.Ends.{PublisherView}
 use Rattle.cal_signal.specs.Pages.{last_published}

@@ -3,7 +3,6 @@ use Rattle.std.specs.List.{slice_get}
 use Rattle.std.proofs.lemmas.Option.{slice_get-get_or}
 use Rattle.cal_machine.specs.CoreSet.{has}
 use Rattle.cal_kthread.specs.Turn.OnCores.{turned_on, work_in_turn}
-use Rattle.cal_trace.specs.declared.arrivals.reading.TheConstants.{MOST_TURNS}
 use Rattle.cal_run.specs.Workers.GivenTurns.{request_at}
 use Rattle.cal_run.specs.Workers.{IsNext}
 use Rattle.cal_run.specs.declared.workers.worker.Worker.{Worker}
