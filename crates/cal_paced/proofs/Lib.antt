@@ -1,2 +1,3 @@
+pub mod Cores
 pub mod Leaving
 pub mod PaceOne

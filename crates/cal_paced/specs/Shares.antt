@@ -1,6 +1,6 @@
 -- What a thread does of a turn's work, in thousandths, by what the threads are before a round of
 -- turns.
-use Rattle.std.specs.Prelude.{◌≡◌, ℕ, ◌+◌, ◌*◌, ◌/◌, ◌<◌, ◌≤◌, ◌==◌, ◌&&◌, not, nat_lt, Bool, List}
+use Rattle.std.specs.Prelude.{◌≡◌, ℕ, ◌+◌, ◌*◌, ◌/◌, ◌<◌, ◌≤◌, ◌==◌, ◌&&◌, not, nat_lt, Bool, true, List}
 use Rattle.std.specs.Prelude.{Option, Some, None}
 use Rattle.std.specs.Prelude.{if◌then◌else◌, sum_by}
 use Rattle.std.specs.List.{list_any}
@@ -77,6 +77,7 @@ share_on shares core = if has shares.clear core then shares.alone else shares.be
 pub record AreShares (plan : Plan) (threads : List KernelView) (k : KernelView)
     (shares : Shares) : Type 0 where
   pub all : (core : ℕ) → has shares.all core ≡ nat_lt core MOST_CORES
+  pub clear : (core : ℕ) → has shares.clear core ≡ true → core < MOST_CORES
   pub on : (core : ℕ) → core < MOST_CORES → share_on shares core ≡ share plan threads k core
   pub within : shares.alone ≤ WHOLE
   pub more : shares.beside ≤ shares.alone

@@ -1,6 +1,6 @@
 //! What threads do of a turn's work.
 
-ghost use Rattle.std.specs.Prelude.{◌≡◌, ◌<◌, ◌≤◌, ℕ, Bool, List, Option, map, nat_lt};
+ghost use Rattle.std.specs.Prelude.{◌≡◌, ◌<◌, ◌≤◌, ℕ, Bool, true, List, Option, map, nat_lt};
 ghost use Rattle.cal_kthread.specs.Turn.OnCores.{core_in_turn};
 ghost use Rattle.cal_kthread.specs.Turn.Thread.{KernelView};
 ghost use Rattle.cal_kthread.specs.Turn.{Answers};
@@ -114,6 +114,7 @@ impl Shares {
         requires alone { self.now.alone ≤ ALL }
         requires beside { self.now.beside ≤ self.now.alone }
         requires all { (core : ℕ) → has self.now.all core ≡ nat_lt core NUMBERS }
+        requires clear { (core : ℕ) → has self.now.clear core ≡ true → core < NUMBERS }
         ensures { (core : ℕ) →
             has result core ≡ comes_to_turn saved (share_on self.now) core }
     {
