@@ -1,5 +1,5 @@
 -- What came of the cores of a task, and of the machine's, over a whole history.
-use Rattle.std.specs.Prelude.{◌≡◌, ℕ, ◌+◌, ◌-◌, ◌*◌, Bool, nat_lt, List, length, take}
+use Rattle.std.specs.Prelude.{◌≡◌, ◌≤◌, ℕ, ◌+◌, ◌-◌, ◌*◌, ◌^◌, Bool, nat_lt, List, length, take}
 use Rattle.std.specs.Prelude.{slice_get, Option, Some, None, if◌then◌else◌}
 use Rattle.cal_machine.specs.Table.{Table}
 use Rattle.cal_policy.specs.Board.Counts.{booked_by, held_by}
@@ -66,6 +66,10 @@ pub record AreCoresOf (table : Table) (history : List PassEntry) (t : ℕ)
   pub held : numbers.held ≡ core_time history (held_after table history t)
   pub leaving : numbers.leaving ≡ core_time history (left_after table history t)
   pub congested : numbers.congested ≡ congested_for table history t
+  -- of at most 256 cores, by a clock of 64 bits
+  pub few_held : numbers.held ≤ length history * 2 ^ 72
+  pub few_leaving : numbers.leaving ≤ length history * 2 ^ 72
+  pub few_congested : numbers.congested ≤ length history * 2 ^ 72
 
 -- for each task, in task order, the numbers of its cores in this history
 pub record AreCoresOfTasks (table : Table) (history : List PassEntry)

@@ -1,6 +1,6 @@
 -- What came of the requests of a task. They come to its threads, are served by one of them, or are
 -- left with one of them.
-use Rattle.std.specs.Prelude.{◌≡◌, ℕ, ◌+◌, ◌-◌, ◌==◌, List, [], length, map, sum}
+use Rattle.std.specs.Prelude.{◌≡◌, ◌≤◌, ℕ, ◌+◌, ◌-◌, ◌*◌, ◌^◌, ◌==◌, List, [], length, map, sum}
 use Rattle.std.specs.Prelude.{slice_index_or, Option, option_map}
 use Rattle.std.specs.List.{count_by}
 use Rattle.cal_machine.specs.Table.{Table}
@@ -84,6 +84,8 @@ pub record AreOfServices (arrivals : Arrivals) (services : List Service) (remain
   pub together : numbers.together
       ≡ sum (map (response_of arrivals.turns arrivals.requests) services)
       + sum (map (so_far_of arrivals.turns arrivals.requests (run_end arrivals)) remaining)
+  -- by clocks of 64 bits
+  pub few : numbers.together ≤ numbers.response.count * 2 ^ 64
   -- of those that were served
   pub wait : IsSpread (map (wait_of arrivals.turns arrivals.requests) services) [] numbers.wait
   pub service : IsSpread (map worked_of services) [] numbers.service

@@ -1,6 +1,6 @@
 -- What the threads of a task did in their turns: how long they worked, what they stole, and how
 -- often a request was suspended.
-use Rattle.std.specs.Prelude.{◌≡◌, ℕ, ◌+◌, ◌&&◌, List, [], ◌∷◌, length, sum, slice_get}
+use Rattle.std.specs.Prelude.{◌≡◌, ◌≤◌, ℕ, ◌+◌, ◌&&◌, ◌^◌, List, [], ◌∷◌, length, sum, slice_get}
 use Rattle.std.specs.Prelude.{slice_index_or, Option, Some, None, if◌then◌else◌}
 use Rattle.cal_kthread.specs.declared.journal.entry.Entry.{Entry}
 use Rattle.cal_kthread.specs.declared.journal.entry.Entry.TheVariants.{Arrived, Took, Stole}
@@ -71,5 +71,7 @@ suspensions_at journals k = suspensions_in (turns_of (journal_of journals k))
 pub record AreWorkOf (table : Table) (last : ℕ) (journals : List (List Entry)) (t : ℕ)
     (numbers : TaskWork) : Type 0 where
   pub worked : numbers.worked ≡ sum (of_threads table t (worked_at last journals))
+  -- of at most 128 threads with 2 ^ 20 turns each, by a clock of 64 bits
+  pub few : numbers.worked ≤ 2 ^ 91
   pub thefts : numbers.thefts ≡ length (of_threads table t (stolen_at journals))
   pub suspensions : numbers.suspensions ≡ length (of_threads table t (suspensions_at journals))

@@ -7,10 +7,9 @@ pub mod task_time;
 ghost use Rattle.std.specs.Prelude.{◌≡◌, ◌<◌, ◌≤◌, ◌+◌, ◌++◌, ◌∷◌, [], List, IfOk, length};
 ghost use Rattle.std.specs.List.{All};
 ghost use Rattle.cal_machine.specs.Table.{Table};
-ghost use Rattle.cal_measure.specs.Cores.{AreCoresOfTasks, AreMachineCores, MakeTheWhole};
-ghost use Rattle.cal_measure.specs.Walk.{AreActionsOfEach, EachTask, IsOpenFor, IsTimeOf};
-ghost use Rattle.cal_measure.specs.Walk.{IsWalkOf};
-ghost use Rattle.cal_measure.specs.Walk.{since};
+ghost use Rattle.cal_measure.specs.Cores.{AreCoresOfTasks, MakeTheWhole};
+ghost use Rattle.cal_measure.specs.Walk.{AreActionsOfEach, AreMachineCoresSoFar, EachTask};
+ghost use Rattle.cal_measure.specs.Walk.{IsOpenFor, IsTimeOf, IsWalkOf, since};
 ghost use Rattle.cal_policy.specs.Board.{NamesTable};
 ghost use Rattle.cal_policy.specs.Pass.{IsLegal};
 ghost use Rattle.cal_policy.specs.State.{IsReady, IsStateAfter};
@@ -152,7 +151,7 @@ impl Walk {
     /// The numbers of the machine's cores, whose parts make the whole.
     pub fn machine(&self) -> MachineCores
         ensures numbers { (table : Table) (h : List PassEntry) → IsWalkOf table h self.now →
-            AreMachineCores table h result }
+            AreMachineCoresSoFar table h result }
         ensures whole { (table : Table) (h : List PassEntry) → IsWalkOf table h self.now →
             MakeTheWhole table result }
     {

@@ -11,3 +11,5 @@ pub mod OwnValue
 pub mod Unvaried
 pub mod OneTable
 pub mod Verdicts
+pub mod Means
+pub mod Small

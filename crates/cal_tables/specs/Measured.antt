@@ -4,10 +4,10 @@ use Rattle.std.specs.List.{AllZip}
 use Rattle.cal_kthread.specs.declared.journal.entry.Entry.{Entry}
 use Rattle.cal_machine.specs.Table.{Table}
 use Rattle.cal_measure.specs.Clocks.{run_end, turns_last}
-use Rattle.cal_measure.specs.Cores.{AreCoresOfTasks, AreMachineCores, MakeTheWhole}
+use Rattle.cal_measure.specs.Cores.{AreCoresOfTasks, MakeTheWhole}
 use Rattle.cal_measure.specs.Requests.{AreRequestsOf}
 use Rattle.cal_measure.specs.ThreadWork.{AreTotalsOfEach, IsThreadWorkOf}
-use Rattle.cal_measure.specs.Walk.{IsWalkOf}
+use Rattle.cal_measure.specs.Walk.{AreMachineCoresSoFar, IsWalkOf}
 use Rattle.cal_measure.specs.declared.requests.TaskRequests.{TaskRequests}
 use Rattle.cal_policy.specs.declared.history.entry.PassEntry.{PassEntry}
 use Rattle.cal_run.specs.Outcome.{IsRun}
@@ -30,7 +30,7 @@ pub record AreNumbersOf (table : Table) (arrivals : Arrivals) (outcome : Outcome
 pub record AreHistoryNumbers (table : Table) (history : List PassEntry)
     (numbers : HistoryNumbers) : Type 0 where
   pub cores : AreCoresOfTasks table history numbers.cores.items
-  pub machine : AreMachineCores table history numbers.machine
+  pub machine : AreMachineCoresSoFar table history numbers.machine
   pub whole : MakeTheWhole table numbers.machine
 
 -- what is held of a run while it is made, which made these passes and whose threads keep these
@@ -53,7 +53,7 @@ pub record AreRunNumbers (table : Table) (arrivals : Arrivals) (outcome : Outcom
     (numbers : RunNumbers) : Type 0 where
   pub requests : AreNumbersOf table arrivals outcome numbers.requests.items
   pub cores : AreCoresOfTasks table outcome.history numbers.cores.items
-  pub machine : AreMachineCores table outcome.history numbers.machine
+  pub machine : AreMachineCoresSoFar table outcome.history numbers.machine
   pub whole : MakeTheWhole table numbers.machine
   pub turns : numbers.turns ≡ turns_last arrivals
 

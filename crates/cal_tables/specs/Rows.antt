@@ -1,5 +1,5 @@
 -- Which number stands in which row.
-use Rattle.std.specs.Prelude.{ℕ, ◌-◌, ◌^◌, min, nat_lt, Bool, true, false}
+use Rattle.std.specs.Prelude.{◌≤◌, ◌⊎◌, ℕ, ◌-◌, ◌*◌, ◌^◌, min, nat_lt, Bool, true, false}
 use Rattle.std.specs.Prelude.{Option, Some, None, if◌then◌else◌}
 use Rattle.cal_measure.specs.Shares.{thousandths_of}
 use Rattle.cal_measure.specs.declared.cores.MachineCores.{MachineCores}
@@ -34,6 +34,10 @@ share_in (Some n) = Some (exact (min n (2 ^ 64 - 1)))
 -- a part of a whole
 abbrev pub share_of : ℕ → ℕ → Option Figure
 share_of part whole = share_in (thousandths_of part whole)
+
+-- so many numbers of 64 bits can come to this together, or it is not great
+abbrev pub IsSumOf : ℕ → ℕ → Type 0
+IsSumOf together count = (together ≤ count * 2 ^ 64) ⊎ (together ≤ 2 ^ 100)
 
 -- one of some times
 abbrev pub time_in : Spread → Rank → Option Time

@@ -1,8 +1,8 @@
 //! The figures of rows, and how they are written.
 
 ghost use Rattle.std.specs.Prelude.{◌≡◌, ◌≤◌, ◌^◌, Some};
-ghost use Rattle.cal_tables.specs.Rows.{exact, few_for, if_below, known, ranked_figure, share_of};
-ghost use Rattle.cal_tables.specs.Rows.{time_in};
+ghost use Rattle.cal_tables.specs.Rows.{exact, few_for, if_below, IsSumOf, known, ranked_figure};
+ghost use Rattle.cal_tables.specs.Rows.{share_of, time_in};
 
 use crate::sheet::NumberForm;
 use cal_measure::{Spread, Time, thousandths};
@@ -84,6 +84,21 @@ pub fn share(part: u128, whole: u128) -> Option<Figure>
         None => None,
         Some(share) => Some(Figure::of(share.min(u64::MAX as u128) as u64)),
     }
+}
+
+/// The mean of so many numbers that come to so much together, in thousandths; of none there is
+/// none. Exact for numbers of 64 bits.
+pub fn mean(together: u128, count: usize) -> Option<Figure>
+    ensures { IsSumOf together count → result ≡ share_of together count }
+{
+    if count == 0 {
+        return None;
+    }
+    let count = count as u128;
+    let whole = (together / count).saturating_mul(1000);
+    let rest = thousandths(together % count, count)?;
+    let all = whole.saturating_add(rest);
+    Some(Figure::of(all.min(u64::MAX as u128) as u64))
 }
 
 /// How a rank is called.

@@ -1,7 +1,8 @@
-//! Laws of variations and of the arrivals that tables get, each the contract of a function that
-//! does nothing.
+//! Laws of variations, of the arrivals that tables get, and of the numbers of runs, each the contract
+//! of a function that does nothing.
 
-ghost use Rattle.cal_tables.specs.Laws.{OwnValueGivesTheTable, SameLimitsMoveNothing};
+ghost use Rattle.cal_tables.specs.Laws.{NumbersOfRunsAreSmall, OwnValueGivesTheTable};
+ghost use Rattle.cal_tables.specs.Laws.{SameLimitsMoveNothing};
 ghost use Rattle.cal_tables.specs.Laws.{TableTextIsReadBack, VariedDiffersAtItsKey};
 
 /// The text of a table, line by line as it is varied, is read as that table.
@@ -24,4 +25,10 @@ pub fn varied_differs_at_its_key()
 /// A table whose tasks have the limits of those that arrivals were given for gets them as they are.
 pub fn same_limits_move_nothing()
     ensures { SameLimitsMoveNothing }
+{}
+
+/// The numbers of a run are small enough for each mean and each part that is made of them to be
+/// exact: the premises of `request_figure`, `core_figure` and the machine's figures hold.
+pub fn numbers_of_runs_are_small()
+    ensures { NumbersOfRunsAreSmall }
 {}

@@ -31,8 +31,8 @@ pub use figures::{Figure, Rank, Unit, count, number, share, time_in};
 pub use joining::{front_of_table, table_part};
 pub use labels::{Labels, letters};
 pub use laws::{
-    own_value_gives_the_table, same_limits_move_nothing, table_text_is_read_back,
-    varied_differs_at_its_key,
+    numbers_of_runs_are_small, own_value_gives_the_table, same_limits_move_nothing,
+    table_text_is_read_back, varied_differs_at_its_key,
 };
 pub use measuring::{RunNumbers, measure, measured_run};
 pub use recorded::{HistoryNumbers, Recorded, history_numbers, measured_recording};

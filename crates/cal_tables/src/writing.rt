@@ -3,13 +3,13 @@
 ghost use Rattle.std.specs.Prelude.{◌≡◌, ◌≤◌, ◌+◌, ◌^◌, length, None, slice_get, Some};
 ghost use Rattle.cal_measure.specs.declared.cores.TaskCores.{TaskCores as OfCores};
 ghost use Rattle.cal_measure.specs.declared.requests.TaskRequests.{TaskRequests as OfRequests};
-ghost use Rattle.cal_tables.specs.Rows.{bound_if, figure_of, oldest_in};
+ghost use Rattle.cal_tables.specs.Rows.{bound_if, figure_of, IsSumOf, oldest_in};
 
 use crate::core_rows::{
     CORE_LINES, CoreLine, MACHINE_LINES, MachineLine, core_figure, core_label, core_unit,
     is_of_passes, machine_figure, machine_label, machine_unit,
 };
-use crate::figures::{Figure, Rank, Unit, count, rank_name, ranked_figure, share};
+use crate::figures::{Figure, Rank, Unit, count, mean, rank_name, ranked_figure, share};
 use crate::labels::Labels;
 use crate::measuring::RunNumbers;
 use crate::recorded::HistoryNumbers;
@@ -132,7 +132,8 @@ fn oldest_in(greatest: Option<Time>) -> Option<Figure>
 /// What a row says of a task with these numbers, which had so much core time, in a run whose turns
 /// last so long.
 fn figure_of(requests: &TaskRequests, had: u128, turns: u64, line: Line) -> Option<Figure>
-    ensures { requests.now.together ≤ 2 ^ 100 → requests.now.work.worked ≤ 2 ^ 100 →
+    ensures { IsSumOf requests.now.together requests.now.response.count →
+        requests.now.work.worked ≤ 2 ^ 100 →
         had ≤ 2 ^ 100 → result ≡ figure_of requests.now had turns line }
 {
     match line {
@@ -142,7 +143,7 @@ fn figure_of(requests: &TaskRequests, had: u128, turns: u64, line: Line) -> Opti
         Line::ServedInATick => share(requests.served as u128, turns as u128),
         Line::Response(rank) => ranked_figure(&requests.response, rank),
         Line::MeanResponse => {
-            let mean = share(requests.together, requests.response.count as u128);
+            let mean = mean(requests.together, requests.response.count);
             bound_if(requests.left > 0, mean)
         }
         Line::Wait(rank) => ranked_figure(&requests.wait, rank),
@@ -160,7 +161,7 @@ pub fn request_figure(numbers: &RunNumbers, task: usize, line: Line) -> Option<F
     ensures there { (requests : OfRequests) (cores : OfCores) →
         slice_get numbers.now.requests.items task ≡ Some requests →
         slice_get numbers.now.cores.items task ≡ Some cores →
-        requests.together ≤ 2 ^ 100 → requests.work.worked ≤ 2 ^ 100 →
+        IsSumOf requests.together requests.response.count → requests.work.worked ≤ 2 ^ 100 →
         cores.held + cores.leaving ≤ 2 ^ 100 →
         result ≡ figure_of requests (cores.held + cores.leaving) numbers.now.turns line }
     ensures missing { length numbers.now.requests.items ≤ task → result ≡ None }

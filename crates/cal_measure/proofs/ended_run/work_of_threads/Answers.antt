@@ -1,5 +1,6 @@
 use Rattle.std.proofs.Common.{◌≡◌, ◌<◌, ◌+◌, ◌++◌, ◌∙◌, ℕ, List, length, ap, subst, arith}
 use Rattle.std.specs.Prelude.{sum}
+use Rattle.cal_machine.specs.Limits.{most_threads-is}
 use Rattle.cal_machine.specs.TableTasks.{limit_of, thread_of}
 use Rattle.cal_machine.specs.declared.numbering.TheConstants.{MOST_THREADS}
 use Rattle.cal_measure.specs.Joined.{joined_below}
@@ -36,11 +37,15 @@ returns c = λ last journals each.
     let times : ℕ → List ℕ = λ i. worked_at last journals (thread_of table t i) in
     let stolen : ℕ → List ℕ = λ i. stolen_at journals (thread_of table t i) in
     let stamps : ℕ → List ℕ = λ i. suspensions_at journals (thread_of table t i) in
-    let are = (c.loop-j.invariant last journals each).1 in
+    let before = c.loop-j.invariant last journals each in
+    let are = before.1 in
+    let within = before.0 in
     let same : c.loop-j.j ≡ limit_of table t =
     let past = c.loop-j-test.false in let count = c.threads_of-first.ensures.count in let end = c.loop-j.auto.j-end in omega (arith, past, count, end) in
     record {
       worked = are.worked ∙ ap (λ n. sum (joined_below times n)) same;
+      few = let worked = within.worked in let last_thread = c.threads_of-first.ensures.within in let most = c.limits.ensures.threads in let count = c.threads_of-first.ensures.count in
+          let many = most_threads-is in omega (arith, worked, same, count, last_thread, most, many);
       thefts = are.thefts ∙ ap (λ n. length (joined_below stolen n)) same;
       suspensions = are.suspensions ∙ ap (λ n. length (joined_below stamps n)) same;
     }

@@ -1,4 +1,4 @@
-use Rattle.std.proofs.Common.{◌≡◌, ◌∙◌, ◌+◌, ℕ, List, [], length, map, ap, subst, rules}
+use Rattle.std.proofs.Common.{◌≡◌, ◌≤◌, ◌∙◌, ◌+◌, ◌*◌, ◌^◌, ℕ, List, [], length, map, ap, subst, arith, rules}
 use Rattle.std.specs.Prelude.{sum}
 use Rattle.cal_machine.specs.declared.request.Request.{Request}
 use Rattle.cal_measure.specs.Requests.{response_of, slowdowns_of, so_far_of, wait_of, worked_of}
@@ -29,6 +29,8 @@ returns-clause-are c =
       response = same_spread _ _ _ _ _ answered pending c.spread_of-response.ensures;
       together = ap (λ n. n + c.total_of-2.result) (c.total_of.ensures.total ∙ ap (λ (l : List ℕ). sum l) (c.as_slice.ensures.value ∙ answered))
           ∙ ap (λ n. sum (map (response_of turns requests) services) + n) (c.total_of-2.ensures.total ∙ ap (λ (l : List ℕ). sum l) (c.as_slice-2.ensures.value ∙ pending));
+      few = let each = c.total_of.ensures.each in let each_pending = c.total_of-2.ensures.each in let count = c.spread_of-response.ensures.count in
+          let one = ap (λ (l : List ℕ). length l) c.as_slice.ensures.value in let two = ap (λ (l : List ℕ). length l) c.as_slice-2.ensures.value in omega (arith, each, each_pending, count, one, two);
       wait = subst (λ (times : List ℕ). IsSpread times [] c.spread_of_known-wait.result)
           (c.in_ok-waits.ensures turns requests c.requires ∙ ap (λ (l : List Service). map (wait_of turns requests) l) same) c.spread_of_known-wait.ensures;
       service = subst (λ (times : List ℕ). IsSpread times [] c.spread_of_known-service.result) (c.in_ok-works.ensures ∙ ap (λ (l : List Service). map worked_of l) same) c.spread_of_known-service.ensures;

@@ -1,4 +1,4 @@
-use Rattle.std.proofs.Common.{◌≡◌, ◌∙◌, ◌<◌, ◌∷◌, [], ℕ, List, Some, slice_get, length, length-append, ap, refl, subst, sym, arith}
+use Rattle.std.proofs.Common.{◌≡◌, ◌∙◌, ◌<◌, ◌≤◌, ◌*◌, ◌^◌, ◌∷◌, [], ℕ, List, Some, slice_get, length, length-append, ap, refl, subst, sym, arith}
 use Rattle.std.proofs.lemmas.Option.{slice_get_read}
 use Rattle.cal_machine.specs.Table.{Table}
 use Rattle.cal_policy.specs.declared.history.entry.PassEntry.{PassEntry}
@@ -22,6 +22,9 @@ taken table h walk n t now time is place actions at most held leaving congested 
       held = held ∙ of_task.held;
       leaving = leaving ∙ of_task.leaving;
       congested = congested ∙ of_task.congested;
+      few_held = let few = of_task.few_held in omega (arith, held, few);
+      few_leaving = let few = of_task.few_leaving in omega (arith, leaving, few);
+      few_congested = let few = of_task.few_congested in omega (arith, congested, few);
     })
 
 pub loop-task-preserved : goal.loop-task-preserved
