@@ -26,7 +26,7 @@ use std::time::Instant;
 use timed::Timed;
 
 /// What is added up over passes.
-#[derive(Clone, Copy)]
+#[derive(Clone, Copy, Default)]
 struct Sums {
     passes: u64,
     reading: u128,
@@ -97,16 +97,6 @@ fn each(sum: u128, count: u64) -> u128 {
 }
 
 impl Sums {
-    fn new() -> Sums {
-        Sums {
-            passes: 0,
-            reading: 0,
-            passing: 0,
-            published: 0,
-            actions: 0,
-        }
-    }
-
     fn with(self, more: Sums) -> Sums {
         Sums {
             passes: self.passes.saturating_add(more.passes),
@@ -156,7 +146,7 @@ impl Machine {
         to: u64,
         rates: Rates,
     ) -> anyhow::Result<Sums> {
-        let mut sums = Sums::new();
+        let mut sums = Sums::default();
         for p in from..to {
             let now = p.saturating_mul(10).saturating_add(1000);
             let published = self.turn_each(now, rates);

@@ -11,8 +11,6 @@ mod command;
 #[cfg(test)]
 mod guard;
 #[cfg(test)]
-mod lists;
-#[cfg(test)]
 mod looks;
 #[cfg(test)]
 mod machine;

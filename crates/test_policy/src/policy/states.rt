@@ -8,9 +8,29 @@ use std::alloc::{AllocError, Global};
 use std::process::Abort;
 use std::test::Fail;
 
-/// A table; which core each thread has that has one; and what comes after the looks of the second
-/// pass.
-type State = (&'static str, &'static [(u8, u8)], &'static str);
+/// A state, and the passes that follow.
+#[derive(Clone, Copy)]
+struct State {
+    cores: u8,
+    /// The tasks, as the table has them.
+    tasks: &'static [&'static str],
+    /// Which thread each core has that has one.
+    held: &'static [(u8, u8)],
+    /// What comes after the looks of the second pass.
+    rest: &'static str,
+}
+
+/// The table of these cores and tasks.
+fn table_of(alloc: Global, state: State) -> Result<Config, Fail> {
+    let mut text = String::new(alloc);
+    let cores = state.cores;
+    writeln!(text, "cores = {cores}\nbandwidth_limit = 1000\ntask = [")?;
+    for task in state.tasks {
+        writeln!(text, "{task},")?;
+    }
+    text.push_str("]\n")?;
+    Ok(Config::read(alloc, text.as_bytes())?)
+}
 
 /// The row of a thread that shows the core which it has.
 fn push_shown(text: &mut String, thread: usize, core: Option<u8>) -> Result<(), AllocError> {
@@ -26,12 +46,8 @@ fn push_shown(text: &mut String, thread: usize, core: Option<u8>) -> Result<(), 
 
 /// The core that a thread has.
 fn core_of(held: &[(u8, u8)], thread: usize) -> Option<u8> {
-    for (core, holder) in held {
-        if *holder as usize == thread {
-            return Some(*core);
-        }
-    }
-    None
+    let (core, _) = held.iter().find(|(_, holder)| *holder as usize == thread)?;
+    Some(*core)
 }
 
 /// The rows of the first pass, in which no thread was ever at work, and which grants the cores.
@@ -81,12 +97,11 @@ fn assert_made<R: Abort + AllocGlobal>(
 
 /// Each pass of the history from the third on is made after those before it.
 fn assert_all_made<R: Abort + AllocGlobal>(rt: &R, state: State) -> Result<(), Fail> {
-    let (table, held, rest) = state;
-    let config = Config::read(rt.alloc(), table.as_bytes())?;
+    let config = table_of(rt.alloc(), state)?;
     let mut text = String::new(rt.alloc());
-    push_first(&mut text, config.threads(), held)?;
-    push_second(&mut text, config.threads(), held)?;
-    text.push_str(rest)?;
+    push_first(&mut text, config.threads(), state.held)?;
+    push_second(&mut text, config.threads(), state.held)?;
+    text.push_str(state.rest)?;
     let history = read_history(rt.alloc(), &config, text.as_bytes())?;
     assert!(rt; history.len() > 2);
     for p in 2..history.len() {
@@ -99,19 +114,11 @@ fn assert_all_made<R: Abort + AllocGlobal>(rt: &R, state: State) -> Result<(), F
 /// task's own is granted (class 1).
 #[test]
 fn sibling_first(rt: HostRuntime) -> Result<(), Fail> {
-    assert_all_made(&rt, SIBLING_FIRST)
-}
-
-const SIBLING_FIRST: State = (
-    "\
-cores = 4
-bandwidth_limit = 1000
-task = [
-{ kind = \"lc\", guaranteed = 1, limit = 3, delay = 10, request = 50 },
-]
-",
-    &[(0, 0), (1, 1), (2, 2)],
-    "\
+    let state = State {
+        cores: 4,
+        tasks: &["{ kind = \"lc\", guaranteed = 1, limit = 3, delay = 10, request = 50 }"],
+        held: &[(0, 0), (1, 1), (2, 2)],
+        rest: "\
 pass,200,0
 whole,0,1,2,1,0,1,100,0,0,190,0,0
 whole,1,1,2,1,0,0,0,0,0,190,0,0
@@ -121,29 +128,25 @@ free,1
 grant,3,0,1
 end,3
 ",
-);
+    };
+    assert_all_made(&rt, state)
+}
 
-/// Two cores, and a task of each kind with two threads.
-const TWO_CORES: &str = "\
-cores = 2
-bandwidth_limit = 1000
-task = [
-{ kind = \"lc\", guaranteed = 1, limit = 2, delay = 10, request = 50 },
-{ kind = \"be\", guaranteed = 0, limit = 2, delay = 0, request = 0 },
-]
-";
+/// A task of each kind with two threads.
+const TWO_OF_EACH_KIND: [&str; 2] = [
+    "{ kind = \"lc\", guaranteed = 1, limit = 2, delay = 10, request = 50 }",
+    "{ kind = \"be\", guaranteed = 0, limit = 2, delay = 0, request = 0 }",
+];
 
 /// A core of a best-effort task is revoked for a latency-critical one (class 4), and no other while
 /// it is being left.
 #[test]
 fn preempt_best_effort(rt: HostRuntime) -> Result<(), Fail> {
-    assert_all_made(&rt, PREEMPT_BEST_EFFORT)
-}
-
-const PREEMPT_BEST_EFFORT: State = (
-    TWO_CORES,
-    &[(0, 2), (1, 3)],
-    "\
+    let state = State {
+        cores: 2,
+        tasks: &TWO_OF_EACH_KIND,
+        held: &[(0, 2), (1, 3)],
+        rest: "\
 pass,200,0
 whole,0,1,2,0,0,1,100,0,0,190,0,0
 whole,1,1,2,0,0,0,0,0,0,0,0,0
@@ -157,18 +160,18 @@ whole,2,1,2,1,1,0,0,0,0,100,0,0
 whole,3,1,2,1,2,0,0,0,0,100,0,0
 end,4
 ",
-);
+    };
+    assert_all_made(&rt, state)
+}
 
 /// A thread that yielded before it took its Park shows that it left: its core is free.
 #[test]
 fn yield_before_park(rt: HostRuntime) -> Result<(), Fail> {
-    assert_all_made(&rt, YIELD_BEFORE_PARK)
-}
-
-const YIELD_BEFORE_PARK: State = (
-    TWO_CORES,
-    &[(0, 2), (1, 3)],
-    "\
+    let state = State {
+        cores: 2,
+        tasks: &TWO_OF_EACH_KIND,
+        held: &[(0, 2), (1, 3)],
+        rest: "\
 pass,200,0
 whole,0,1,2,0,0,1,100,0,0,190,0,0
 whole,1,1,2,0,0,0,0,0,0,0,0,0
@@ -184,26 +187,22 @@ free,0
 grant,0,0,3
 end,4
 ",
-);
+    };
+    assert_all_made(&rt, state)
+}
 
 /// A core that is being left counts too: at its cap, which rises by one, the task gets no other
 /// core.
 #[test]
 fn cap_counts_booked(rt: HostRuntime) -> Result<(), Fail> {
-    assert_all_made(&rt, CAP_COUNTS_BOOKED)
-}
-
-const CAP_COUNTS_BOOKED: State = (
-    "\
-cores = 4
-bandwidth_limit = 1000
-task = [
-{ kind = \"lc\", guaranteed = 1, limit = 2, delay = 10, request = 50 },
-{ kind = \"be\", guaranteed = 0, limit = 3, delay = 0, request = 0 },
-]
-",
-    &[(0, 2), (1, 3)],
-    "\
+    let state = State {
+        cores: 4,
+        tasks: &[
+            "{ kind = \"lc\", guaranteed = 1, limit = 2, delay = 10, request = 50 }",
+            "{ kind = \"be\", guaranteed = 0, limit = 3, delay = 0, request = 0 }",
+        ],
+        held: &[(0, 2), (1, 3)],
+        rest: "\
 cap,1,1
 revoke,1,bandwidth
 pass,200,0
@@ -215,26 +214,22 @@ whole,4,1,2,0,0,0,0,0,0,0,0,0
 cap,1,2
 end,3
 ",
-);
+    };
+    assert_all_made(&rt, state)
+}
 
 /// Above the limit the first of two tasks with as many misses loses its highest core and gets a
 /// cap; at the limit its cap rises again.
 #[test]
 fn bandwidth_victim_and_cap_recovers(rt: HostRuntime) -> Result<(), Fail> {
-    assert_all_made(&rt, BANDWIDTH_VICTIM_AND_CAP_RECOVERS)
-}
-
-const BANDWIDTH_VICTIM_AND_CAP_RECOVERS: State = (
-    "\
-cores = 4
-bandwidth_limit = 1000
-task = [
-{ kind = \"be\", guaranteed = 0, limit = 2, delay = 0, request = 0 },
-{ kind = \"be\", guaranteed = 0, limit = 2, delay = 0, request = 0 },
-]
-",
-    &[(0, 0), (1, 1), (2, 2), (3, 3)],
-    "\
+    let state = State {
+        cores: 4,
+        tasks: &[
+            "{ kind = \"be\", guaranteed = 0, limit = 2, delay = 0, request = 0 }",
+            "{ kind = \"be\", guaranteed = 0, limit = 2, delay = 0, request = 0 }",
+        ],
+        held: &[(0, 0), (1, 1), (2, 2), (3, 3)],
+        rest: "\
 pass,200,1001
 whole,0,1,2,1,1,0,0,0,300,150,0,0
 whole,1,1,2,1,2,0,0,0,200,150,0,0
@@ -251,51 +246,43 @@ free,1
 cap,0,2
 end,4
 ",
-);
+    };
+    assert_all_made(&rt, state)
+}
 
 /// A request runs longer than its task allows, beside a task that holds no more than its guarantee:
 /// nothing is banned.
 #[test]
 fn sibling_not_over(rt: HostRuntime) -> Result<(), Fail> {
-    assert_all_made(&rt, SIBLING_NOT_OVER)
-}
-
-const SIBLING_NOT_OVER: State = (
-    "\
-cores = 2
-bandwidth_limit = 1000
-task = [
-{ kind = \"lc\", guaranteed = 1, limit = 1, delay = 10, request = 50 },
-{ kind = \"lc\", guaranteed = 1, limit = 1, delay = 10, request = 50 },
-]
-",
-    &[(0, 0), (1, 1)],
-    "\
+    let state = State {
+        cores: 2,
+        tasks: &[
+            "{ kind = \"lc\", guaranteed = 1, limit = 1, delay = 10, request = 50 }",
+            "{ kind = \"lc\", guaranteed = 1, limit = 1, delay = 10, request = 50 }",
+        ],
+        held: &[(0, 0), (1, 1)],
+        rest: "\
 pass,151,0
 whole,0,1,2,1,1,0,0,100,0,100,0,0
 whole,1,1,2,1,2,0,0,0,0,100,0,0
 end,3
 ",
-);
+    };
+    assert_all_made(&rt, state)
+}
 
 /// Beside a request that runs longer than its task allows the sibling is banned and revoked, and
 /// unbanned when it is done.
 #[test]
 fn ban_and_unban(rt: HostRuntime) -> Result<(), Fail> {
-    assert_all_made(&rt, BAN_AND_UNBAN)
-}
-
-const BAN_AND_UNBAN: State = (
-    "\
-cores = 2
-bandwidth_limit = 1000
-task = [
-{ kind = \"lc\", guaranteed = 1, limit = 1, delay = 10, request = 50 },
-{ kind = \"be\", guaranteed = 0, limit = 1, delay = 0, request = 0 },
-]
-",
-    &[(0, 0), (1, 1)],
-    "\
+    let state = State {
+        cores: 2,
+        tasks: &[
+            "{ kind = \"lc\", guaranteed = 1, limit = 1, delay = 10, request = 50 }",
+            "{ kind = \"be\", guaranteed = 0, limit = 1, delay = 0, request = 0 }",
+        ],
+        held: &[(0, 0), (1, 1)],
+        rest: "\
 pass,150,0
 whole,0,1,2,1,1,0,0,100,0,100,0,0
 whole,1,1,2,1,2,0,0,0,0,100,0,0
@@ -315,25 +302,21 @@ unban,1
 grant,1,1,2
 end,6
 ",
-);
+    };
+    assert_all_made(&rt, state)
+}
 
 /// A core beyond a task's guarantee is revoked for one whose guarantee is not met (class 5).
 #[test]
 fn preempt_latency_critical(rt: HostRuntime) -> Result<(), Fail> {
-    assert_all_made(&rt, PREEMPT_LATENCY_CRITICAL)
-}
-
-const PREEMPT_LATENCY_CRITICAL: State = (
-    "\
-cores = 2
-bandwidth_limit = 1000
-task = [
-{ kind = \"lc\", guaranteed = 0, limit = 2, delay = 10, request = 50 },
-{ kind = \"lc\", guaranteed = 1, limit = 1, delay = 10, request = 50 },
-]
-",
-    &[(0, 0), (1, 1)],
-    "\
+    let state = State {
+        cores: 2,
+        tasks: &[
+            "{ kind = \"lc\", guaranteed = 0, limit = 2, delay = 10, request = 50 }",
+            "{ kind = \"lc\", guaranteed = 1, limit = 1, delay = 10, request = 50 }",
+        ],
+        held: &[(0, 0), (1, 1)],
+        rest: "\
 pass,200,0
 whole,0,1,2,1,1,0,0,0,0,100,0,0
 whole,1,1,2,1,2,0,0,0,0,100,0,0
@@ -341,29 +324,27 @@ whole,2,1,2,0,0,1,100,0,0,190,0,0
 revoke,0,preempt,1
 end,3
 ",
-);
+    };
+    assert_all_made(&rt, state)
+}
 
 /// Without a guarantee nothing is taken.
 #[test]
 fn no_preemption(rt: HostRuntime) -> Result<(), Fail> {
-    assert_all_made(&rt, NO_PREEMPTION)
-}
-
-const NO_PREEMPTION: State = (
-    "\
-cores = 2
-bandwidth_limit = 1000
-task = [
-{ kind = \"lc\", guaranteed = 0, limit = 2, delay = 10, request = 50 },
-{ kind = \"lc\", guaranteed = 0, limit = 1, delay = 10, request = 50 },
-]
-",
-    &[(0, 0), (1, 1)],
-    "\
+    let state = State {
+        cores: 2,
+        tasks: &[
+            "{ kind = \"lc\", guaranteed = 0, limit = 2, delay = 10, request = 50 }",
+            "{ kind = \"lc\", guaranteed = 0, limit = 1, delay = 10, request = 50 }",
+        ],
+        held: &[(0, 0), (1, 1)],
+        rest: "\
 pass,200,0
 whole,0,1,2,1,1,0,0,0,0,100,0,0
 whole,1,1,2,1,2,0,0,0,0,100,0,0
 whole,2,1,2,0,0,1,100,0,0,190,0,0
 end,3
 ",
-);
+    };
+    assert_all_made(&rt, state)
+}

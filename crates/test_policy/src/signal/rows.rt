@@ -162,22 +162,11 @@ fn stopped_looks(alloc: Global) -> Option<Vec<Look>> {
 /// floor; one that is begun while a record is written finds that at once.
 #[test]
 fn stopped_look(rt: HostRuntime) -> Result<(), Fail> {
-    let refused = busy(5, 5);
-    let wanted = [
-        busy(2, 4),
-        busy(4, 5),
-        refused,
-        refused,
-        refused,
-        refused,
-        refused,
-        refused,
-        refused,
-        refused,
-        refused,
-        refused,
-        whole(3, record(7, 30)),
-    ];
+    let mut wanted = vec![in rt.alloc(); busy(2, 4), busy(4, 5)]?;
+    for _ in 0..10 {
+        wanted.push(busy(5, 5))?;
+    }
+    wanted.push(whole(3, record(7, 30)))?;
     let found = stopped_looks(rt.alloc());
     assert_same(&rt, found.as_deref(), Some(wanted.as_slice()));
     Ok(())

@@ -1,8 +1,8 @@
 //! The report of a history with every kind of action.
 
-use super::tables::history_of;
+use super::tables::{assert_written, history_of};
 use cal_policy::orderly;
-use cal_trace::{WriteFault, write_report};
+use cal_trace::write_report;
 use std::test::Fail;
 
 /// An orderly history of two threads with every kind of action and of look.
@@ -52,8 +52,6 @@ task 0 lc held 1 leaving 0
 task 1 be held 0 leaving 1 cap 0
 ";
 
-/// With one allocation refused, wherever that is, the answer is out of memory by its name, or the
-/// ample one. (tools/refusals runs it so.)
 #[test]
 fn report_of_every_action(rt: HostRuntime) -> Result<(), Fail> {
     let Some((config, history)) = history_of(rt.alloc(), EVERY_ACTION)? else {
@@ -61,9 +59,7 @@ fn report_of_every_action(rt: HostRuntime) -> Result<(), Fail> {
     };
     assert!(rt; orderly(&config, history.as_slice()));
     let mut text = Vec::new(rt.alloc());
-    match write_report(&config, history.as_slice(), &mut text) {
-        Ok(()) => assert_eq!(rt; text.as_slice(), EVERY_ACTION_REPORT),
-        Err(fault) => assert_eq!(rt; fault, WriteFault::Memory),
-    }
+    let written = write_report(&config, history.as_slice(), &mut text);
+    assert_written(&rt, written, text.as_slice(), EVERY_ACTION_REPORT);
     Ok(())
 }

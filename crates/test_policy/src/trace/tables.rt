@@ -1,45 +1,20 @@
-//! Tables, and a history for one of them.
+//! A table and a history for it, and what is written of one.
 
+use crate::same::assert_same;
 use cal_machine::{Config, ConfigFault};
 use cal_policy::PassEntry;
-use cal_trace::{FaultKind, read_history};
+use cal_trace::{FaultKind, WriteFault, read_history};
 use std::alloc::Global;
+use std::process::Abort;
 use std::test::Fail;
 
-/// A task of one thread, on two cores.
-pub(crate) const ONE_THREAD: &[u8] = b"cores = 2
-bandwidth_limit = 1000
-
-[[task]]
-kind = \"lc\"
-guaranteed = 1
-limit = 1
-delay = 10
-request = 50
-";
-
-/// The table of one thread.
-pub(crate) fn one_thread(alloc: Global) -> Result<Config, Fail> {
-    Ok(Config::read(alloc, ONE_THREAD)?)
-}
-
 /// A latency-critical task and a best-effort one of a thread each, on four cores.
-pub(crate) const TWO_THREADS: &[u8] = b"cores = 4
+const TWO_THREADS: &[u8] = b"cores = 4
 bandwidth_limit = 1000
-
-[[task]]
-kind = \"lc\"
-guaranteed = 1
-limit = 1
-delay = 10
-request = 50
-
-[[task]]
-kind = \"be\"
-guaranteed = 0
-limit = 1
-delay = 0
-request = 0
+task = [
+{ kind = \"lc\", guaranteed = 1, limit = 1, delay = 10, request = 50 },
+{ kind = \"be\", guaranteed = 0, limit = 1, delay = 0, request = 0 },
+]
 ";
 
 /// A table of two threads, where memory was there for it.
@@ -84,5 +59,19 @@ pub(crate) fn history_of(
         Ok(history) => Ok(Some((config, history))),
         Err(fault) if fault.kind == FaultKind::Memory => Ok(None),
         Err(fault) => Err(Fail::from(fault)),
+    }
+}
+
+/// This text was written. With one allocation refused, wherever that is, the answer is out of memory
+/// by its name, or the ample one. (tools/refusals runs it so.)
+pub(crate) fn assert_written<R: Abort>(
+    rt: &R,
+    written: Result<(), WriteFault>,
+    text: &[u8],
+    meant: &[u8],
+) {
+    match written {
+        Ok(()) => assert_same(rt, text, meant),
+        Err(fault) => assert_same(rt, fault, WriteFault::Memory),
     }
 }

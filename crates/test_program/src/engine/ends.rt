@@ -34,9 +34,15 @@ impl Read for Bytes {
 /// A reader that gives its bytes one at a time, and answers an error where it was read `left`
 /// times.
 #[derive(Drop)]
-struct FailingReader<'a> {
+pub struct FailingReader<'a> {
     bytes: &'a [u8],
     left: usize,
+}
+
+impl<'a> FailingReader<'a> {
+    pub fn after(bytes: &'a [u8], left: usize) -> FailingReader<'a> {
+        FailingReader { bytes, left }
+    }
 }
 
 impl Read for FailingReader<'_> {
@@ -59,9 +65,15 @@ impl Read for FailingReader<'_> {
 /// A writer that takes one byte at a time, and answers an error where it was written to `left`
 /// times.
 #[derive(Drop)]
-struct FailingWriter {
+pub struct FailingWriter {
     taken: usize,
     left: usize,
+}
+
+impl FailingWriter {
+    pub fn after(left: usize) -> FailingWriter {
+        FailingWriter { taken: 0, left }
+    }
 }
 
 impl Write for FailingWriter {
@@ -100,9 +112,9 @@ fn an_input_may_have_64_mib_and_not_a_byte_more(rt: HostRuntime) {
 
 /// What is answered where so many bytes are read before a read fails, and what is then written.
 fn decided(alloc: Global, left: usize) -> (Result<(), RunFault>, Vec<u8>) {
-    let bytes = INPUT.as_bytes();
+    let reader = FailingReader::after(INPUT.as_bytes(), left);
     let mut written = Vec::new(alloc);
-    let answer = decide(alloc, FailingReader { bytes, left }, &mut written);
+    let answer = decide(alloc, reader, &mut written);
     (answer, written)
 }
 
@@ -123,7 +135,7 @@ fn a_failed_read_is_answered(rt: HostRuntime) {
 
 /// What is answered where so many bytes are taken before a write fails, and how many are taken.
 fn written(alloc: Global, left: usize) -> (Result<(), RunFault>, usize) {
-    let mut writer = FailingWriter { taken: 0, left };
+    let mut writer = FailingWriter::after(left);
     let answer = decide(alloc, INPUT.as_bytes(), &mut writer);
     (answer, writer.taken)
 }

@@ -1,9 +1,9 @@
 //! Whole runs of the program: what it writes on its two outputs, and its exit status.
 
+use crate::engine::ends::{FailingReader, FailingWriter};
 use crate::engine::one_pass::INPUT;
 use cal_engine::run_program;
 use std::alloc::AllocError;
-use std::io;
 use std::io::{Read, Write};
 use std::sync::Wait;
 use std::test::Fail;
@@ -30,26 +30,6 @@ fn status<H: Threads + Wait + Sync + AllocGlobal, R: Read + Drop, W: Write, E: W
     Ok(run_program(rt, alloc, named.as_slice(), reader, output, errors))
 }
 
-/// A reader that answers an error, and a writer that does.
-#[derive(Drop)]
-struct Failing;
-
-impl Read for Failing {
-    fn read(&mut self, _buf: &mut [u8]) -> io::Result<usize> {
-        Err(io::Error::from(io::ErrorKind::Other))
-    }
-}
-
-impl Write for Failing {
-    fn write(&mut self, _buf: &[u8]) -> io::Result<usize> {
-        Err(io::Error::from(io::ErrorKind::Other))
-    }
-
-    fn flush(&mut self) -> io::Result<()> {
-        Ok(())
-    }
-}
-
 /// What the program says where it cannot write.
 const WRITE: &[u8] = b"caladan_sim: write\n";
 
@@ -69,7 +49,7 @@ fn ends_with<H: Threads + Wait + Sync + AllocGlobal>(
         output: &mut output,
         errors: &mut errors,
     };
-    let status = status(rt, word, Failing, outputs)?;
+    let status = status(rt, word, FailingReader::after(b"", 0), outputs)?;
     Ok(status == code && (errors.as_slice() == NO_INPUT) == says_so)
 }
 
@@ -92,9 +72,9 @@ fn a_reader_that_fails(rt: HostRuntime) -> Result<(), Fail> {
 
 /// Whether the program says that it cannot write, and ends so.
 fn says_write<H: Threads + Wait + Sync + AllocGlobal>(rt: &H, word: &str) -> Result<bool, Fail> {
-    let mut errors = Vec::new(rt.alloc());
+    let (mut output, mut errors) = (FailingWriter::after(0), Vec::new(rt.alloc()));
     let outputs = Outputs {
-        output: &mut Failing,
+        output: &mut output,
         errors: &mut errors,
     };
     let status = status(rt, word, INPUT.as_bytes(), outputs)?;
@@ -111,17 +91,14 @@ fn an_output_that_fails(rt: HostRuntime) -> Result<(), Fail> {
 // A fault, and bad words, of which nothing can be said.
 #[test]
 fn errors_that_fail(rt: HostRuntime) -> Result<(), Fail> {
-    let mut output = Vec::new(rt.alloc());
-    let outputs = Outputs {
-        output: &mut output,
-        errors: &mut Failing,
-    };
-    let refused = status(&rt, "audit", Failing, outputs)?;
-    let outputs = Outputs {
-        output: &mut output,
-        errors: &mut Failing,
-    };
-    let unsaid = status(&rt, "frobnicate", Failing, outputs)?;
-    assert!(rt; refused == 2 && unsaid == 3 && output.is_empty());
+    for (word, code) in [("audit", 2), ("frobnicate", 3)] {
+        let (mut output, mut errors) = (Vec::new(rt.alloc()), FailingWriter::after(0));
+        let outputs = Outputs {
+            output: &mut output,
+            errors: &mut errors,
+        };
+        let status = status(&rt, word, FailingReader::after(b"", 0), outputs)?;
+        assert!(rt; status == code && output.is_empty(), "{word}");
+    }
     Ok(())
 }
