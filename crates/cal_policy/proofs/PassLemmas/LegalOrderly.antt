@@ -9,7 +9,7 @@ use Rattle.cal_policy.specs.declared.history.action.Action.{Action}
 use Rattle.cal_policy.specs.declared.history.entry.PassEntry.{PassEntry}
 use Rattle.cal_policy.specs.History.{actions_of}
 use Rattle.cal_policy.specs.Setting.{Setting, setting_of, so_far}
-use Rattle.cal_policy.specs.Judgement.Orderly.{IsOrderlyEntry, IsOrderly}
+use Rattle.cal_policy.specs.Judgement.Orderly.{fits_state, IsOrderlyEntry, IsOrderly}
 use Rattle.cal_policy.specs.Pass.{pass_of, IsPass, IsLegal}
 use Rattle.cal_policy.specs.Pass.Made.{EachAfter, IsMade}
 use Rattle.cal_policy.specs.Pass.Steady.{IsSteady, IsSound}
