@@ -112,7 +112,7 @@ enum {
 
 /* The policies, by which passes are made and audited (docs/POLICY.md). The calls that name none go by
  * CALADAN_POLICY_CALADAN [opened]. */
-enum { CALADAN_POLICY_CALADAN = 0 };
+enum { CALADAN_POLICY_CALADAN = 0, CALADAN_POLICY_ASSURED = 1 };
 
 /* A scheduler, or nothing. */
 typedef struct caladan {
@@ -795,7 +795,7 @@ static inline const char *caladan_answer_text(uint8_t answer) {
 
 /* The name of a policy, as caladan_sim takes it after --policy. */
 static inline const char *caladan_policy_text(uint32_t policy) {
-    static const char *const texts[] = {"caladan"};
+    static const char *const texts[] = {"caladan", "assured"};
     return policy < sizeof texts / sizeof *texts ? texts[policy] : "no policy";
 }
 

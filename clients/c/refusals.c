@@ -191,6 +191,7 @@ static int by_policy(void) {
     WANT(caladan_threads(&handle), 1);
     WANT(verdict_of(&audit, &pass), CALADAN_DONE);
     WANT(strcmp(caladan_policy_text(CALADAN_POLICY_CALADAN), "caladan"), 0);
+    WANT(strcmp(caladan_policy_text(CALADAN_POLICY_ASSURED), "assured"), 0);
     WANT(strcmp(caladan_answer_text(CALADAN_NO_POLICY), "no policy has this number"), 0);
     WANT(caladan_close(&handle) + caladan_audit_close(&audit), 0);
     return 0;

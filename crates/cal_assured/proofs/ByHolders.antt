@@ -11,8 +11,8 @@ use Rattle.cal_policy.specs.Board.Counts.{is_booked_for, is_with, cap_of}
 use Rattle.cal_policy.specs.Pass.Choice.{count_below, sum_below, best_below}
 use Rattle.cal_policy.specs.Pass.Grants.{thread_delay}
 use Rattle.cal_policy.specs.Setting.{Setting, kept_now, has_room}
-use Rattle.cal_assured.specs.InFlight.{is_untaken, is_late}
-use Rattle.cal_assured.specs.Short.{lacking, waits, some_waits_short}
+use Rattle.cal_policy.specs.Assured.InFlight.{is_untaken, is_late}
+use Rattle.cal_policy.specs.Assured.Short.{lacking, waits, some_waits_short}
 
 -- the words of who waits, of each core's holder and each task's cap
 

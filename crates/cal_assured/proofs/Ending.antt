@@ -5,7 +5,6 @@ use Rattle.std.proofs.lemmas.Bool.{and_parts, and_from, and_cases, not-true, not
 use Rattle.std.proofs.lemmas.List.{append-nil}
 use Rattle.cal_machine.specs.Machine.{sibling_of}
 use Rattle.cal_machine.specs.Table.{Table}
-use Rattle.cal_machine.proofs.Booleans.{unwrap_if}
 use Rattle.cal_policy.specs.declared.history.action.Action.{Action}
 use Rattle.cal_policy.specs.declared.history.action.Action.TheVariants.{Unban}
 use Rattle.cal_policy.specs.declared.board.bans.BannedFor.{BannedFor}
@@ -17,23 +16,16 @@ use Rattle.cal_policy.specs.Pass.Frees.{frees}
 use Rattle.cal_policy.specs.Pass.{followed}
 use Rattle.cal_policy.specs.Setting.{Setting, so_far, kept_now}
 use Rattle.cal_policy.specs.Laws.{ActionIsOneMore}
-use Rattle.cal_policy.proofs.HistoryLemmas.OneMore.{holder_push, ban_push}
+use Rattle.cal_policy.proofs.HistoryLemmas.OneMore.{holder_push}
 use Rattle.cal_policy.proofs.ListLemmas.Counted.{count_le}
+use Rattle.cal_policy.proofs.AssuredLemmas.Pairs.{unbanned_at}
 use Rattle.cal_policy.proofs.PassLemmas.Best.{cases_eq_lt}
 use Rattle.cal_policy.proofs.PassLemmas.Fits.{so_far_push}
 use Rattle.cal_laws.proofs.CapLemmas.Held.{cap_same}
-use Rattle.cal_assured.specs.Hyperthreads.{unban_for, unban_at}
+use Rattle.cal_policy.specs.Assured.Hyperthreads.{unban_for, unban_at}
 use Rattle.cal_assured.specs.Laws.{BansEndForWhatIsLacked}
-use Rattle.cal_assured.specs.Short.{lacking, is_open, open_cores, some_waits_short, are_wanted}
+use Rattle.cal_policy.specs.Assured.Short.{lacking, is_open, open_cores, some_waits_short, are_wanted}
 use Rattle.cal_assured.proofs.ByHolders.{lacking_same, some_waits_same}
-
--- what one Unban changes: the ban of its core ends
-unban_some : (b : Bool) (o : Option BannedFor) → is_some (cond b None o) ≡ cond b false (is_some o)
-unban_some true o = refl
-unban_some false o = refl
-
-pub unbanned_at : (x : List Action) (core c : ℕ) → is_banned (x ++ Unban core ∷ []) c ≡ cond (eqb core c) false (is_banned x c)
-unbanned_at x core c = ap is_some (ban_push x (Unban core) c ∙ unwrap_if (eqb core c) None (ban_of x c)) ∙ unban_some (eqb core c) (ban_of x c)
 
 still_none : (b banned : Bool) → banned ≡ false → cond b false banned ≡ false
 still_none true banned e = refl

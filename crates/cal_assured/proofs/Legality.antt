@@ -7,7 +7,7 @@ use Rattle.cal_machine.proofs.Last.{slice_get-last, last_or_before}
 use Rattle.cal_machine.specs.Table.{Table}
 use Rattle.cal_policy.specs.declared.history.entry.PassEntry.{PassEntry}
 use Rattle.cal_assured.specs.Histories.{NothingIsLegal, PrefixesAreLegal, OnePassMoreIsLegal}
-use Rattle.cal_assured.specs.Pass.{IsPass, IsLegal}
+use Rattle.cal_policy.specs.Assured.Pass.{IsPass, IsLegal}
 
 first : (table : Table) (history : List PassEntry) (n : ℕ) → n ≤ length history → IsLegal table history → IsLegal table (take n history)
 first table history n le legal = record {

@@ -1,15 +1,7 @@
 pub mod AsWorked
-pub mod Between
 pub mod ByHolders
-pub mod Done
 pub mod Ending
 pub mod Legality
-pub mod Lengths
-pub mod Numbering
 pub mod PassLaws
-pub mod Permitting
 pub mod Points
 pub mod RingLemmas
-pub mod Standing
-pub mod TurnOrder
-pub mod Walks

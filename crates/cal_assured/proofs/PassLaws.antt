@@ -22,17 +22,17 @@ use Rattle.cal_policy.specs.Setting.{Setting, so_far}
 use Rattle.cal_policy.proofs.ListLemmas.Counted.{lowest_passes}
 use Rattle.cal_policy.proofs.PassLemmas.Fits.{thread_facts}
 use Rattle.cal_policy.proofs.PassLemmas.PartSoFar.{in_turn_more}
-use Rattle.cal_assured.specs.Grants.{grant_at, grant_in_place, grants_of_first}
-use Rattle.cal_assured.specs.InFlight.{pressing}
+use Rattle.cal_policy.specs.Assured.Grants.{grant_at, grant_in_place, grants_of_first}
+use Rattle.cal_policy.specs.Assured.InFlight.{pressing}
 use Rattle.cal_assured.specs.Laws.{OthersTakeWhatIsNotLacked, MayTakeWhatIsOwed, OwedCoresAreKept, NoCoreIsRevokedTwice, BansLeaveWhatIsLacked, NoneGrantedTo, made_before_turn, TheLaterComesFirst, RevocationsHaveCause}
-use Rattle.cal_assured.specs.Order.{group_of, is_rather, is_later, goes_before, place_of, task_in_place}
-use Rattle.cal_assured.specs.Owed.{owed_to, owed_below}
-use Rattle.cal_assured.specs.Pass.{bounded_of}
-use Rattle.cal_assured.specs.Short.{is_short, lacks, lacking, open_cores, is_open, surplus, waits, waits_short, some_waits_short, are_lacked}
-use Rattle.cal_assured.specs.Taking.{is_kept_for, is_kept_for_short, is_kept, open_choice, may_preempt, held_choice, choice_for}
-use Rattle.cal_assured.proofs.Done.{IsGranted, open_taken, comes_done}
-use Rattle.cal_assured.proofs.TurnOrder.{place_lower, tasks_placed}
-use Rattle.cal_assured.proofs.Walks.{first_turns, place_after}
+use Rattle.cal_policy.specs.Assured.Order.{group_of, is_rather, is_later, goes_before, place_of, task_in_place}
+use Rattle.cal_policy.specs.Assured.Owed.{owed_to, owed_below}
+use Rattle.cal_policy.specs.Assured.Pass.{bounded_of}
+use Rattle.cal_policy.specs.Assured.Short.{is_short, lacks, lacking, open_cores, is_open, surplus, waits, waits_short, some_waits_short, are_lacked}
+use Rattle.cal_policy.specs.Assured.Taking.{is_kept_for, is_kept_for_short, is_kept, open_choice, may_preempt, held_choice, choice_for}
+use Rattle.cal_policy.proofs.AssuredLemmas.Done.{IsGranted, open_taken, comes_done}
+use Rattle.cal_policy.proofs.AssuredLemmas.TurnOrder.{place_lower, tasks_placed}
+use Rattle.cal_policy.proofs.AssuredLemmas.Walks.{first_turns, place_after}
 
 -- a core that is granted may be taken by its thread's task, which waits
 record IsGiven (s : Setting) (acts : List Action) (core thread : ℕ) : Type 0 where

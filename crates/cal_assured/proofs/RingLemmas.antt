@@ -6,7 +6,7 @@ use Rattle.cal_machine.specs.Table.{Table, IsTable}
 use Rattle.cal_policy.specs.declared.history.entry.PassEntry.{PassEntry}
 use Rattle.cal_policy.specs.History.{actions_of, sent_to}
 use Rattle.cal_laws.proofs.PointLemmas.EachAction.{actions_more}
-use Rattle.cal_assured.specs.Pass.{IsLegal}
+use Rattle.cal_policy.specs.Assured.Pass.{IsLegal}
 use Rattle.cal_assured.specs.Rings.{RingsHaveRoom}
 use Rattle.cal_assured.specs.Safety.{ThreadsAreSentOneCommand}
 

@@ -8,8 +8,8 @@ use Rattle.cal_policy.specs.declared.history.entry.PassEntry.{PassEntry}
 use Rattle.cal_policy.specs.declared.board.holders.Holder.{Holder}
 use Rattle.cal_policy.specs.declared.board.holders.Holder.TheVariants as holders
 use Rattle.cal_policy.specs.History.{actions_of, holder_of}
-use Rattle.cal_assured.specs.Short.{waits_short}
-use Rattle.cal_assured.specs.Pass.{IsLegal, bounded_of}
+use Rattle.cal_policy.specs.Assured.Short.{waits_short}
+use Rattle.cal_policy.specs.Assured.Pass.{IsLegal, bounded_of}
 use Rattle.cal_policy.specs.Setting.{setting_of, so_far, has_room}
 
 -- the core is being left

@@ -2,7 +2,7 @@
 use Rattle.std.specs.Prelude.{ℕ, ◌↔◌, List, [], ◌∷◌, ◌++◌, take}
 use Rattle.cal_machine.specs.Table.{Table}
 use Rattle.cal_policy.specs.declared.history.entry.PassEntry.{PassEntry}
-use Rattle.cal_assured.specs.Pass.{IsPass, IsLegal}
+use Rattle.cal_policy.specs.Assured.Pass.{IsPass, IsLegal}
 
 -- nothing is a legal history
 abbrev pub NothingIsLegal : Type 0

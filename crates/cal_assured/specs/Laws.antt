@@ -9,15 +9,15 @@ use Rattle.cal_policy.specs.declared.history.action.Cause.{Cause}
 use Rattle.cal_policy.specs.declared.history.action.Cause.TheVariants as causes
 use Rattle.cal_policy.specs.History.{holder_of, is_banned}
 use Rattle.cal_policy.specs.Board.Counts.{is_free}
-use Rattle.cal_assured.specs.Cause.{HasCause}
-use Rattle.cal_assured.specs.InFlight.{pressing, coming}
-use Rattle.cal_assured.specs.Owed.{owed_to, owed_below}
-use Rattle.cal_assured.specs.Short.{is_short, lacks, lacking, open_cores, waits}
-use Rattle.cal_assured.specs.Short.{some_waits_short}
-use Rattle.cal_assured.specs.Order.{is_later, place_of}
-use Rattle.cal_assured.specs.Taking.{open_choice}
-use Rattle.cal_assured.specs.Grants.{grants_of_first}
-use Rattle.cal_assured.specs.Pass.{unbanned_of, bounded_of, ComesTo}
+use Rattle.cal_policy.specs.Assured.Cause.{HasCause}
+use Rattle.cal_policy.specs.Assured.InFlight.{pressing, coming}
+use Rattle.cal_policy.specs.Assured.Owed.{owed_to, owed_below}
+use Rattle.cal_policy.specs.Assured.Short.{is_short, lacks, lacking, open_cores, waits}
+use Rattle.cal_policy.specs.Assured.Short.{some_waits_short}
+use Rattle.cal_policy.specs.Assured.Order.{is_later, place_of}
+use Rattle.cal_policy.specs.Assured.Taking.{open_choice}
+use Rattle.cal_policy.specs.Assured.Grants.{grants_of_first}
+use Rattle.cal_policy.specs.Assured.Pass.{unbanned_of, bounded_of, ComesTo}
 use Rattle.cal_policy.specs.Pass.{followed}
 use Rattle.cal_policy.specs.Setting.{Setting, so_far}
 

@@ -3,7 +3,7 @@ use Rattle.std.specs.Prelude.{List}
 use Rattle.cal_machine.specs.Table.{Table, IsTable}
 use Rattle.cal_policy.specs.declared.history.entry.PassEntry.{PassEntry}
 use Rattle.cal_guard.specs.Permitted.{IsPermittedHistory}
-use Rattle.cal_assured.specs.Pass.{IsLegal}
+use Rattle.cal_policy.specs.Assured.Pass.{IsLegal}
 
 abbrev pub PassesArePermitted : Type 0
 PassesArePermitted = (table : Table) (history : List PassEntry) → IsTable table →

@@ -2,7 +2,7 @@
 use Rattle.std.specs.Prelude.{◌≡◌, ◌≤◌, length, Some, slice_get}
 use Rattle.cal_machine.specs.Table.{IsTable}
 use Rattle.cal_laws.specs.Point.{Point}
-use Rattle.cal_assured.specs.Pass.{IsLegal}
+use Rattle.cal_policy.specs.Assured.Pass.{IsLegal}
 
 -- the point lies in a pass of a legal history of this policy: before its first action, between two,
 -- or after its last

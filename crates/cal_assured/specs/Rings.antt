@@ -3,7 +3,7 @@ use Rattle.std.specs.Prelude.{ℕ, ◌+◌, ◌-◌, ◌<◌, ◌≤◌, List, l
 use Rattle.cal_machine.specs.Table.{Table, IsTable}
 use Rattle.cal_policy.specs.declared.history.entry.PassEntry.{PassEntry}
 use Rattle.cal_policy.specs.History.{actions_of, sent_to}
-use Rattle.cal_assured.specs.Pass.{IsLegal}
+use Rattle.cal_policy.specs.Assured.Pass.{IsLegal}
 
 -- thread k has taken so many commands where pass q begins, and takes within three passes
 pub record TakesInTime (table : Table) (history : List PassEntry) (k q taken : ℕ) : Type 0 where

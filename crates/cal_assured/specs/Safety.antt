@@ -17,7 +17,7 @@ use Rattle.cal_laws.specs.Exclusion.{HaveOneCore}
 use Rattle.cal_laws.specs.Limits.{IsWithinLimit, MayBookMore, LeavesGuarantee}
 use Rattle.cal_laws.specs.Ends.{IsSafeBetween}
 use Rattle.cal_guard.specs.Laws.{IsRevokedNext, IsLoweredNext}
-use Rattle.cal_assured.specs.Pass.{IsLegal}
+use Rattle.cal_policy.specs.Assured.Pass.{IsLegal}
 use Rattle.cal_assured.specs.Point.{IsPoint}
 
 -- a thread holds or leaves at most one core

@@ -13,7 +13,7 @@ use Rattle.cal_policy.specs.declared.history.action.Action.{Action}
 use Rattle.cal_policy.specs.declared.history.entry.PassEntry.{PassEntry}
 use Rattle.cal_policy.specs.declared.history.look.Seen.{Seen}
 use Rattle.cal_policy.specs.Setting.{setting_of}
-use Rattle.cal_assured.specs.Pass.{pass_of}
+use Rattle.cal_policy.specs.Assured.Pass.{pass_of}
 
 -- a latency-critical task: guaranteed, limit, delay, request; and a best-effort one: limit, delay
 abbrev pub lc : ℕ → ℕ → ℕ → ℕ → Task

@@ -1,5 +1,4 @@
-//! A second policy, `assured`, beside that of cal_policy: its definitions, and laws over them
-//! alone. No code decides by it.
+//! Laws of the second policy, `assured`, over its definitions, which are cal_policy's.
 //!
 //! Under it a latency-critical task that goes on waiting below its guarantee is given a core as
 //! soon as one can have been left. It differs from the other policy in which bans end, which are

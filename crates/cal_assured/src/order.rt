@@ -1,7 +1,7 @@
 //! The order in which the tasks have their turns where grants are made.
 
-ghost use Rattle.cal_assured.specs.Turns.{TurnsAreInOrder, TasksHaveTheirPlace};
-ghost use Rattle.cal_assured.specs.Turns.{PlacesHaveTheirTask};
+ghost use Rattle.cal_policy.specs.Assured.Turns.{TurnsAreInOrder, TasksHaveTheirPlace};
+ghost use Rattle.cal_policy.specs.Assured.Turns.{PlacesHaveTheirTask};
 
 /// After any actions the turns come in a strict order: no task has its turn before itself, who
 /// comes before one comes before all that come after that one, and of two tasks one comes first.

@@ -50,7 +50,7 @@ impl Sender {
         !self.producer.is_full()
     }
 
-    /// Sends a command, for which room is to be known; a Run's core is to be below `MOST_CORES`. It
+    /// Sends a command. Requires that room is known, and that a Run's core is below `MOST_CORES`. It
     /// cannot fail.
     pub fn send(&mut self, command: Command)
         requires room { HasRoom self.old }

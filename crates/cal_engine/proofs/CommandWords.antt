@@ -12,7 +12,7 @@ use Rattle.clap.specs.declared.parser.matches.ArgMatches.TheViews.{out-ArgMatche
 use Rattle.clap.proofs.OnLiterals.{clap_on_literals}
 use Rattle.clap.proofs.WalkLemmas.{first_value-rows, one_text-rows}
 use Rattle.cal_policy.specs.declared.policy.Policy.{Policy}
-use Rattle.cal_policy.specs.declared.policy.Policy.TheVariants.{Caladan}
+use Rattle.cal_policy.specs.declared.policy.Policy.TheVariants.{Caladan, Assured}
 use Rattle.cal_engine.specs.CommandWords.{answer_of, asking, AsksBy, Explains, FlagSays, FlagsAsk, job_of, Names, policy_asked, policy_of, program, with_among}
 use Rattle.cal_engine.specs.declared.command_words.command_line.Job.{Job}
 use Rattle.cal_engine.specs.declared.command_words.command_line.Job.TheVariants as job
@@ -52,6 +52,8 @@ each_is_taken None false = refl
 each_is_taken None true = refl
 each_is_taken (Some Caladan) false = refl
 each_is_taken (Some Caladan) true = refl
+each_is_taken (Some Assured) false = refl
+each_is_taken (Some Assured) true = refl
 
 -- the program makes of each way what is asked for
 each_is_named : (policy : Option Policy) (explained : Bool) → map (λ (way : Way). named_by (subcommand_of program way.0)) (asking policy explained) ≡ map (λ (way : Way). Some way.1) (asking policy explained)
@@ -60,6 +62,8 @@ each_is_named None false = refl
 each_is_named None true = refl
 each_is_named (Some Caladan) false = refl
 each_is_named (Some Caladan) true = refl
+each_is_named (Some Assured) false = refl
+each_is_named (Some Assured) true = refl
 
 -- the program finds in each way whether it is explained
 each_is_explained : (policy : Option Policy) (explained : Bool) → map (λ (way : Way). explained_by (subcommand_of program way.0)) (asking policy explained) ≡ map (λ (way : Way). Some explained) (asking policy explained)
@@ -68,6 +72,8 @@ each_is_explained None false = refl
 each_is_explained None true = refl
 each_is_explained (Some Caladan) false = refl
 each_is_explained (Some Caladan) true = refl
+each_is_explained (Some Assured) false = refl
+each_is_explained (Some Assured) true = refl
 
 -- the program finds in each way the policy
 each_is_by : (policy : Option Policy) (explained : Bool) → map (λ (way : Way). policy_asked (subcommand_of program way.0)) (asking policy explained) ≡ map (λ (way : Way). Some (unwrap_or policy Caladan)) (asking policy explained)
@@ -76,6 +82,8 @@ each_is_by None false = refl
 each_is_by None true = refl
 each_is_by (Some Caladan) false = refl
 each_is_by (Some Caladan) true = refl
+each_is_by (Some Assured) false = refl
+each_is_by (Some Assured) true = refl
 
 -- what two functions make of an element, where they make the same of the list
 at_element : {A B : Type 0} (f g : A → B) (xs : List A) → map f xs ≡ map g xs → (x : A) → Contains xs x → f x ≡ g x

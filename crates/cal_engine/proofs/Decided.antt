@@ -23,7 +23,6 @@ use Rattle.cal_policy.specs.declared.history.input.Input.{Input}
 use Rattle.cal_policy.proofs.HistoryLemmas.OneMore.{shown_push}
 use Rattle.cal_policy.proofs.JudgementLemmas.Judged.{look_of-judged}
 use Rattle.cal_policy.specs.declared.policy.Policy.{Policy}
-use Rattle.cal_policy.specs.declared.policy.Policy.TheVariants.{Caladan}
 use Rattle.cal_policy.specs.Policies.{pass_by, IsLegalBy, IsPassBy}
 use Rattle.cal_policy.specs.Setting.{setting}
 use Rattle.cal_trace.proofs.SignalLemmas.LastShown.{shown-push}
@@ -32,7 +31,7 @@ use Rattle.cal_trace.specs.Signals.Fitting.{IsFitting, IsFittingPass}
 use Rattle.cal_policy.specs.declared.judgement.open_input.FoundLook.{FoundLook}
 use Rattle.cal_trace.specs.declared.signals.SignalPass.{SignalPass}
 use Rattle.cal_policy.specs.Judgement.OpenInput.{judged_looks}
-use Rattle.cal_policy.proofs.PassLemmas.Legality.{legal_none, legal_more}
+use Rattle.cal_policy.proofs.PolicyLemmas.{legal_more_by, legal_none_by, pass_from}
 use Rattle.cal_engine.specs.Deciding.{input_of, decided_pass, decided_after}
 
 -- one decided pass more
@@ -154,15 +153,7 @@ judged_is_input table history passes pass same fits = record {
 -- what a policy does on an input that the pass may be given is its pass
 made_is_pass : (policy : Policy) (table : Table) (history : List PassEntry) (input : Input) → IsInput table history input
     → IsPassBy policy table history (record { input = input; actions = pass_by policy (setting table history input) })
-made_is_pass Caladan table history input is = record { input = is; actions = refl }
-
--- nothing is a history of it, and with a pass of it a history is its own again
-pub none_by : (policy : Policy) (table : Table) → IsLegalBy policy table []
-none_by Caladan table = legal_none table
-
-more_by : (policy : Policy) (table : Table) (history : List PassEntry) (entry : PassEntry) → IsLegalBy policy table history → IsPassBy policy table history entry
-    → IsLegalBy policy table (history ++ entry ∷ [])
-more_by Caladan table history entry legal pass = legal_more table history entry legal pass
+made_is_pass policy table history input is = pass_from policy table history (record { input = input; actions = pass_by policy (setting table history input) }) is refl
 
 -- and the pass decided on it is one
 pub decided_is_pass : (policy : Policy) (table : Table) (history : List PassEntry) (passes : List SignalPass) (pass : SignalPass) → SameShown (looks_of history) passes
@@ -178,12 +169,12 @@ pub record IsDecided (policy : Policy) (table : Table) (passes : List SignalPass
 
 pub IsDecided-none : (policy : Policy) (table : Table) → IsDecided policy table [] []
 unfolding decided_after
-IsDecided-none policy table = record { legal = none_by policy table; shown = SameShown-none; done = refl }
+IsDecided-none policy table = record { legal = legal_none_by policy table; shown = SameShown-none; done = refl }
 
 pub IsDecided-append : (policy : Policy) (table : Table) (passes : List SignalPass) (history : List PassEntry) (pass : SignalPass) → IsFittingPass (threads_of_table table) passes pass
     → IsDecided policy table passes history → IsDecided policy table (passes ++ pass ∷ []) (history ++ decided_pass policy table history pass ∷ [])
 IsDecided-append policy table passes history pass fits so_far = record {
-  legal = more_by policy table history (decided_pass policy table history pass) so_far.legal (decided_is_pass policy table history passes pass so_far.shown fits);
+  legal = legal_more_by policy table history (decided_pass policy table history pass) so_far.legal (decided_is_pass policy table history passes pass so_far.shown fits);
   shown = SameShown-append policy table history passes pass so_far.shown;
   done =
       ap (λ h. h ++ decided_pass policy table h pass ∷ []) so_far.done ∙ sym (decided_after-append policy table [] passes pass);

@@ -22,8 +22,8 @@ use Rattle.cal_policy.specs.Pass.Steady.{IsSteady}
 use Rattle.cal_policy.proofs.ListLemmas.Counted.{count_le}
 use Rattle.cal_policy.proofs.PassLemmas.Fits.{held_le_booked}
 use Rattle.cal_assured.specs.Guarantee.{is_leaving}
-use Rattle.cal_assured.specs.Short.{is_short}
-use Rattle.cal_assured.specs.Taking.{held_choice}
+use Rattle.cal_policy.specs.Assured.Short.{is_short}
+use Rattle.cal_policy.specs.Assured.Taking.{held_choice}
 use Rattle.cal_guarantee.proofs.Holders.{Stays, moved_same, stays_same, moves_grant, stays_unban, stays_ban, stays_cap}
 use Rattle.cal_guarantee.proofs.Steps.{IsStep, IsRevokeStep, IsGrantStep, held_lost}
 use Rattle.cal_guarantee.proofs.Counts.{short_parts}

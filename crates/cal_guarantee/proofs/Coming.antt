@@ -21,11 +21,11 @@ use Rattle.cal_policy.specs.Pass.Made.{EachAfter}
 use Rattle.cal_policy.specs.Pass.Steady.{IsSteady}
 use Rattle.cal_policy.proofs.HistoryLemmas.OneMore.{holder_push}
 use Rattle.cal_policy.proofs.PassLemmas.Pairs.{so_far_more}
-use Rattle.cal_assured.specs.InFlight.{pressing, coming}
-use Rattle.cal_assured.specs.Short.{is_short, surplus, waits, waits_short}
-use Rattle.cal_assured.specs.Taking.{open_choice, held_choice, may_preempt, choice_for}
-use Rattle.cal_assured.specs.Grants.{grant_at}
-use Rattle.cal_assured.specs.Pass.{bounded_of, pass_of}
+use Rattle.cal_policy.specs.Assured.InFlight.{pressing, coming}
+use Rattle.cal_policy.specs.Assured.Short.{is_short, surplus, waits, waits_short}
+use Rattle.cal_policy.specs.Assured.Taking.{open_choice, held_choice, may_preempt, choice_for}
+use Rattle.cal_policy.specs.Assured.Grants.{grant_at}
+use Rattle.cal_policy.specs.Assured.Pass.{bounded_of, pass_of}
 use Rattle.cal_guarantee.proofs.Sums.{some_counted}
 use Rattle.cal_guarantee.proofs.Holders.{moves_revoke, moves_grant}
 use Rattle.cal_guarantee.proofs.Steps.{IsStep, held_lost}

@@ -14,7 +14,7 @@ use Rattle.cal_policy.specs.History.{holder_of, ban_of, is_banned, last_placemen
 use Rattle.cal_policy.specs.Board.Counts.{is_free, is_booked_for, booked_by}
 use Rattle.cal_policy.proofs.HistoryLemmas.OneMore.{holder_push, ban_push}
 use Rattle.cal_policy.proofs.ListLemmas.Counted.{count_le, count_le_one}
-use Rattle.cal_assured.specs.Short.{is_short, lacks, lacking, is_open, open_cores}
+use Rattle.cal_policy.specs.Assured.Short.{is_short, lacks, lacking, is_open, open_cores}
 use Rattle.cal_guarantee.proofs.Sums.{one_if, sum_same, sum_but_one, count_same, count_but_one}
 use Rattle.cal_guarantee.proofs.Holders.{Moves, Stays, moved_count, moved_same, stays_same, moves_revoke, moves_grant}
 

@@ -14,9 +14,9 @@ use Rattle.cal_policy.specs.History.CoreClasses.{comes_before}
 use Rattle.cal_policy.specs.Setting.{Setting}
 use Rattle.cal_policy.specs.Pass.Choice.{count_below, best_below, better}
 use Rattle.cal_policy.specs.Pass.Grants.{idle_class}
-use Rattle.cal_assured.specs.Owed.{owed_to, is_task, owed_below}
-use Rattle.cal_assured.specs.Short.{is_short, lacks, lacking, is_open, open_cores, waits_short, waits}
-use Rattle.cal_assured.specs.Taking.{is_kept, is_kept_for_short, may_take, open_class, owed_class, open_choice}
+use Rattle.cal_policy.specs.Assured.Owed.{owed_to, is_task, owed_below}
+use Rattle.cal_policy.specs.Assured.Short.{is_short, lacks, lacking, is_open, open_cores, waits_short, waits}
+use Rattle.cal_policy.specs.Assured.Taking.{is_kept, is_kept_for_short, may_take, open_class, owed_class, open_choice}
 use Rattle.cal_guarantee.proofs.Sums.{sum_le, sum_but_one, covered, first_ones}
 use Rattle.cal_guarantee.proofs.Counts.{short_parts, lacks_short}
 

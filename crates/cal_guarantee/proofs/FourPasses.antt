@@ -17,8 +17,8 @@ use Rattle.cal_policy.specs.History.Looks.{last_shown, look_of}
 use Rattle.cal_policy.specs.Judgement.Judging.{IsFitLook, IsInput, judged}
 use Rattle.cal_policy.specs.Setting.{setting_of, so_far}
 use Rattle.cal_assured.specs.Guarantee.{is_leaving, WasLongRevoked, IsFreedIn, AsksOfPass}
-use Rattle.cal_assured.specs.Pass.{bounded_of, pass_of, IsPass}
-use Rattle.cal_assured.specs.Short.{waits_short}
+use Rattle.cal_policy.specs.Assured.Pass.{bounded_of, pass_of, IsPass}
+use Rattle.cal_policy.specs.Assured.Short.{waits_short}
 use Rattle.cal_guarantee.specs.Example.{first_task, second_task, two_tasks, shown, first_pass, second_pass, third_pass, fourth_pass, four_passes, TheBoundIsReached}
 
 -- each pass does what it says

@@ -15,7 +15,7 @@ use Rattle.cal_policy.specs.Pass.Steady.{IsSteady}
 use Rattle.cal_policy.proofs.HistoryLemmas.OneMore.{holder_push}
 use Rattle.cal_policy.proofs.PassLemmas.Pairs.{so_far_more}
 use Rattle.cal_policy.proofs.PassLemmas.Steady.{Steady_shrinks, Shrinks_free}
-use Rattle.cal_assured.specs.Owed.{owed_to, left_for}
+use Rattle.cal_policy.specs.Assured.Owed.{owed_to, left_for}
 use Rattle.cal_guarantee.proofs.Holders.{owed_push}
 use Rattle.cal_guarantee.proofs.Steps.{IsStep, each_turn}
 

@@ -14,7 +14,7 @@ use Rattle.cal_policy.specs.Pass.Made.{EachAfter}
 use Rattle.cal_policy.specs.Pass.Steady.{IsSteady}
 use Rattle.cal_policy.proofs.ListLemmas.EachAfter.{each_append, each_at}
 use Rattle.cal_policy.proofs.PassLemmas.Steady.{Steady_start}
-use Rattle.cal_assured.specs.Pass.{pass_of, IsLegal}
+use Rattle.cal_policy.specs.Assured.Pass.{pass_of, IsLegal}
 use Rattle.cal_guarantee.proofs.Steps.{IsStep}
 use Rattle.cal_guarantee.proofs.KeptAlong.{along, steady_step}
 use Rattle.cal_guarantee.proofs.Freed.{was_left, frees_left, later_left, FreesLeft, frees_steady}

@@ -15,7 +15,7 @@ use Rattle.cal_policy.specs.Pass.Choice.{count_below}
 use Rattle.cal_policy.proofs.HistoryLemmas.OneMore.{holder_push}
 use Rattle.cal_policy.proofs.ListLemmas.OneMore.{last_of_push, unwrap_or_or}
 use Rattle.cal_policy.proofs.PassLemmas.Steady.{granted_holder}
-use Rattle.cal_assured.specs.Owed.{owed_to, owed_made}
+use Rattle.cal_policy.specs.Assured.Owed.{owed_to, owed_made}
 use Rattle.cal_guarantee.proofs.Sums.{one_if, count_same, count_but_one}
 
 -- after y core a has the holder h, and the others have the ones that they had after x

@@ -18,10 +18,10 @@ use Rattle.cal_policy.specs.Pass.Steady.{IsSteady}
 use Rattle.cal_policy.proofs.PassLemmas.Fits.{held_le_booked}
 use Rattle.cal_policy.proofs.PassLemmas.Pairs.{so_far_more}
 use Rattle.cal_policy.proofs.PassLemmas.Steady.{Steady_shrinks, Steady_grant, Shrinks_unban, Shrinks_ban, Shrinks_cap, Shrinks_revoke}
-use Rattle.cal_assured.specs.InFlight.{pressing}
-use Rattle.cal_assured.specs.Short.{is_short, lacking, is_open, open_cores, surplus, waits, waits_short, some_waits_short, are_lacked}
-use Rattle.cal_assured.specs.Taking.{is_kept, is_kept_for, may_take}
-use Rattle.cal_assured.specs.Owed.{owed_to}
+use Rattle.cal_policy.specs.Assured.InFlight.{pressing}
+use Rattle.cal_policy.specs.Assured.Short.{is_short, lacking, is_open, open_cores, surplus, waits, waits_short, some_waits_short, are_lacked}
+use Rattle.cal_policy.specs.Assured.Taking.{is_kept, is_kept_for, may_take}
+use Rattle.cal_policy.specs.Assured.Owed.{owed_to}
 use Rattle.cal_guarantee.proofs.Sums.{count_some}
 use Rattle.cal_guarantee.proofs.Holders.{moves_revoke, moves_grant, stays_unban, stays_ban, stays_cap}
 use Rattle.cal_guarantee.proofs.Steps.{IsStep, IsRevokeStep, IsGrantStep}

@@ -17,11 +17,11 @@ use Rattle.cal_policy.specs.Pass.Made.{EachAfter}
 use Rattle.cal_policy.specs.Pass.Steady.{IsSteady}
 use Rattle.cal_policy.proofs.HistoryLemmas.OneMore.{holder_push}
 use Rattle.cal_policy.proofs.ListLemmas.Counted.{lowest_passes, lowest_first, lowest_missing}
-use Rattle.cal_assured.specs.Hyperthreads.{unbans}
-use Rattle.cal_assured.specs.Owed.{owed_to, is_task, left_for}
-use Rattle.cal_assured.specs.Short.{is_short, is_open, waits_short}
-use Rattle.cal_assured.specs.Taking.{is_kept, is_kept_for_short, may_take, open_choice}
-use Rattle.cal_assured.specs.Pass.{unbanned_of, bounded_of}
+use Rattle.cal_policy.specs.Assured.Hyperthreads.{unbans}
+use Rattle.cal_policy.specs.Assured.Owed.{owed_to, is_task, left_for}
+use Rattle.cal_policy.specs.Assured.Short.{is_short, is_open, waits_short}
+use Rattle.cal_policy.specs.Assured.Taking.{is_kept, is_kept_for_short, may_take, open_choice}
+use Rattle.cal_policy.specs.Assured.Pass.{unbanned_of, bounded_of}
 use Rattle.cal_guarantee.proofs.Holders.{owed_push}
 use Rattle.cal_guarantee.proofs.Steps.{unbans_steps}
 use Rattle.cal_guarantee.proofs.Own.{waits_parts}

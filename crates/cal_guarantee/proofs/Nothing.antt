@@ -20,9 +20,9 @@ use Rattle.cal_policy.specs.Pass.Steady.{IsSteady}
 use Rattle.cal_policy.proofs.HistoryLemmas.OneMore.{last_thread_push}
 use Rattle.cal_policy.proofs.PassLemmas.Fits.{held_le_booked}
 use Rattle.cal_policy.proofs.PassLemmas.Pairs.{so_far_more}
-use Rattle.cal_assured.specs.Short.{waits_short}
-use Rattle.cal_assured.specs.Taking.{held_class, held_choice}
-use Rattle.cal_assured.specs.Pass.{bounded_of}
+use Rattle.cal_policy.specs.Assured.Short.{waits_short}
+use Rattle.cal_policy.specs.Assured.Taking.{held_class, held_choice}
+use Rattle.cal_policy.specs.Assured.Pass.{bounded_of}
 use Rattle.cal_guarantee.proofs.Sums.{some_counted}
 use Rattle.cal_guarantee.proofs.Holders.{Stays, moves_revoke, moves_grant, stays_unban, stays_ban, stays_cap}
 use Rattle.cal_guarantee.proofs.Steps.{IsStep, held_of}

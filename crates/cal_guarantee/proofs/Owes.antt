@@ -12,9 +12,9 @@ use Rattle.cal_policy.specs.Setting.{Setting, so_far}
 use Rattle.cal_policy.specs.Pass.Made.{EachAfter}
 use Rattle.cal_policy.specs.Pass.Steady.{IsSteady}
 use Rattle.cal_policy.proofs.HistoryLemmas.OneMore.{holder_push}
-use Rattle.cal_assured.specs.Owed.{owed_to, is_task, owed_below}
-use Rattle.cal_assured.specs.Short.{is_short, lacks, is_open, waits, waits_short, are_lacked}
-use Rattle.cal_assured.specs.Taking.{is_kept, is_kept_for, is_kept_for_short, may_take}
+use Rattle.cal_policy.specs.Assured.Owed.{owed_to, is_task, owed_below}
+use Rattle.cal_policy.specs.Assured.Short.{is_short, lacks, is_open, waits, waits_short, are_lacked}
+use Rattle.cal_policy.specs.Assured.Taking.{is_kept, is_kept_for, is_kept_for_short, may_take}
 use Rattle.cal_guarantee.proofs.Sums.{none_counts}
 use Rattle.cal_guarantee.proofs.Holders.{moves_revoke, moves_grant, stays_ban, owed_push}
 use Rattle.cal_guarantee.proofs.Steps.{IsStep, IsRevokeStep, IsGrantStep}

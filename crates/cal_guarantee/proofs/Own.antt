@@ -14,8 +14,8 @@ use Rattle.cal_policy.specs.Board.Counts.{is_booked_for, is_with, booked_by, cor
 use Rattle.cal_policy.specs.Setting.{Setting, kept_now, has_room}
 use Rattle.cal_policy.specs.Pass.Choice.{count_below, best_below, better}
 use Rattle.cal_policy.specs.Pass.Grants.{thread_choice, thread_rank, thread_delay, may_book}
-use Rattle.cal_assured.specs.InFlight.{is_untaken, is_in_flight, is_late, pressing}
-use Rattle.cal_assured.specs.Short.{is_short, surplus, waits, waits_short}
+use Rattle.cal_policy.specs.Assured.InFlight.{is_untaken, is_in_flight, is_late, pressing}
+use Rattle.cal_policy.specs.Assured.Short.{is_short, surplus, waits, waits_short}
 use Rattle.cal_guarantee.proofs.Sums.{count_same}
 use Rattle.cal_guarantee.proofs.Holders.{Moves, Stays}
 use Rattle.cal_guarantee.proofs.Counts.{short_same, short_parts}

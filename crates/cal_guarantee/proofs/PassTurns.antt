@@ -15,12 +15,12 @@ use Rattle.cal_policy.specs.Pass.Made.{EachAfter}
 use Rattle.cal_policy.specs.Pass.Steady.{IsSteady}
 use Rattle.cal_policy.proofs.ListLemmas.Counted.{lowest_passes}
 use Rattle.cal_policy.proofs.ListLemmas.EachAfter.{each_append}
-use Rattle.cal_assured.specs.Hyperthreads.{unbans, bans}
-use Rattle.cal_assured.specs.Short.{is_short, waits_short}
-use Rattle.cal_assured.specs.Order.{group_of, goes_before, place_of, task_in_place}
-use Rattle.cal_assured.specs.Grants.{grant_at, grant_in_place, grants_of_first, grants}
-use Rattle.cal_assured.specs.Pass.{unbanned_of, bounded_of, pass_of}
-use Rattle.cal_assured.proofs.TurnOrder.{tasks_placed, place_lower}
+use Rattle.cal_policy.specs.Assured.Hyperthreads.{unbans, bans}
+use Rattle.cal_policy.specs.Assured.Short.{is_short, waits_short}
+use Rattle.cal_policy.specs.Assured.Order.{group_of, goes_before, place_of, task_in_place}
+use Rattle.cal_policy.specs.Assured.Grants.{grant_at, grant_in_place, grants_of_first, grants}
+use Rattle.cal_policy.specs.Assured.Pass.{unbanned_of, bounded_of, pass_of}
+use Rattle.cal_policy.proofs.AssuredLemmas.TurnOrder.{tasks_placed, place_lower}
 use Rattle.cal_guarantee.proofs.Steps.{IsStep, unbans_steps, bans_steps, bandwidth_steps, grants_steps, place_step}
 use Rattle.cal_guarantee.proofs.Counts.{short_same}
 use Rattle.cal_guarantee.proofs.Own.{same_back, same_waits, waits_parts}

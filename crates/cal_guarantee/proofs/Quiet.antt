@@ -22,11 +22,11 @@ use Rattle.cal_policy.specs.Pass.Steady.{IsSteady}
 use Rattle.cal_policy.proofs.ListLemmas.OneNumberMore.{count_both}
 use Rattle.cal_policy.proofs.PassLemmas.Fits.{held_le_booked}
 use Rattle.cal_assured.specs.Guarantee.{is_leaving}
-use Rattle.cal_assured.specs.Hyperthreads.{unbans}
-use Rattle.cal_assured.specs.Short.{is_short, lacks, lacking, is_open, open_cores, waits_short}
-use Rattle.cal_assured.specs.Taking.{open_choice}
-use Rattle.cal_assured.specs.Grants.{grant_at}
-use Rattle.cal_assured.specs.Pass.{unbanned_of, bounded_of, pass_of}
+use Rattle.cal_policy.specs.Assured.Hyperthreads.{unbans}
+use Rattle.cal_policy.specs.Assured.Short.{is_short, lacks, lacking, is_open, open_cores, waits_short}
+use Rattle.cal_policy.specs.Assured.Taking.{open_choice}
+use Rattle.cal_policy.specs.Assured.Grants.{grant_at}
+use Rattle.cal_policy.specs.Assured.Pass.{unbanned_of, bounded_of, pass_of}
 use Rattle.cal_guarantee.proofs.Sums.{sum_le, sum_add, covered}
 use Rattle.cal_guarantee.proofs.Steps.{IsStep, unbans_steps}
 use Rattle.cal_guarantee.proofs.Counts.{lacks_short, lacks_none}

@@ -11,9 +11,9 @@ use Rattle.cal_policy.specs.Setting.{Setting, so_far}
 use Rattle.cal_policy.specs.Pass.Grants.{thread_rank}
 use Rattle.cal_policy.specs.Pass.Steady.{IsSteady}
 use Rattle.cal_policy.proofs.ListLemmas.Counted.{best_ranked}
-use Rattle.cal_assured.specs.Short.{waits_short}
-use Rattle.cal_assured.specs.Taking.{open_choice}
-use Rattle.cal_assured.specs.Pass.{bounded_of, pass_of}
+use Rattle.cal_policy.specs.Assured.Short.{waits_short}
+use Rattle.cal_policy.specs.Assured.Taking.{open_choice}
+use Rattle.cal_policy.specs.Assured.Pass.{bounded_of, pass_of}
 use Rattle.cal_guarantee.specs.OnePass.{FewCoresAreKept, IsServed, OpenCoresCome, OwedCoresCome}
 use Rattle.cal_guarantee.proofs.Steps.{open_taken}
 use Rattle.cal_guarantee.proofs.Own.{thread_owner, waits_parts}

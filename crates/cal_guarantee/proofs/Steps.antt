@@ -34,12 +34,12 @@ use Rattle.cal_policy.specs.Pass.Grants.{thread_choice, grant_of, preempt_class,
 use Rattle.cal_policy.proofs.ListLemmas.Counted.{highest_passes, lowest_passes, best_ranked}
 use Rattle.cal_policy.proofs.ListLemmas.EachAfter.{each_append, each_in_turn}
 use Rattle.cal_policy.proofs.PassLemmas.Pairs.{so_far_more}
-use Rattle.cal_assured.specs.Hyperthreads.{unban_for, unban_at, unbans, due_for, bans_at, bans}
-use Rattle.cal_assured.specs.Owed.{owed_to, is_task}
-use Rattle.cal_assured.specs.Short.{are_lacked, waits}
-use Rattle.cal_assured.specs.Taking.{may_take, open_class, owed_class, open_choice, held_class, held_choice, may_preempt, choice_for}
-use Rattle.cal_assured.specs.Grants.{grant_at, grant_in_place, grants_of_first}
-use Rattle.cal_assured.specs.Order.{task_in_place, place_of}
+use Rattle.cal_policy.specs.Assured.Hyperthreads.{unban_for, unban_at, unbans, due_for, bans_at, bans}
+use Rattle.cal_policy.specs.Assured.Owed.{owed_to, is_task}
+use Rattle.cal_policy.specs.Assured.Short.{are_lacked, waits}
+use Rattle.cal_policy.specs.Assured.Taking.{may_take, open_class, owed_class, open_choice, held_class, held_choice, may_preempt, choice_for}
+use Rattle.cal_policy.specs.Assured.Grants.{grant_at, grant_in_place, grants_of_first}
+use Rattle.cal_policy.specs.Assured.Order.{task_in_place, place_of}
 use Rattle.cal_guarantee.proofs.Sums.{count_some}
 use Rattle.cal_guarantee.proofs.Holders.{Stays, stays_ban, stays_cap, stays_same}
 

@@ -17,8 +17,8 @@ use Rattle.cal_policy.specs.Pass.Steady.{IsSteady}
 use Rattle.cal_policy.proofs.HistoryLemmas.OneMore.{holder_push, ban_push}
 use Rattle.cal_policy.proofs.ListLemmas.EachAfter.{each_in_turn}
 use Rattle.cal_policy.proofs.PassLemmas.Pairs.{so_far_more}
-use Rattle.cal_assured.specs.Hyperthreads.{unban_for, unban_at, unbans}
-use Rattle.cal_assured.specs.Short.{lacking, open_cores, waits_short, some_waits_short, are_wanted}
+use Rattle.cal_policy.specs.Assured.Hyperthreads.{unban_for, unban_at, unbans}
+use Rattle.cal_policy.specs.Assured.Short.{lacking, open_cores, waits_short, some_waits_short, are_wanted}
 use Rattle.cal_guarantee.proofs.Steps.{IsStep, unban_for_step}
 use Rattle.cal_guarantee.proofs.Counts.{unban_at_most}
 use Rattle.cal_guarantee.proofs.KeptAlong.{NoGrant, AreEnough, enough_step, with_along, some_waits}

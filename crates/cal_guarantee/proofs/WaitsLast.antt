@@ -7,10 +7,10 @@ use Rattle.cal_policy.specs.Setting.{Setting, so_far}
 use Rattle.cal_policy.specs.Pass.Frees.{frees}
 use Rattle.cal_policy.specs.Pass.Made.{EachAfter}
 use Rattle.cal_policy.specs.Pass.Steady.{IsSteady}
-use Rattle.cal_assured.specs.Pass.{bounded_of}
-use Rattle.cal_assured.specs.Order.{place_of}
-use Rattle.cal_assured.specs.Grants.{grants_of_first}
-use Rattle.cal_assured.specs.Short.{waits_short}
+use Rattle.cal_policy.specs.Assured.Pass.{bounded_of}
+use Rattle.cal_policy.specs.Assured.Order.{place_of}
+use Rattle.cal_policy.specs.Assured.Grants.{grants_of_first}
+use Rattle.cal_policy.specs.Assured.Short.{waits_short}
 use Rattle.cal_guarantee.specs.OnePass.{ShortLastsToTheTurn, WaitsLastToTheGrants, WaitsLastToTheTurn}
 use Rattle.cal_guarantee.proofs.Steps.{IsStep, grants_steps}
 use Rattle.cal_guarantee.proofs.Holders.{moves_revoke, stays_unban, stays_ban, stays_cap}

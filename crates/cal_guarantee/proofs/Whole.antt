@@ -13,9 +13,9 @@ use Rattle.cal_policy.specs.Pass.Frees.{frees}
 use Rattle.cal_policy.specs.Pass.Grants.{leaves_for}
 use Rattle.cal_policy.specs.Pass.Steady.{IsSteady}
 use Rattle.cal_assured.specs.Guarantee.{is_leaving, IsGiven, GuaranteesAreGiven}
-use Rattle.cal_assured.specs.Owed.{owed_to, left_for}
-use Rattle.cal_assured.specs.Taking.{open_choice}
-use Rattle.cal_assured.specs.Pass.{pass_of}
+use Rattle.cal_policy.specs.Assured.Owed.{owed_to, left_for}
+use Rattle.cal_policy.specs.Assured.Taking.{open_choice}
+use Rattle.cal_policy.specs.Assured.Pass.{pass_of}
 use Rattle.cal_guarantee.specs.Enough.{IsShortOfCores, WaitsFromTo, FirstAndLastAreEnough}
 use Rattle.cal_guarantee.specs.OnePass.{IsServed}
 use Rattle.cal_guarantee.proofs.Freed.{was_left, after_frees, frees_steady}

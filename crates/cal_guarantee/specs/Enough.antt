@@ -5,8 +5,8 @@ use Rattle.cal_machine.specs.TableTasks.{threads_of_table}
 use Rattle.cal_policy.specs.declared.history.entry.PassEntry.{PassEntry}
 use Rattle.cal_policy.specs.Setting.{Setting, setting_of, so_far, has_room}
 use Rattle.cal_assured.specs.Guarantee.{WasLongRevoked, IsFreedIn, IsGiven}
-use Rattle.cal_assured.specs.Pass.{IsLegal, bounded_of}
-use Rattle.cal_assured.specs.Short.{waits_short}
+use Rattle.cal_policy.specs.Assured.Pass.{IsLegal, bounded_of}
+use Rattle.cal_policy.specs.Assured.Short.{waits_short}
 
 -- where the grants of the pass begin, task t is short and waits
 abbrev pub IsShortOfCores : Setting → ℕ → Type 0

@@ -7,10 +7,10 @@ use Rattle.cal_policy.specs.declared.history.action.Action.TheVariants.{Grant}
 use Rattle.cal_policy.specs.Pass.Frees.{frees}
 use Rattle.cal_policy.specs.Setting.{Setting, so_far}
 use Rattle.cal_assured.specs.Laws.{made_before_turn}
-use Rattle.cal_assured.specs.Owed.{owed_to}
-use Rattle.cal_assured.specs.Pass.{unbanned_of, bounded_of, pass_of, IsLegal}
-use Rattle.cal_assured.specs.Short.{is_short, lacking, open_cores, waits_short}
-use Rattle.cal_assured.specs.Taking.{open_choice}
+use Rattle.cal_policy.specs.Assured.Owed.{owed_to}
+use Rattle.cal_policy.specs.Assured.Pass.{unbanned_of, bounded_of, pass_of, IsLegal}
+use Rattle.cal_policy.specs.Assured.Short.{is_short, lacking, open_cores, waits_short}
+use Rattle.cal_policy.specs.Assured.Taking.{open_choice}
 
 -- a short task that may take no open core: fewer are open than are lacking
 abbrev pub FewCoresAreKept : Type 0

@@ -1,3 +1,4 @@
+pub mod AssuredLemmas
 pub mod Steady
 pub mod Sending
 pub mod Emptying

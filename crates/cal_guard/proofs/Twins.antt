@@ -43,6 +43,7 @@ agree_alike a b x y ax bx ay = record {
   bans = record { bans = λ c lt. bx.bans.bans c lt ∙ sym (ax.bans.bans c lt) ∙ ay.bans.bans c lt };
   caps = record { caps = λ t lt. bx.caps.caps t lt ∙ sym (ax.caps.caps t lt) ∙ ay.caps.caps t lt };
   banned = record { banned = λ c lt. bx.banned.banned c lt ∙ sym (ax.banned.banned c lt) ∙ ay.banned.banned c lt };
+  debts = record { owed = λ c lt. bx.debts.owed c lt ∙ sym (ax.debts.owed c lt) ∙ ay.debts.owed c lt };
 }
 
 -- records that agree with the same looks agree with the same others

@@ -9,9 +9,12 @@ use cal_laws::{
     passes_are_short, revocations_have_cause, revocations_leave_guarantees, tasks_keep_to_caps,
     threads_are_sent_one_command,
 };
-use cal_policy::laws::{last_thread_is_placed, legal_is_sound};
+use cal_policy::laws::{
+    action_is_one_more, chosen_is_of_least_class, last_thread_is_placed, legal_is_sound,
+    victim_has_most_misses,
+};
 
-/// A legal history is permitted: so the guard lets the one policy that is proved through.
+/// A legal history is permitted: so the guard lets Caladan's policy through.
 pub fn legal_is_permitted()
     ensures { LegalIsPermitted }
 {
@@ -44,4 +47,7 @@ pub fn each_policy_is_permitted()
     ensures { EachPolicyIsPermitted }
 {
     legal_is_permitted();
+    action_is_one_more();
+    chosen_is_of_least_class();
+    victim_has_most_misses();
 }

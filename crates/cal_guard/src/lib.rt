@@ -1,8 +1,8 @@
-//! Any policy, the same safety: what every history is safe from whose actions are permitted, each
-//! at its own place, whoever chose them.
+//! Any policy, the same safety: what every history of permitted actions is safe from, whoever chose
+//! them.
 //!
 //! Each law is the contract of a function that does nothing, its statement a definition in specs/;
-//! to cite a law, call its function. A legal history is permitted, so the laws are the one policy's
+//! to cite a law, call its function. A legal history of each policy is permitted, so the laws are its
 //! too; which thread and core a grant takes, and why a core is revoked, are no part of them.
 #![tactic(auto)]
 

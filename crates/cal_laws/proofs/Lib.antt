@@ -8,3 +8,4 @@ pub mod KeptLemmas
 pub mod OneEachLemmas
 pub mod BanLemmas
 pub mod OldDelayLemmas
+pub mod PolicyLemmas

@@ -36,8 +36,7 @@ use Rattle.cal_linear.proofs.Standing.{MayAllHappen, HasFirst, split, journal_ma
 use Rattle.cal_linear.proofs.Listing.{list_on}
 use Rattle.cal_linear.proofs.Looking.{HasCome, IsSound, looks_on}
 use Rattle.cal_linear.proofs.Fitting.{AreShown, pass_fits, shown_after}
-use Rattle.cal_policy.proofs.PolicyLemmas.{pass_input}
-use Rattle.cal_world.proofs.PolicyLemmas.{pass_at_by}
+use Rattle.cal_policy.proofs.PolicyLemmas.{pass_at_by, pass_input}
 use Rattle.cal_machine.proofs.Places.{slice_get_front, slice_get_seam}
 use Rattle.cal_policy.proofs.ListLemmas.OneMore.{each_after_append}
 

@@ -4,6 +4,7 @@ pub mod AsKept
 pub mod BannedSet
 pub mod BansKept
 pub mod CommandNumbers
+pub mod DebtsKept
 pub mod FitLooks
 pub mod OpenCores
 pub mod RecentCores

@@ -5,3 +5,4 @@ pub mod PassLemmas
 pub mod JudgementLemmas
 pub mod ExplainLemmas
 pub mod PolicyLemmas
+pub mod AssuredLemmas

@@ -1,47 +1,143 @@
 -- What is so of each policy, whatever it makes of a pass. All that looks into the definitions of a
 -- policy is here.
-use Rattle.std.proofs.Common.{◌≡◌, ◌<◌, ◌≤◌, ℕ, List, length, take, Some, slice_get, refl}
+use Rattle.std.proofs.Common.{◌≡◌, ◌<◌, ◌≤◌, ℕ, List, [], ◌∷◌, ◌++◌, length, take, Some, slice_get, refl, sym, subst}
+use Rattle.std.proofs.Math.Seq.{take-append_seam}
+use Rattle.cal_machine.proofs.Last.{slice_get-last}
 use Rattle.cal_machine.specs.Table.{Table, IsTable}
+use Rattle.cal_policy.specs.declared.auditor.Auditor.{Auditor}
 use Rattle.cal_policy.specs.declared.history.entry.PassEntry.{PassEntry}
 use Rattle.cal_policy.specs.declared.policy.Policy.{Policy}
-use Rattle.cal_policy.specs.declared.policy.Policy.TheVariants.{Caladan}
+use Rattle.cal_policy.specs.declared.policy.Policy.TheVariants.{Caladan, Assured}
 use Rattle.cal_policy.specs.declared.verdict.Verdict.TheVariants.{Legal, Illegal}
+use Rattle.cal_policy.specs.Assured.Pass as definitions
+use Rattle.cal_policy.specs.History.{actions_of}
 use Rattle.cal_policy.specs.Judgement.Judging.{IsInput}
 use Rattle.cal_policy.specs.Judgement.Orderly.{IsOrderly}
 use Rattle.cal_policy.specs.Pass.{pass_of}
-use Rattle.cal_policy.specs.Policies.{pass_by, IsPassBy, IsLegalBy, IsVerdictBy}
+use Rattle.cal_policy.specs.Pass.Steady.{IsSteady}
+use Rattle.cal_policy.specs.Auditor.{KeepsUp}
+use Rattle.cal_policy.specs.Policies.{pass_by, IsPassBy, IsLegalBy, IsVerdictBy, IsAuditBy}
 use Rattle.cal_policy.specs.Setting.{Setting, setting_of}
-use Rattle.cal_policy.proofs.PassLemmas.LegalOrderly.{legal_orderly}
-use Rattle.cal_policy.proofs.PassLemmas.Legality.{legal_upto}
+use Rattle.cal_policy.proofs.AssuredLemmas.FreesFirst as second
+use Rattle.cal_policy.proofs.AssuredLemmas.LegalOrderly as assured
+use Rattle.cal_policy.proofs.AssuredLemmas.Legality as own
+use Rattle.cal_policy.proofs.PassLemmas.Commands.{IsFitPass}
+use Rattle.cal_policy.proofs.PassLemmas.LegalOrderly.{legal_orderly, legal_sound, legal_steady, sound_fits}
+use Rattle.cal_policy.proofs.PassLemmas.Legality.{legal_upto, legal_none, legal_more, illegal_stays, illegal_here, never_illegal}
+use Rattle.cal_policy.proofs.PassLemmas.RevokedStay.{FreesFirst, pass_frees_first}
 
--- while there is one
-pub caladan_by : (policy : Policy) (s : Setting) → pass_by policy s ≡ pass_of s
-caladan_by Caladan s = refl
+-- of Caladan's policy
+pub caladan_by : (policy : Policy) (s : Setting) → policy ≡ Caladan → pass_by policy s ≡ pass_of s
+caladan_by Caladan s is = refl
+caladan_by Assured s is = cc
+
+-- and of the second
+pub assured_by : (policy : Policy) (s : Setting) → policy ≡ Assured → pass_by policy s ≡ definitions.pass_of s
+assured_by Caladan s is = cc
+assured_by Assured s is = refl
 
 -- a pass is an input that may be given and the policy's actions on it
 pub pass_input : (policy : Policy) (table : Table) (before : List PassEntry) (entry : PassEntry) → IsPassBy policy table before entry → IsInput table before entry.input
 pass_input Caladan table before entry pass = pass.input
+pass_input Assured table before entry pass = pass.input
 
 pub pass_actions : (policy : Policy) (table : Table) (before : List PassEntry) (entry : PassEntry) → IsPassBy policy table before entry
     → entry.actions ≡ pass_by policy (setting_of table before entry)
 pass_actions Caladan table before entry pass = pass.actions
+pass_actions Assured table before entry pass = pass.actions
 
 pub pass_from : (policy : Policy) (table : Table) (before : List PassEntry) (entry : PassEntry) → IsInput table before entry.input →
     entry.actions ≡ pass_by policy (setting_of table before entry) → IsPassBy policy table before entry
 pass_from Caladan table before entry input actions = record { input = input; actions = actions }
+pass_from Assured table before entry input actions = record { input = input; actions = actions }
 
 -- a history of the policy is orderly, and made of its passes
 pub orderly_by : (policy : Policy) (table : Table) (h : List PassEntry) → IsTable table → IsLegalBy policy table h → IsOrderly table h
 orderly_by Caladan table h accepted legal = legal_orderly table h accepted legal
+orderly_by Assured table h accepted legal = assured.legal_orderly table h accepted legal
 
 pub legal_upto_by : (policy : Policy) (table : Table) (h : List PassEntry) (n : ℕ) → n ≤ length h →
     ((q : ℕ) → q < n → (entry : PassEntry) → slice_get h q ≡ Some entry → IsPassBy policy table (take q h) entry) → IsLegalBy policy table (take n h)
 legal_upto_by Caladan table h n within each = legal_upto table h n within each
+legal_upto_by Assured table h n within each = own.legal_upto table h n within each
+
+-- each entry of a history is a pass of its policy after those before it, and one pass more is
+pub pass_at_by : (policy : Policy) (table : Table) (h : List PassEntry) → IsLegalBy policy table h → (p : ℕ) (entry : PassEntry) → slice_get h p ≡ Some entry → IsPassBy policy table (take p h) entry
+pass_at_by Caladan table h legal = legal.passes
+pass_at_by Assured table h legal = legal.passes
+
+pub legal_more_by : (policy : Policy) (table : Table) (h : List PassEntry) (entry : PassEntry) → IsLegalBy policy table h → IsPassBy policy table h entry → IsLegalBy policy table (h ++ entry ∷ [])
+legal_more_by Caladan table h entry legal next = legal_more table h entry legal next
+legal_more_by Assured table h entry legal next = own.legal_more table h entry legal next
+
+-- after each number of its passes it is steady
+pub steady_by : (policy : Policy) (table : Table) (h : List PassEntry) → IsTable table → IsLegalBy policy table h → (p : ℕ) → p ≤ length h → IsSteady table (actions_of (take p h))
+steady_by Caladan table h ok legal p within = legal_steady table h ok legal p within
+steady_by Assured table h ok legal p within = assured.legal_steady table h ok legal p within
+
+-- each of its passes fits, and frees cores first
+fit_pass_at : (policy : Policy) (table : Table) (h : List PassEntry) (p : ℕ) (entry : PassEntry) → IsTable table → IsLegalBy policy table h → slice_get h p ≡ Some entry → IsFitPass table (take p h) entry
+fit_pass_at Caladan table h p entry ok legal at = record {
+  each = sound_fits (setting_of table (take p h) entry) [] entry.actions (legal_sound table h ok legal p entry at).each;
+  first = subst FreesFirst (sym (legal.passes p entry at).actions) (pass_frees_first (setting_of table (take p h) entry));
+}
+fit_pass_at Assured table h p entry ok legal at = record {
+  each = (assured.legal_fits table h ok legal p entry at).each;
+  first = subst FreesFirst (sym (legal.passes p entry at).actions) (second.pass_frees_first (setting_of table (take p h) entry));
+}
+
+pub last_fits : (policy : Policy) (table : Table) (h : List PassEntry) (entry : PassEntry) → IsTable table → IsLegalBy policy table (h ++ entry ∷ []) → IsFitPass table h entry
+last_fits policy table h entry ok legal =
+    subst (λ (before : List PassEntry). IsFitPass table before entry) (take-append_seam h (entry ∷ []))
+    (fit_pass_at policy table (h ++ entry ∷ []) (length h) entry ok legal (slice_get-last h entry))
 
 -- what an audit says
 pub verdict_legal : (policy : Policy) (table : Table) (h : List PassEntry) → IsLegalBy policy table h → IsVerdictBy policy table h Legal
 verdict_legal Caladan table h legal = legal
+verdict_legal Assured table h legal = legal
 
 pub verdict_illegal : (policy : Policy) (table : Table) (h : List PassEntry) (p : ℕ) → p < length h → IsLegalBy policy table (take p h) →
     ((entry : PassEntry) → slice_get h p ≡ Some entry → ¬ IsPassBy policy table (take p h) entry) → IsVerdictBy policy table h (Illegal p)
 verdict_illegal Caladan table h p within before none = record { within = within; before = before; illegal = none }
+verdict_illegal Assured table h p within before none = record { within = within; before = before; illegal = none }
+
+-- nothing is a history of each policy
+pub legal_none_by : (policy : Policy) (table : Table) → IsLegalBy policy table []
+legal_none_by Caladan table = legal_none table
+legal_none_by Assured table = own.legal_none table
+
+-- what one entry more makes of what an audit says
+pub verdict_stays : (policy : Policy) (table : Table) (h : List PassEntry) (entry : PassEntry) (p : ℕ) → IsVerdictBy policy table h (Illegal p) → IsVerdictBy policy table (h ++ entry ∷ []) (Illegal p)
+verdict_stays Caladan table h entry p first = illegal_stays table h entry p first
+verdict_stays Assured table h entry p first = own.illegal_stays table h entry p first
+
+pub verdict_more : (policy : Policy) (table : Table) (h : List PassEntry) (entry : PassEntry) → IsVerdictBy policy table h Legal → IsPassBy policy table h entry → IsVerdictBy policy table (h ++ entry ∷ []) Legal
+verdict_more Caladan table h entry legal next = legal_more table h entry legal next
+verdict_more Assured table h entry legal next = own.legal_more table h entry legal next
+
+pub verdict_here : (policy : Policy) (table : Table) (h : List PassEntry) (entry : PassEntry) → IsVerdictBy policy table h Legal → (IsPassBy policy table h entry → ⊥) →
+    IsVerdictBy policy table (h ++ entry ∷ []) (Illegal (length h))
+verdict_here Caladan table h entry legal none = illegal_here table h entry legal none
+verdict_here Assured table h entry legal none = own.illegal_here table h entry legal none
+
+pub legal_of : (policy : Policy) (table : Table) (h : List PassEntry) → IsVerdictBy policy table h Legal → IsLegalBy policy table h
+legal_of Caladan table h legal = legal
+legal_of Assured table h legal = legal
+
+pub never_illegal_by : (policy : Policy) (table : Table) (h : List PassEntry) (p : ℕ) → IsLegalBy policy table h → IsVerdictBy policy table h (Illegal p) → ⊥
+never_illegal_by Caladan table h p legal first = never_illegal table h p legal first
+never_illegal_by Assured table h p legal first = own.never_illegal table h p legal first
+
+-- what an audit is, whatever its policy
+pub record AuditParts (policy : Policy) (table : Table) (h : List PassEntry) (auditor : Auditor) : Type 0 where
+  pub policy_kept : auditor.book.policy ≡ policy
+  pub right : IsVerdictBy policy table h auditor.verdict
+  pub keeps_up : KeepsUp h auditor auditor.verdict
+
+pub audit_parts : (policy : Policy) (table : Table) (h : List PassEntry) (auditor : Auditor) → IsAuditBy policy table h auditor → AuditParts policy table h auditor
+audit_parts Caladan table h auditor audits = record { policy_kept = audits.policy; right = audits.right; keeps_up = audits.keeps_up }
+audit_parts Assured table h auditor audits = record { policy_kept = audits.policy; right = audits.right; keeps_up = audits.keeps_up }
+
+pub audit_from : (policy : Policy) (table : Table) (h : List PassEntry) (auditor : Auditor) → AuditParts policy table h auditor → IsAuditBy policy table h auditor
+audit_from Caladan table h auditor parts = record { policy = parts.policy_kept; right = parts.right; keeps_up = parts.keeps_up }
+audit_from Assured table h auditor parts = record { policy = parts.policy_kept; right = parts.right; keeps_up = parts.keeps_up }

@@ -3,6 +3,7 @@ use Rattle.std.specs.Prelude.{◌≡◌, ◌-◌, ◌^◌, List, length, min}
 use Rattle.cal_machine.specs.Table.{Table}
 use Rattle.cal_policy.specs.declared.auditor.Auditor.{Auditor}
 use Rattle.cal_policy.specs.declared.history.entry.PassEntry.{PassEntry}
+use Rattle.cal_policy.specs.declared.policy.Policy.TheVariants.{Caladan}
 use Rattle.cal_policy.specs.declared.verdict.Verdict.{Verdict}
 use Rattle.cal_policy.specs.declared.verdict.Verdict.TheVariants.{Legal, Illegal}
 use Rattle.cal_policy.specs.Book.{board_in}
@@ -21,7 +22,8 @@ KeepsUp history auditor Legal =
     × (auditor.passes ≡ min (length history) (2 ^ 64 - 1))
 KeepsUp history auditor (Illegal p) = Unit {0}
 
--- the auditor was handed this history, and its verdict is the history's
+-- the auditor goes by Caladan's policy, was handed this history, and its verdict is the history's
 pub record IsAuditOf (table : Table) (history : List PassEntry) (auditor : Auditor) : Type 0 where
+  pub policy : auditor.book.policy ≡ Caladan
   pub right : IsVerdict table history auditor.verdict
   pub keeps_up : KeepsUp history auditor auditor.verdict

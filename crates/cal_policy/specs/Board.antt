@@ -2,6 +2,7 @@
 -- whole board is the state of a history, State.antt says.
 pub mod CoreSets
 pub mod Counts
+pub mod Debts
 pub mod KeepingSets
 pub mod Losing
 pub mod OpenCores

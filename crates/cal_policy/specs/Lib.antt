@@ -1,5 +1,6 @@
 pub mod History
 pub mod Pass
+pub mod Assured
 pub mod Board
 pub mod State
 pub mod Judgement

@@ -9,7 +9,7 @@
 --     `IsStateAfter`   it is the state that the passes of a history leave
 --     `Stands`         it is the state within a pass, after the actions of it so far
 --   their parts
---     `Agrees`         its cores, bans and caps are as these actions say
+--     `Agrees`         its cores, bans, caps and debts are as these actions say
 --     `KeepingAgrees`  its records are as these looks say
 --
 -- A book and a guard keep a board, and say the same of it: `board_in` is the board that they keep.
@@ -25,6 +25,7 @@ use Rattle.cal_policy.specs.declared.board.records.Keeping.{Keeping}
 use Rattle.cal_policy.specs.Board.{HoldersAgree, BansAgree, CapsAgree, BoardSound}
 use Rattle.cal_policy.specs.Board.{HasGranted, KeepsBefore, holder_in}
 use Rattle.cal_policy.specs.Board.CoreSets.{Sorts, IsSetOfBanned}
+use Rattle.cal_policy.specs.Board.Debts.{DebtsAgree}
 use Rattle.cal_policy.specs.Board.KeepingSets.{KeepsSets, kept_in, shown_in}
 use Rattle.cal_policy.specs.Board.OpenCores.{Opens}
 use Rattle.cal_policy.specs.Board.RecentCores.{AreRecent, last_thread_in}
@@ -59,12 +60,13 @@ pub record IsOfTable (table : Table) (b : Board) : Type 0 where
   pub accepted : IsTable table
   pub ready : IsReady table b
 
--- the board says of cores, bans and caps what the actions x say
+-- the board says of cores, bans, caps and debts what the actions x say
 pub record Agrees (b : Board) (x : List Action) : Type 0 where
   pub holding : HoldersAgree b.holding x
   pub bans : BansAgree b.bans x
   pub caps : CapsAgree b.caps x
   pub banned : IsSetOfBanned b.sets.banned x
+  pub debts : DebtsAgree b.debts x
 
 -- records are as all these looks say, those of the last pass included
 pub record KeepingAgrees (r : Keeping) (looks : List (List Seen)) : Type 0 where

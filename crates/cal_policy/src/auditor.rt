@@ -1,14 +1,15 @@
 //! The audit of a history as it grows, one pass after the other.
 
-ghost use Rattle.std.specs.Prelude.{◌<◌, ◌^◌, ◌++◌, ◌∷◌, ◌↔◌, [], List, length, IfOk, IsTrue};
+ghost use Rattle.std.specs.Prelude.{◌≡◌, ◌<◌, ◌^◌, ◌++◌, ◌∷◌, ◌↔◌, [], List, length, IfOk, IsTrue};
 ghost use Rattle.cal_machine.specs.Table.{Table};
 ghost use Rattle.cal_policy.specs.Auditor.{IsAuditOf, IsAuditorOf};
 ghost use Rattle.cal_policy.specs.State.{IsReady, IsStateAfter};
-ghost use Rattle.cal_policy.specs.Book.{board_in, AfterLegal};
-ghost use Rattle.cal_policy.specs.Pass.{IsPass, IsLegal};
-ghost use Rattle.cal_policy.specs.Policies.{IsAuditBy};
+ghost use Rattle.cal_policy.specs.Book.{board_in};
+ghost use Rattle.cal_policy.specs.Pass.{IsLegal};
+ghost use Rattle.cal_policy.specs.Policies.{AfterOwn, IsPassBy, IsLegalBy, IsVerdictBy, IsAuditBy};
 ghost use Rattle.cal_policy.specs.Verdict.{IsVerdict};
 ghost use Rattle.cal_policy.specs.declared.history.entry.PassEntry.{PassEntry};
+ghost use Rattle.cal_policy.specs.declared.policy.Policy.{Policy};
 
 use crate::board::Board;
 use crate::book::Book;
@@ -40,9 +41,10 @@ pub struct Auditor {
 fn is_next(config: &Config, book: &mut Book, entry: &PassEntry, actions: &mut Actions) -> bool
     requires of { IsReady config.now (board_in book.old) }
     ensures of { IsReady config.now (board_in book.new) }
-    ensures exact { AfterLegal config.now book.old (λ h.
-        IsTrue result ↔ IsPass config.now h entry.now) }
-    ensures agrees { IsTrue result → AfterLegal config.now book.old (λ h.
+    ensures policy { book.new.policy ≡ book.old.policy }
+    ensures exact { AfterOwn config.now book.old (λ h.
+        IsTrue result ↔ IsPassBy book.old.policy config.now h entry.now) }
+    ensures agrees { IsTrue result → AfterOwn config.now book.old (λ h.
         IsStateAfter (board_in book.new) (h ++ entry.now ∷ [])) }
 {
     if !book.fits(config, &entry.input) {
@@ -83,6 +85,10 @@ impl Auditor {
         ensures audits { (h : List PassEntry) → length h < 2 ^ 64 →
             IsAuditOf config.now h self.old →
             IsAuditOf config.now (h ++ entry.now ∷ []) self.new }
+        // The same by the auditor's own policy.
+        ensures own { (policy : Policy) (h : List PassEntry) → length h < 2 ^ 64 →
+            IsAuditBy policy config.now h self.old →
+            IsAuditBy policy config.now (h ++ entry.now ∷ []) self.new }
         ensures of { IsAuditorOf config.now self.new }
     {
         match self.verdict {
@@ -101,6 +107,9 @@ impl Auditor {
     pub fn board(&self) -> &Board
         ensures agrees { (table : Table) (h : List PassEntry) → IsLegal table h →
             IsAuditOf table h self.now → IsStateAfter result.now h }
+        ensures own { (policy : Policy) (table : Table) (h : List PassEntry) →
+            IsLegalBy policy table h → IsAuditBy policy table h self.now →
+            IsStateAfter result.now h }
         ensures ready { (table : Table) → IsAuditorOf table self.now → IsReady table result.now }
     {
         self.book.board()
@@ -108,8 +117,10 @@ impl Auditor {
 
     /// What the audit says of the passes so far.
     pub fn verdict(&self) -> Verdict
-        ensures { (table : Table) (h : List PassEntry) → IsAuditOf table h self.now →
+        ensures audits { (table : Table) (h : List PassEntry) → IsAuditOf table h self.now →
             IsVerdict table h result }
+        ensures own { (policy : Policy) (table : Table) (h : List PassEntry) →
+            IsAuditBy policy table h self.now → IsVerdictBy policy table h result }
     {
         self.verdict
     }

@@ -5,6 +5,7 @@ pub mod caps;
 pub mod core_sets;
 pub mod cores;
 pub mod counts;
+pub mod debts;
 pub mod holders;
 pub mod open_cores;
 pub mod queries;
@@ -33,6 +34,7 @@ ghost use Rattle.cal_policy.specs.Judgement.OpenPass.{IsOpenAt, ShowNoted};
 use crate::board::bans::Bans;
 use crate::board::caps::Caps;
 use crate::board::core_sets::CoreSets;
+use crate::board::debts::Debts;
 use crate::board::holders::{Holding, core_changed_by};
 use crate::board::open_cores::OpenCores;
 use crate::board::recent_cores::RecentCores;
@@ -62,6 +64,8 @@ pub struct Board {
     pub bans: Bans,
     /// The cap of each task: how many cores a best-effort one may book.
     pub caps: Caps,
+    /// To which tasks free cores are owed.
+    pub debts: Debts,
     /// The records that are kept.
     pub keeping: Keeping,
     /// The cores that the kept record of their thread may not show: all that may have been left.
@@ -103,6 +107,7 @@ impl Board {
             recent: RecentCores::new(),
             bans: Bans::new(),
             caps: Caps::new(),
+            debts: Debts::new(),
             keeping: Keeping::new(),
             unshown: CoreSet::empty(),
             fresh: CoreSet::empty(),
@@ -135,6 +140,7 @@ impl Board {
         self.open_cores.note(config, &self.holding, &banned, action);
         self.bans.apply(action);
         self.caps.apply(action);
+        self.debts.note(action, before);
         note_grant(&mut self.fresh, action);
     }
 
@@ -171,6 +177,9 @@ impl Board {
             },
             caps: Caps {
                 caps: self.caps.caps,
+            },
+            debts: Debts {
+                owed: self.debts.owed,
             },
             keeping: Keeping {
                 kept: self.keeping.kept,

@@ -9,8 +9,9 @@ ghost use Rattle.cal_policy.specs.History.{actions_of, looks_of};
 ghost use Rattle.cal_policy.specs.Judgement.OpenInput.{judged_input};
 ghost use Rattle.cal_policy.specs.Judgement.Judging.{judged, IsInput};
 ghost use Rattle.cal_policy.specs.Setting.{setting};
-ghost use Rattle.cal_policy.specs.Pass.{pass_of, IsLegal};
-ghost use Rattle.cal_policy.specs.Policies.{AfterOwnOn, AfterOwnOpen, IsNextBy};
+ghost use Rattle.cal_policy.specs.Pass.{pass_of};
+ghost use Rattle.cal_policy.specs.Policies.{AfterOwnOn, AfterOwnOpen, IsLegalBy, IsNextBy};
+ghost use Rattle.cal_policy.specs.declared.policy.Policy.{Policy as PolicyOf};
 ghost use Rattle.cal_policy.specs.declared.policy.Policy.TheVariants.{Caladan};
 ghost use Rattle.cal_policy.specs.Board.{HasSizes, KeepsBefore};
 ghost use Rattle.cal_policy.specs.State.{IsReady, IsStateAfter};
@@ -125,8 +126,8 @@ impl Book {
     ///
     /// The book is the one after the pass: what a pass revokes it grants to nobody any more.
     pub fn command_of(&self, action: Action) -> Option<(u8, Command)>
-        ensures { (table : Table) (h : List PassEntry) (entry : PassEntry) →
-            IsTable table → IsLegal table (h ++ entry ∷ []) →
+        ensures { (policy : PolicyOf) (table : Table) (h : List PassEntry) (entry : PassEntry) →
+            IsTable table → IsLegalBy policy table (h ++ entry ∷ []) →
             IsStateAfter (board_in self.now) (h ++ entry ∷ []) →
             (i : ℕ) → slice_get entry.actions i ≡ Some action →
             IsSentBy table (actions_of h ++ take i entry.actions) action result }
@@ -141,7 +142,8 @@ impl Book {
         requires of { IsReady config.now (board_in self.old) }
         requires sizes { HasSizes config.now input.now }
         requires empty { out.old ≡ [] }
-        ensures acts { AfterLegalOn config.now self.old input.entry.now (λ h.
+        ensures acts { self.old.policy ≡ Caladan →
+            AfterLegalOn config.now self.old input.entry.now (λ h.
             out.new ≡ pass_of (setting config.now h input.entry.now)) }
         ensures agrees { AfterLegalOn config.now self.old input.entry.now (λ h.
             IsStateAfter (board_in self.new) (h ++ record {
@@ -177,7 +179,8 @@ impl Book {
         requires of { IsReady config.now (board_in self.old) }
         requires all { looks.now.count ≡ threads_of_table config.now }
         requires empty { out.old ≡ [] }
-        ensures acts { AfterLegalOpen config.now self.old now bandwidth looks.entry.now (λ h input.
+        ensures acts { self.old.policy ≡ Caladan →
+            AfterLegalOpen config.now self.old now bandwidth looks.entry.now (λ h input.
             out.new ≡ pass_of (setting config.now h input)) }
         ensures agrees { AfterLegalOpen config.now self.old now bandwidth looks.entry.now
             (λ h input. IsStateAfter (board_in self.new) (h ++ record {

@@ -1,6 +1,7 @@
 //! The parts of a pass, in their order, and how each makes its actions.
 
 pub mod appending;
+pub mod assured;
 pub mod bandwidth;
 pub mod bans;
 pub mod choice;

@@ -8,6 +8,9 @@ ghost use Rattle.cal_policy.specs.Policies.{policy_name, policy_named};
 pub enum Policy {
     /// After Caladan's core allocator and its controllers.
     Caladan,
+    /// The same with a guarantee that is given: a latency-critical task that goes on waiting below
+    /// its guarantee is granted a core as soon as one can have been left.
+    Assured,
 }
 
 impl Policy {
@@ -18,6 +21,7 @@ impl Policy {
     {
         match self {
             Policy::Caladan => "caladan",
+            Policy::Assured => "assured",
         }
     }
 
@@ -27,6 +31,9 @@ impl Policy {
     {
         if name == "caladan" {
             return Some(Policy::Caladan);
+        }
+        if name == "assured" {
+            return Some(Policy::Assured);
         }
         None
     }

@@ -17,7 +17,8 @@ use Rattle.cal_laws.specs.Point.{Point}
 use Rattle.cal_laws.specs.Policies.{IsPointBy}
 use Rattle.cal_laws.proofs.PointLemmas.EachAction.{actions_more}
 use Rattle.cal_machine.proofs.Places.{slice_get_at}
-use Rattle.cal_sched.proofs.PolicyLemmas.{is_point_by, AreOfTheirLastRun, AreSentOneCommand}
+use Rattle.cal_laws.proofs.PolicyLemmas.{is_point_by}
+use Rattle.cal_sched.proofs.PolicyLemmas.{AreOfTheirLastRun, AreSentOneCommand}
 
 module _ (policy : Policy) (table : Table) (history : List PassEntry) (ok : IsTable table) (legal : IsLegalBy policy table history) where
   -- the end of a pass

@@ -18,13 +18,12 @@ use Rattle.cal_policy.specs.History.Found.{looks_at}
 use Rattle.cal_policy.specs.Judgement.OpenInput.{judged_input, rooms_found}
 use Rattle.cal_policy.specs.Judgement.Judging.{IsInput}
 use Rattle.cal_policy.specs.Policies.{IsLegalBy}
-use Rattle.cal_policy.proofs.PolicyLemmas.{pass_from}
+use Rattle.cal_policy.proofs.PolicyLemmas.{legal_more_by, pass_from}
 use Rattle.cal_sched.specs.Looking.{HasLooked}
 use Rattle.cal_sched.specs.Passing.{HasAsked, HaveFound, HaveSent, pass_on}
 use Rattle.cal_sched.specs.Scheduler.{SchedulerView, IsKept}
 use Rattle.cal_sched.specs.Sending.{MaySend}
 use Rattle.cal_sched.proofs.Fitting.{found_is_input, found_in, looks_at-append}
-use Rattle.cal_sched.proofs.PolicyLemmas.{legal_more_by}
 use Rattle.cal_machine.proofs.Places.{slice_get_at}
 
 module _ (s : SchedulerView) (now bandwidth : ℕ) (looked : List ObserverView) (asked : List SenderView) (found : List FoundLook) where

@@ -23,7 +23,8 @@ use Rattle.cal_laws.specs.Point.{Point}
 use Rattle.cal_laws.specs.Policies.{IsPointBy}
 use Rattle.cal_sched.specs.Passing.{HaveSent}
 use Rattle.cal_sched.specs.Sending.{MaySend}
-use Rattle.cal_sched.proofs.PolicyLemmas.{is_point_by, AreSentOneCommand, GoWhereIsRoom}
+use Rattle.cal_laws.proofs.PolicyLemmas.{is_point_by}
+use Rattle.cal_sched.proofs.PolicyLemmas.{AreSentOneCommand, GoWhereIsRoom}
 use Rattle.cal_sched.proofs.Lists.{slice_get-set_other, slice_get-set_same, snoc_same}
 use Rattle.cal_machine.proofs.Places.{slice_get_at}
 use Rattle.cal_machine.proofs.Last.{some_same, slice_get-last, take_next}

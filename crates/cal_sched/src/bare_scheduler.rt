@@ -17,9 +17,11 @@ use crate::found_pass::FoundPass;
 use crate::news::find_news;
 use crate::sending::send_commands;
 use cal_command::Sender;
-use cal_laws::{holders_are_of_their_last_run, threads_are_sent_one_command};
+use cal_guard::{
+    each_policy_is_permitted, holders_are_of_their_last_run, permitted_settled_is_no_news,
+    threads_are_sent_one_command,
+};
 use cal_machine::{Config, Past};
-use cal_policy::laws::settled_is_no_news;
 use cal_policy::state::Board;
 use cal_policy::{
     Actions, Book, Holder, Input, InputLists, MOST_PASSES, OpenPass, PassEntry, Policy,
@@ -248,7 +250,8 @@ impl BareScheduler {
             return Err(PassFault::HistoryFull);
         }
         self.config.limits();
-        settled_is_no_news();
+        each_policy_is_permitted();
+        permitted_settled_is_no_news();
         self.looks.begin();
         let mut found = Past::none();
         find_news(
@@ -317,6 +320,7 @@ impl BareScheduler {
         ensures { result ≡ holder_of (actions_of self.now.history) core }
     {
         self.config.limits();
+        each_policy_is_permitted();
         threads_are_sent_one_command();
         holders_are_of_their_last_run();
         self.book.board().holder(core)

@@ -7,7 +7,9 @@ ghost use Rattle.cal_sched.specs.Sending.{MaySend};
 
 use crate::found_pass::FoundPass;
 use cal_command::Sender;
-use cal_laws::{commands_go_where_is_room, threads_are_sent_one_command};
+use cal_guard::{
+    commands_go_where_is_room, each_policy_is_permitted, threads_are_sent_one_command,
+};
 use cal_machine::{Config, Past};
 use cal_policy::{Action, Book};
 
@@ -33,6 +35,7 @@ pub(crate) fn send_commands(
     let _ = past;
     let _ = pass;
     config.limits();
+    each_policy_is_permitted();
     commands_go_where_is_room();
     threads_are_sent_one_command();
     for action in actions {

@@ -11,4 +11,3 @@ pub mod OwnValue
 pub mod Unvaried
 pub mod OneTable
 pub mod Verdicts
-pub mod PolicyLemmas

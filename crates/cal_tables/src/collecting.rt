@@ -16,11 +16,11 @@ ghost use Rattle.cal_run.specs.Workers.{FitSomeTable};
 ghost use Rattle.cal_run.specs.declared.outcome.Outcome.{Outcome};
 ghost use Rattle.cal_tables.specs.Measured.{AreNumbersAtEnd, AreNumbersSoFar};
 
+use cal_guard::{each_policy_is_permitted, passes_are_short, permitted_is_orderly};
 use cal_kthread::{RequestList, TurnEntries};
 use cal_machine::{Config, Listed};
 use cal_measure::{EndedRun, ThreadWork, Walk, open_works};
 use cal_policy::Actions;
-use cal_policy::laws::{legal_is_orderly, legal_is_short};
 use cal_run::{Collector, step_given};
 use cal_sched::BareScheduler;
 use cal_trace::Arrivals;
@@ -90,8 +90,9 @@ impl OpenNumbers {
         ensures walk { IsWalkOf self.old.config scheduler.old.history self.old.walk →
             IsWalkOf self.old.config scheduler.new.history self.new.walk }
     {
-        legal_is_orderly();
-        legal_is_short();
+        each_policy_is_permitted();
+        permitted_is_orderly();
+        passes_are_short();
         self.config.limits();
         step_given(scheduler, arrivals, p, &mut self.actions);
         let given = arrivals.passes.as_slice()[p];

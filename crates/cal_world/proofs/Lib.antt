@@ -1,4 +1,3 @@
-pub mod PolicyLemmas
 pub mod ListLemmas
 pub mod ScheduleLemmas
 pub mod WorldLemmas

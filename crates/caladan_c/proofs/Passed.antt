@@ -8,20 +8,21 @@ use Rattle.cal_policy.specs.declared.history.input.Input.{Input}
 use Rattle.cal_policy.specs.Book.{board_in}
 use Rattle.cal_policy.specs.State.{IsStateAfter}
 use Rattle.cal_policy.specs.Judgement.Judging.{IsInput}
-use Rattle.cal_policy.specs.Laws.{LegalIsShort, OnePassMoreIsLegal}
 use Rattle.cal_policy.specs.Policies.{IsLegalBy, IsNextBy}
+use Rattle.cal_guard.specs.Histories.{EachPolicyIsPermitted}
+use Rattle.cal_guard.specs.Laws.{PassesAreShort}
 use Rattle.caladan_c.specs.Passing.{MadePass, passed}
 use Rattle.caladan_c.specs.Standing.{Standing}
 use Rattle.caladan_c.proofs.Policies.{one_more_by}
 
 -- the pass was made on an input that it may be given
 pub passed_after : (s : Standing) (h : List PassEntry) (input : Input) (acts : List Action) (book : Book)
-    → OnePassMoreIsLegal → LegalIsShort → IsTable s.table → IsLegalBy s.book.policy s.table h → IsInput s.table h input
+    → EachPolicyIsPermitted → PassesAreShort → IsTable s.table → IsLegalBy s.book.policy s.table h → IsInput s.table h input
     → IsNextBy s.table s.book book h input acts → book.policy ≡ s.book.policy
     → MadePass s h input (record { table = s.table; book = book; made = acts })
-passed_after s h input acts book more short table was is next same =
+passed_after s h input acts book each short table was is next same =
     let entry : PassEntry = record { input = input; actions = acts } in
-    let more_by = one_more_by s.book.policy s.table h input acts more short table was is next.acts in
+    let more_by = one_more_by s.book.policy s.table h input acts each short table was is next.acts in
     let whole : entry ≡ passed s.book.policy s.table h input = λ j. record { input = input; actions = next.acts j } in
     record {
       input = is;

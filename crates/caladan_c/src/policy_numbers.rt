@@ -11,6 +11,7 @@ pub fn policy_numbered(number: u32) -> Option<Policy>
 {
     match number {
         0 => Some(Policy::Caladan),
+        1 => Some(Policy::Assured),
         _ => None,
     }
 }

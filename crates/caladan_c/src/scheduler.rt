@@ -14,9 +14,9 @@ use crate::answer::Refusal;
 use crate::handed_in::HandedIn;
 use crate::told::judgement::tell_looks;
 use crate::walk::{Basis, take_looks};
-use cal_guard::{each_policy_is_permitted, permitted_settled_is_no_news};
+use cal_guard::{each_policy_is_permitted, passes_are_short, permitted_settled_is_no_news};
 use cal_machine::{Config, ConfigFault};
-use cal_policy::laws::{legal_is_short, nothing_is_legal, one_pass_more_is_legal, open_pass_fits};
+use cal_policy::laws::open_pass_fits;
 use cal_policy::state::Board;
 use cal_policy::{Action, Actions, Book, OpenPass, Policy};
 use std::alloc::Global;
@@ -60,7 +60,6 @@ impl Scheduler {
         ensures legal { IfOk result (λ scheduler. IsLegalBy policy scheduler.table []) }
         ensures new { IfOk result (λ scheduler. IsStateAfter (board_in scheduler.book) []) }
     {
-        nothing_is_legal();
         let config = Config::read(alloc, table)?;
         let book = Book::open_by(alloc, &config, policy)?;
         let made = Actions::reserved(alloc)?;
@@ -129,8 +128,7 @@ impl Scheduler {
         each_policy_is_permitted();
         permitted_settled_is_no_news();
         open_pass_fits();
-        legal_is_short();
-        one_pass_more_is_legal();
+        passes_are_short();
         self.made.clear();
         self.book.pass(
             &self.config,

@@ -301,7 +301,7 @@ fn run_word<'a>(alloc: Global, word: &'a str, help: Help) -> Result<Command<'a>,
 }
 
 /// The names of the policies, as help and refusals list them.
-const POLICIES: &str = "caladan";
+const POLICIES: &str = "caladan, assured";
 
 /// The option `--policy`, after which the name of a policy stands.
 fn policy_word<'a>(alloc: Global) -> Arg<'a>
@@ -312,7 +312,7 @@ fn policy_word<'a>(alloc: Global) -> Arg<'a>
         .long("policy")
         .action(ArgAction::Set)
         .value_name("NAME")
-        .help("The policy to go by: caladan [default: caladan]")
+        .help("The policy to go by: caladan, assured [default: caladan]")
 }
 
 /// What help says of `--explain`.

@@ -13,7 +13,7 @@ use Rattle.cal_policy.specs.declared.board.holders.Holder.TheVariants as holders
 use Rattle.cal_policy.specs.History.{holder_of, left_by, last_placement, placed, cap_made, last_cap}
 use Rattle.cal_policy.specs.Board.Counts.{is_held_for, is_booked_for, held_by, cap_of}
 use Rattle.cal_policy.specs.Laws.{ActionIsOneMore}
-use Rattle.cal_laws.proofs.ListLemmas.Counted.{count_less}
+use Rattle.cal_policy.proofs.ListLemmas.Counted.{count_less}
 use Rattle.cal_machine.proofs.Booleans.{unwrap_if}
 use Rattle.cal_policy.proofs.ListLemmas.Counted.{count_le_one, count_le}
 use Rattle.cal_policy.proofs.PassLemmas.Steady.{granted_holder}

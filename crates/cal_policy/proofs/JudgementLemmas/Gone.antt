@@ -27,7 +27,12 @@ use Rattle.cal_policy.specs.History.{actions_of, looks_of, sent_to, sends, holde
 use Rattle.cal_policy.specs.History.Looks.{last_shown, shown_at, shown_by}
 use Rattle.cal_policy.specs.Judgement.Judging.{judged, IsFitLook}
 use Rattle.cal_policy.specs.Judgement.Gone.{shown_when_gone, can_be_gone, GoneIsKept, GoneFreesItsCores}
-use Rattle.cal_policy.specs.Pass.{pass_of, followed, IsLegal}
+use Rattle.cal_policy.specs.Pass.{followed, IsLegal}
+use Rattle.cal_policy.specs.Assured.Grants.{grants}
+use Rattle.cal_policy.specs.Assured.Hyperthreads as assured
+use Rattle.cal_policy.specs.Policies.{pass_by}
+use Rattle.cal_policy.specs.declared.policy.Policy.{Policy}
+use Rattle.cal_policy.specs.declared.policy.Policy.TheVariants.{Caladan, Assured}
 use Rattle.cal_policy.specs.Pass.Frees.{has_left, shows_left, free_at, frees}
 use Rattle.cal_policy.specs.Pass.Bans.{unbans, bans}
 use Rattle.cal_policy.specs.Pass.Bandwidth.{bandwidth_part}
@@ -36,7 +41,7 @@ use Rattle.cal_policy.specs.Pass.Grants.{grants_of_kind}
 use Rattle.cal_policy.specs.Setting.{Setting, setting, so_far, kept_now}
 use Rattle.cal_policy.proofs.HistoryLemmas.OneMore.{kept_push, holder_push, sent_push, sent_grows}
 use Rattle.cal_policy.proofs.JudgementLemmas.OneByOne.{only_faults_are_refused}
-use Rattle.cal_policy.proofs.PassLemmas.LegalOrderly.{legal_steady}
+use Rattle.cal_policy.proofs.PolicyLemmas.{steady_by}
 use Rattle.std.proofs.lemmas.List.{take_all}
 
 -- what holds of every answer holds of the last one
@@ -199,8 +204,8 @@ freed s c (suc n) lt left = ⊎_elim
     (cases_lt c n)
 
 -- what the first part of a pass has, the pass has
-frees_in_pass : (s : Setting) (a : Action) → Contains (frees s []) a → Contains (pass_of s) a
-frees_in_pass s a is =
+frees_in_pass : (policy : Policy) (s : Setting) (a : Action) → Contains (frees s []) a → Contains (pass_by policy s) a
+frees_in_pass Caladan s a is =
     let freed = followed [] (frees s) in
     let unbanned = followed freed (unbans s) in
     let banned = followed unbanned (bans s) in
@@ -211,6 +216,15 @@ frees_in_pass s a is =
     (Contains-append_left banned (bandwidth_part s banned) a
     (Contains-append_left unbanned (bans s unbanned) a
     (Contains-append_left freed (unbans s freed) a is))))
+frees_in_pass Assured s a is =
+    let freed = followed [] (frees s) in
+    let unbanned = followed freed (assured.unbans s) in
+    let banned = followed unbanned (assured.bans s) in
+    let bounded = followed banned (bandwidth_part s) in
+    Contains-append_left bounded (grants s bounded) a
+    (Contains-append_left banned (bandwidth_part s banned) a
+    (Contains-append_left unbanned (assured.bans s unbanned) a
+    (Contains-append_left freed (assured.unbans s freed) a is)))
 
 left_by_gone : (rec : ℕ → Record) (h : Holder) (p : placements.Placement) → placement_of h ≡ Some p → nat_le p.number (rec p.thread).taken ≡ true → (rec p.thread).running ≡ 0 →
     shows_left rec h ≡ true
@@ -225,13 +239,13 @@ left_by_gone rec (holders.Leaving q cause) p e low off =
     holds q same
 
 pub gone_frees_its_cores : GoneFreesItsCores
-gone_frees_its_cores table h k input accepted legal seen c p lt there own =
+gone_frees_its_cores policy table h k input accepted legal seen c p lt there own =
     let s = setting table h input in
     let x = actions_of h in
     let shown = shown_when_gone h k in
     let kept : kept_now s k ≡ shown.rec = kept_push (looks_of h) input.seen k ∙ rw seen refl in
     let kept_own : kept_now s p.thread ≡ shown.rec = ap (kept_now s) own ∙ kept in
-    let steady = legal_steady table h accepted legal (length h) (omega arith) in
+    let steady = steady_by policy table h accepted legal (length h) (omega arith) in
     let all : take (length h) h ≡ h = take_all (length h) h (omega arith) in
     let grant : last_placement x c ≡ Some p =
     subst (λ (g : List PassEntry). placement_of (holder_of (actions_of g) c) ≡ Some p → last_placement (actions_of g) c ≡ Some p) all (steady.granted c p) there in
@@ -242,4 +256,4 @@ gone_frees_its_cores table h k input accepted legal seen c p lt there own =
     let off : (kept_now s p.thread).running ≡ 0 = ap (λ (r : Record). r.running) kept_own in
     let now : holder_of (so_far s []) c ≡ holder_of x c = ap (λ l. holder_of l c) (append-nil x) in
     let left : shows_left (kept_now s) (holder_of (so_far s []) c) ≡ true = ap (shows_left (kept_now s)) now ∙ left_by_gone (kept_now s) (holder_of x c) p there low off in
-    frees_in_pass s (Free c) (freed s c table.cores lt left)
+    frees_in_pass policy s (Free c) (freed s c table.cores lt left)

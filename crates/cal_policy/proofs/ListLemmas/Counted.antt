@@ -1,5 +1,5 @@
 -- How counts and choices among the numbers below n go with their tests.
-use Rattle.std.proofs.Common.{◌≡◌, ℕ, ◌+◌, ◌<◌, ◌≤◌, ◌⊎◌, Bool, true, false, cond, Option, Some, None, refl, subst, arith, inl, inr, ⊎_elim, zero, suc}
+use Rattle.std.proofs.Common.{◌≡◌, ℕ, ◌+◌, ◌<◌, ◌≤◌, ◌⊎◌, Bool, true, false, cond, Option, Some, None, refl, sym, ap, ◌∙◌, subst, arith, inl, inr, ⊎_elim, zero, suc}
 use Rattle.std.proofs.lemmas.Bool.{cases_eq, cases_lt}
 use Rattle.cal_policy.specs.Pass.Choice.{count_below, best_below, better, highest_below, lowest_below, first_or}
 use Rattle.cal_policy.specs.declared.pass.choice.Candidate.{Candidate}
@@ -13,6 +13,24 @@ one_le true b e = rw (e refl) (omega arith)
 pub count_le : (p q : ℕ → Bool) (n : ℕ) → ((c : ℕ) → c < n → q c ≡ true → p c ≡ true) → count_below q n ≤ count_below p n
 count_le p q zero e = omega arith
 count_le p q (suc n) e = omega (arith, count_le p q n (λ c lt. e c (omega arith)), one_le (q n) (p n) (e n (omega arith)))
+
+pub one_when : (b : Bool) → b ≡ true → 0 < cond b 1 0
+one_when true e = omega arith
+one_when false e = cc
+
+none_when : (b : Bool) → b ≡ false → cond b 1 0 ≤ 0
+none_when true e = cc
+none_when false e = omega arith
+
+-- where one no longer passes, one less is counted
+pub count_less : (p q : ℕ → Bool) (k n : ℕ) → k < n → ((c : ℕ) → c < n → q c ≡ true → p c ≡ true) → p k ≡ true → q k ≡ false → count_below q n + 1 ≤ count_below p n
+count_less p q k zero lt e f g = absurd (omega (arith, lt))
+count_less p q k (suc n) lt e f g = ⊎_elim
+    (λ (l : k < n). omega (arith, count_less p q k n l (λ c low. e c (omega (arith, low))) f g, one_le (q n) (p n) (e n (omega arith))))
+    (λ (h : n ≤ k).
+    let same : k ≡ n = omega (arith, lt, h) in
+    omega (arith, count_le p q n (λ c low. e c (omega (arith, low))), one_when (p n) (ap p (sym same) ∙ f), none_when (q n) (ap q (sym same) ∙ g)))
+    (cases_lt k n)
 
 -- where one more may pass, at most one more is counted
 one_step : (p q : ℕ → Bool) (core n : ℕ) → ((c : ℕ) → c < suc n → (c ≡ core → ⊥) → q c ≡ true → p c ≡ true) → count_below q n ≤ count_below p n + 1 →

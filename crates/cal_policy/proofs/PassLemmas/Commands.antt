@@ -1,11 +1,8 @@
--- What the actions of the last pass of a legal history send, by a board that agrees with the
--- history.
+-- What the actions of the last pass of a history send, by a board that agrees with the history.
 use Rattle.std.proofs.Common.{◌≡◌, ℕ, ◌<◌, eqb, Bool, true, false, cond, List, [], ◌∷◌, ◌++◌, length, take, Option, Some, None, refl, sym, ap, subst, ◌∙◌, arith}
 use Rattle.std.proofs.lemmas.Bool.{eqb-true, eq-eqb}
 use Rattle.std.specs.List.{slice_get}
 use Rattle.std.specs.Option.{option_map}
-use Rattle.std.proofs.Math.Seq.{take-append_seam}
-use Rattle.cal_machine.proofs.Last.{slice_get-last}
 use Rattle.cal_machine.specs.Table.{Table, IsTable}
 use Rattle.cal_machine.specs.TableTasks.{threads_of_table}
 use Rattle.cal_machine.specs.declared.command.Command.{Command}
@@ -18,41 +15,33 @@ use Rattle.cal_policy.specs.declared.board.holders.Placement as placements
 use Rattle.cal_policy.specs.declared.board.Board.{Board}
 use Rattle.cal_policy.specs.History.{actions_of, last_placement, last_thread, command_to, addressed_to, sends}
 use Rattle.cal_policy.specs.Setting.{setting_of, so_far}
-use Rattle.cal_policy.specs.Pass.{IsLegal}
+use Rattle.cal_policy.specs.Pass.Made.{EachAfter}
 use Rattle.cal_policy.specs.Board.{NamesTable, granted_in, core_changed, kept_placement}
 use Rattle.cal_policy.specs.State.{Agrees}
 use Rattle.cal_policy.specs.Book.{IsSentBy}
-use Rattle.cal_policy.specs.Pass.Steady.{IsSound}
 use Rattle.cal_policy.proofs.ListLemmas.EachAfter.{each_at}
-use Rattle.cal_policy.proofs.PassLemmas.Legality.{legal_last}
-use Rattle.cal_policy.proofs.PassLemmas.LegalOrderly.{AllSound, legal_sound}
+use Rattle.cal_policy.proofs.PassLemmas.LegalOrderly.{FitsSteady}
 use Rattle.cal_policy.proofs.HistoryLemmas.OneMore.{last_thread_placement}
-use Rattle.cal_policy.proofs.PassLemmas.RevokedStay.{FreesFirst, pass_frees_first, revocable, revoked_stays}
+use Rattle.cal_policy.proofs.PassLemmas.RevokedStay.{FreesFirst, revocable, revoked_stays}
 use Rattle.cal_policy.proofs.BoardLemmas.StateKept.{names_of_fit}
 use Rattle.cal_policy.proofs.BoardLemmas.Replayed.{actions_push}
 
--- each action of the last pass is sound at its place
-pub last_sound : (table : Table) (history : List PassEntry) (entry : PassEntry) → IsTable table → IsLegal table (history ++ entry ∷ []) →
-    AllSound (setting_of table history entry) [] entry.actions
-last_sound table history entry ok legal =
-    subst (λ (before : List PassEntry). AllSound (setting_of table before entry) [] entry.actions) (take-append_seam history (entry ∷ []))
-    (legal_sound table (history ++ entry ∷ []) ok legal (length history) entry (slice_get-last history entry))
+-- what a pass of a legal history is, whatever its policy: each of its actions fits a steady state at
+-- its place, and it frees cores first
+pub record IsFitPass (table : Table) (history : List PassEntry) (entry : PassEntry) : Type 0 where
+  pub each : EachAfter (FitsSteady (setting_of table history entry)) [] entry.actions
+  pub first : FreesFirst entry.actions
 
-sound_at : (table : Table) (history : List PassEntry) (entry : PassEntry) (i : ℕ) (action : Action) → IsTable table → IsLegal table (history ++ entry ∷ []) →
-    slice_get entry.actions i ≡ Some action → IsSound (setting_of table history entry) (take i entry.actions) action
-sound_at table history entry i action ok legal at =
-    each_at (IsSound (setting_of table history entry)) [] entry.actions i action (last_sound table history entry ok legal).each at
-
-frees_come_first : (table : Table) (history : List PassEntry) (entry : PassEntry) → IsLegal table (history ++ entry ∷ []) → FreesFirst entry.actions
-frees_come_first table history entry legal =
-    subst FreesFirst (sym (legal_last table history entry legal).actions) (pass_frees_first (setting_of table history entry))
+fits_at : (table : Table) (history : List PassEntry) (entry : PassEntry) (i : ℕ) (action : Action) → IsFitPass table history entry →
+    slice_get entry.actions i ≡ Some action → FitsSteady (setting_of table history entry) (take i entry.actions) action
+fits_at table history entry i action pass at = each_at (FitsSteady (setting_of table history entry)) [] entry.actions i action pass.each at
 
 -- a grant sends Run to its thread
-grant_sends : (table : Table) (history : List PassEntry) (entry : PassEntry) (i core thread class : ℕ) → IsTable table → IsLegal table (history ++ entry ∷ []) →
+grant_sends : (table : Table) (history : List PassEntry) (entry : PassEntry) (i core thread class : ℕ) → IsTable table → IsFitPass table history entry →
     slice_get entry.actions i ≡ Some (Grant core thread class) → IsSentBy table (actions_of history ++ take i entry.actions) (Grant core thread class) (Some (thread, Run core))
-grant_sends table history entry i core thread class ok legal at =
+grant_sends table history entry i core thread class ok pass at =
     let x = actions_of history ++ take i entry.actions in
-    let names : NamesTable table (Grant core thread class) = names_of_fit table x (Grant core thread class) ok (sound_at table history entry i (Grant core thread class) ok legal at).fits in
+    let names : NamesTable table (Grant core thread class) = names_of_fit table x (Grant core thread class) ok (fits_at table history entry i (Grant core thread class) pass at).fits in
     record { exact = λ k. refl; thread = names.1; core = names.0 }
 
 -- the last grant of the core c before the actions x went to a thread of the table, and the board
@@ -64,18 +53,18 @@ record IsFrom (b : Board) (table : Table) (x : List Action) (core : ℕ) : Type 
   last : last_thread x core ≡ Some thread
 
 revoked_from : (b : Board) (table : Table) (history : List PassEntry) (entry : PassEntry) (i core : ℕ) (cause : Cause) → IsTable table →
-    IsLegal table (history ++ entry ∷ []) → Agrees b (actions_of (history ++ entry ∷ [])) → slice_get entry.actions i ≡ Some (Revoke core cause) →
+    IsFitPass table history entry → Agrees b (actions_of (history ++ entry ∷ [])) → slice_get entry.actions i ≡ Some (Revoke core cause) →
     IsFrom b table (actions_of history ++ take i entry.actions) core
-revoked_from b table history entry i core cause ok legal agrees at =
+revoked_from b table history entry i core cause ok pass agrees at =
     let s = setting_of table history entry in
     let x = actions_of history ++ take i entry.actions in
-    let sound = sound_at table history entry i (Revoke core cause) ok legal at in
+    let sound = fits_at table history entry i (Revoke core cause) pass at in
     let it = revocable s (take i entry.actions) core cause sound in
     let p = it.0 in
     let low : core < table.cores = names_of_fit table x (Revoke core cause) ok sound.fits in
     let few : core < 128 = omega (arith, low, ok.machine.most) in
     let stays : last_placement (so_far s entry.actions) core ≡ last_placement x core =
-    revoked_stays s [] entry.actions i core cause (last_sound table history entry ok legal).each (frees_come_first table history entry legal) at in
+    revoked_stays s [] entry.actions i core cause pass.each pass.first at in
     let ends : last_placement (actions_of (history ++ entry ∷ [])) core ≡ Some p = ap (λ l. last_placement l core) (actions_push history entry) ∙ stays ∙ it.1.granted in
     let granted : granted_in b.holding core ≡ Some (kept_placement p) = agrees.holding.granted core few ∙ ap (λ l. option_map kept_placement l) ends in record {
       thread = p.thread;
@@ -113,22 +102,22 @@ nothing_sent table x action granted sent other none says =
 
 -- an action of the last pass sends what is told by the thread that the board has for its core
 pub action_sends : (b : Board) (table : Table) (history : List PassEntry) (entry : PassEntry) (i : ℕ) (action : Action) (granted : Option ℕ) (sent : Option (ℕ × Command)) → IsTable table →
-    IsLegal table (history ++ entry ∷ []) → Agrees b (actions_of (history ++ entry ∷ [])) → slice_get entry.actions i ≡ Some action →
+    IsFitPass table history entry → Agrees b (actions_of (history ++ entry ∷ [])) → slice_get entry.actions i ≡ Some action →
     ((c : ℕ) → core_changed action ≡ Some c → granted ≡ option_map (λ (p : placements.Placement). p.thread) (granted_in b.holding c)) → SaysSent action granted sent →
     IsSentBy table (actions_of history ++ take i entry.actions) action sent
-action_sends b table history entry i (Grant core thread class) granted sent ok legal agrees at has says =
+action_sends b table history entry i (Grant core thread class) granted sent ok pass agrees at has says =
     let x = actions_of history ++ take i entry.actions in
     let is : sent ≡ Some (thread, Run core) = same_sent sent (Some (thread, Run core)) (says x (λ c cause e. cc)) in
-    rw is (grant_sends table history entry i core thread class ok legal at)
-action_sends b table history entry i (Revoke core cause) granted sent ok legal agrees at has says =
+    rw is (grant_sends table history entry i core thread class ok pass at)
+action_sends b table history entry i (Revoke core cause) granted sent ok pass agrees at has says =
     let x = actions_of history ++ take i entry.actions in
-    let from = revoked_from b table history entry i core cause ok legal agrees at in
+    let from = revoked_from b table history entry i core cause ok pass agrees at in
     let of : granted ≡ last_thread x core = has core refl ∙ from.kept ∙ sym from.last in
     let to : (k : ℕ) → sends k x (Revoke core cause) ≡ command_to k (Some from.thread) Park = λ k. ap (λ l. command_to k l Park) from.last in
     let is : sent ≡ Some (from.thread, Park) =
     same_sent sent (Some (from.thread, Park)) (λ k. says x (λ c why e. let same : core ≡ c = cc in of ∙ ap (last_thread x) same) k ∙ to k) in
     rw is (record { exact = λ k. sym (to k); thread = from.low; core = tt })
-action_sends b table history entry i (Free core) granted sent ok legal agrees at has says = nothing_sent table _ (Free core) granted sent (λ c cause e. cc) (λ k. refl) says
-action_sends b table history entry i (Unban core) granted sent ok legal agrees at has says = nothing_sent table _ (Unban core) granted sent (λ c cause e. cc) (λ k. refl) says
-action_sends b table history entry i (Ban core thread started) granted sent ok legal agrees at has says = nothing_sent table _ (Ban core thread started) granted sent (λ c cause e. cc) (λ k. refl) says
-action_sends b table history entry i (Cap task cap) granted sent ok legal agrees at has says = nothing_sent table _ (Cap task cap) granted sent (λ c cause e. cc) (λ k. refl) says
+action_sends b table history entry i (Free core) granted sent ok pass agrees at has says = nothing_sent table _ (Free core) granted sent (λ c cause e. cc) (λ k. refl) says
+action_sends b table history entry i (Unban core) granted sent ok pass agrees at has says = nothing_sent table _ (Unban core) granted sent (λ c cause e. cc) (λ k. refl) says
+action_sends b table history entry i (Ban core thread started) granted sent ok pass agrees at has says = nothing_sent table _ (Ban core thread started) granted sent (λ c cause e. cc) (λ k. refl) says
+action_sends b table history entry i (Cap task cap) granted sent ok pass agrees at has says = nothing_sent table _ (Cap task cap) granted sent (λ c cause e. cc) (λ k. refl) says

@@ -110,7 +110,7 @@ revoke_fits table x core cause lt names held =
     and_from (ltb core table.cores && names_table table cause) (is_held (holder_of x core)) (and_from (ltb core table.cores) (names_table table cause) (lt-ltb core table.cores lt) names) held
 
 -- what a ban or a cap just before leaves as it was
-after_ban : (s : Setting) (acts earlier : List Action) (core thread started c : ℕ) → acts ≡ earlier ++ Ban core thread started ∷ [] →
+pub after_ban : (s : Setting) (acts earlier : List Action) (core thread started c : ℕ) → acts ≡ earlier ++ Ban core thread started ∷ [] →
     holder_of (so_far s acts) c ≡ holder_of (so_far s earlier) c
 after_ban s acts earlier core thread started c e =
     ap (λ l. holder_of (so_far s l) c) e ∙ ap (λ l. holder_of l c) (so_far_push s earlier (Ban core thread started)) ∙ holder_push (so_far s earlier) (Ban core thread started) c
@@ -202,7 +202,7 @@ cut_fits s acts t cap steady m =
     let same : held_by s.table x m.victim.number ≡ held_by s.table x t = ap (held_by s.table x) (sym m.number) in
     cap_fits_by s.table x t cap lt (omega (arith, m.below, same, held_le_booked s.table x t, steady.limits t lt))
 
-below_true : (a b : ℕ) → ltb a b ≡ true → a < b
+pub below_true : (a b : ℕ) → ltb a b ≡ true → a < b
 below_true a b e = grind (arith, nat_tests)
 
 rise_fits : (s : Setting) (acts : List Action) (t cap : ℕ) → IsCapRise s acts t cap → fits_state s.table (so_far s acts) (Cap t cap) ≡ true
@@ -283,7 +283,7 @@ made_fits s acts (Cap task cap) table steady (inl m) = cut_fits s acts task cap 
 made_fits s acts (Cap task cap) table steady (inr m) = rise_fits s acts task cap m
 made_fits s acts (Grant core thread class) table steady m = grant_fits s acts core thread class m
 
-revoke_steady : (table : Table) (x : List Action) (core : ℕ) (cause : Cause) → IsSteady table x → fits_state table x (Revoke core cause) ≡ true → IsSteady table (x ++ Revoke core cause ∷ [])
+pub revoke_steady : (table : Table) (x : List Action) (core : ℕ) (cause : Cause) → IsSteady table x → fits_state table x (Revoke core cause) ≡ true → IsSteady table (x ++ Revoke core cause ∷ [])
 revoke_steady table x core cause steady fits =
     let both = and_parts (ltb core table.cores && names_table table cause) (is_held (holder_of x core)) fits in
     Steady_shrinks table x (x ++ Revoke core cause ∷ []) (Shrinks_revoke table x core cause steady both.1) steady

@@ -21,7 +21,7 @@ use Rattle.cal_policy.proofs.PassLemmas.Apart.{frees_apart}
 use Rattle.cal_policy.proofs.PassLemmas.Pairs.{so_far_more}
 use Rattle.cal_policy.proofs.BoardLemmas.Replayed.{actions_push, looks_push}
 
-follows : (part : List Action → List Action) (acts now next : List Action) → now ≡ acts → next ≡ now ++ part now → next ≡ followed acts part
+pub follows : (part : List Action → List Action) (acts now next : List Action) → now ≡ acts → next ≡ now ++ part now → next ≡ followed acts part
 follows part acts now next e f = f ∙ ap (λ o. o ++ part o) e
 
 -- the parts, end to end, are the pass

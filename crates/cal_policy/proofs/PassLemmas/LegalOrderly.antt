@@ -1,5 +1,5 @@
 -- A legal history is orderly, and steady at each point.
-use Rattle.std.proofs.Common.{◌≡◌, ℕ, ◌+◌, ◌<◌, ◌≤◌, zero, suc, List, [], ◌∷◌, ◌++◌, length, take, get_or, Some, sym, ap, ◌∙◌, arith, subst, append_assoc, ⊎_elim}
+use Rattle.std.proofs.Common.{true, ◌≡◌, ℕ, ◌+◌, ◌<◌, ◌≤◌, zero, suc, List, [], ◌∷◌, ◌++◌, length, take, get_or, Some, sym, ap, ◌∙◌, arith, subst, append_assoc, ⊎_elim}
 use Rattle.std.specs.List.{slice_get}
 use Rattle.std.proofs.lemmas.List.{take_more, append-nil}
 use Rattle.std.proofs.lemmas.Grind.{flat_map-append}
@@ -9,7 +9,7 @@ use Rattle.cal_policy.specs.declared.history.action.Action.{Action}
 use Rattle.cal_policy.specs.declared.history.entry.PassEntry.{PassEntry}
 use Rattle.cal_policy.specs.History.{actions_of}
 use Rattle.cal_policy.specs.Setting.{Setting, setting_of, so_far}
-use Rattle.cal_policy.specs.Judgement.Orderly.{IsOrderlyEntry, IsOrderly}
+use Rattle.cal_policy.specs.Judgement.Orderly.{fits_state, IsOrderlyEntry, IsOrderly}
 use Rattle.cal_policy.specs.Pass.{pass_of, IsPass, IsLegal}
 use Rattle.cal_policy.specs.Pass.Made.{EachAfter, IsMade}
 use Rattle.cal_policy.specs.Pass.Steady.{IsSteady, IsSound}
@@ -17,6 +17,16 @@ use Rattle.cal_policy.proofs.ListLemmas.EachAfter.{each_at}
 use Rattle.cal_policy.proofs.PassLemmas.Made.{pass_made}
 use Rattle.cal_policy.proofs.PassLemmas.Steady.{Steady_start}
 use Rattle.cal_policy.proofs.PassLemmas.Fits.{so_far_push, made_fits, made_steady}
+
+-- at a place the state is steady, and the action fits it
+pub record FitsSteady (s : Setting) (acts : List Action) (a : Action) : Type 0 where
+  pub steady : IsSteady s.table (so_far s acts)
+  pub fits : fits_state s.table (so_far s acts) a ≡ true
+
+-- so does each that is sound
+pub sound_fits : (s : Setting) (acts xs : List Action) → EachAfter (IsSound s) acts xs → EachAfter (FitsSteady s) acts xs
+sound_fits s acts [] e = tt
+sound_fits s acts (a ∷ xs) e = (record { steady = e.0.steady; fits = e.0.fits }, sound_fits s (acts ++ a ∷ []) xs e.1)
 
 -- each member of a list is so, and the state after the list is steady
 pub record AllSound (s : Setting) (acts xs : List Action) : Type 0 where
@@ -35,7 +45,7 @@ all_sound s acts (a ∷ xs) table steady m =
       after = rw (append_assoc acts (a ∷ []) xs) at rest.after;
     }
 
-start_steady : (table : Table) (before : List PassEntry) (entry : PassEntry) → IsSteady table (actions_of before) → IsSteady table (so_far (setting_of table before entry) [])
+pub start_steady : (table : Table) (before : List PassEntry) (entry : PassEntry) → IsSteady table (actions_of before) → IsSteady table (so_far (setting_of table before entry) [])
 start_steady table before entry steady = rw (append-nil (actions_of before)) steady
 
 pub pass_sound : (table : Table) (before : List PassEntry) (entry : PassEntry) → IsTable table → IsSteady table (actions_of before) → IsPass table before entry →
@@ -44,7 +54,7 @@ pass_sound table before entry ok steady pass =
     let P : List Action → Type 0 = λ xs. AllSound (setting_of table before entry) [] xs in
     subst P (sym pass.actions) (all_sound (setting_of table before entry) [] (pass_of (setting_of table before entry)) ok (start_steady table before entry steady) (pass_made (setting_of table before entry)))
 
-actions_more : (history : List PassEntry) (p : ℕ) (entry : PassEntry) → slice_get history p ≡ Some entry → p < length history → actions_of (take (suc p) history) ≡ actions_of (take p history) ++ entry.actions
+pub actions_more : (history : List PassEntry) (p : ℕ) (entry : PassEntry) → slice_get history p ≡ Some entry → p < length history → actions_of (take (suc p) history) ≡ actions_of (take p history) ++ entry.actions
 actions_more history p entry e lt =
     let one : suc p ≡ p + 1 = omega arith in
     let same : get_or history p entry ≡ entry = get_or_from_slice_get history p entry entry e in

@@ -27,7 +27,7 @@ use Rattle.cal_policy.specs.Board.Counts.{is_free, is_held, is_over}
 use Rattle.cal_machine.specs.Machine.{sibling_of}
 use Rattle.cal_policy.specs.Setting.{Setting, so_far, kept_now}
 use Rattle.cal_policy.specs.Pass.Frees.{free_at, has_left, shows_left}
-use Rattle.cal_policy.specs.Pass.Bans.{unban_at, unban_for, bans_at, ban_for, may_ban_beside, may_be_emptied, too_long_on}
+use Rattle.cal_policy.specs.Pass.Bans.{unban_at, unban_for, bans_at, ban_for, ban_due, may_ban_beside, may_be_emptied, too_long_on}
 use Rattle.cal_policy.specs.Board.{holder_in, kept_holder, placement_of}
 use Rattle.cal_policy.specs.State.{IsReady, Stands}
 use Rattle.cal_policy.specs.Board.OpenCores.{is_alone_by}
@@ -75,7 +75,7 @@ none_banned s c (Some ban) e = cc
 unban_not_banned : (b : Board) (s : Setting) (acts : List Action) → Stands b s acts → (c : ℕ) → c < 128 → has b.sets.banned c ≡ false → unban_at s acts c ≡ []
 unban_not_banned b s acts st c lt e = none_banned s c (ban_of (so_far s acts) c) (sym (st.agrees.banned.banned c lt) ∙ e)
 
-two_empty : (f : List Action → ℕ → List Action) (acts : List Action) (n m : ℕ) → f acts n ≡ [] → f acts m ≡ [] → f acts n ++ f (acts ++ f acts n) m ≡ []
+pub two_empty : (f : List Action → ℕ → List Action) (acts : List Action) (n m : ℕ) → f acts n ≡ [] → f acts m ≡ [] → f acts n ++ f (acts ++ f acts n) m ≡ []
 two_empty f acts n m e g = rw (e, append-nil acts) g
 
 -- nor on a pair of them
@@ -94,11 +94,15 @@ either_none : {X : Type 0} (b : Bool) (o : Option X) → o ≡ None → cond b o
 either_none true o e = e
 either_none false o e = refl
 
--- so a core that is not taken bans nothing
+-- so of a core that is not taken no ban is due, and it bans nothing
+due_not_taken : (b : Board) (s : Setting) (acts : List Action) → Stands b s acts → Sorts (holder_in b.holding) b.sets →
+    (c : ℕ) → c < 128 → has b.sets.taken c ≡ false → ban_due s (so_far s acts) c ≡ None
+due_not_taken b s acts st sorts c lt e =
+    either_none (may_ban_beside s (so_far s acts) c) _ (none_too_long s c (holder_of (so_far s acts) c) (sym (in_taken b s acts st sorts c lt) ∙ e))
+
 ban_not_taken : (b : Board) (s : Setting) (acts : List Action) → Stands b s acts → Sorts (holder_in b.holding) b.sets →
     (c : ℕ) → c < 128 → has b.sets.taken c ≡ false → bans_at s acts c ≡ []
-ban_not_taken b s acts st sorts c lt e = ap (ban_for s (so_far s acts) c)
-    (either_none (may_ban_beside s (so_far s acts) c) _ (none_too_long s c (holder_of (so_far s acts) c) (sym (in_taken b s acts st sorts c lt) ∙ e)))
+ban_not_taken b s acts st sorts c lt e = ap (ban_for s (so_far s acts) c) (due_not_taken b s acts st sorts c lt e)
 
 -- nor does a pair of them
 ban_pair_not_taken : (b : Board) (s : Setting) (acts : List Action) → Stands b s acts → Sorts (holder_in b.holding) b.sets →
@@ -147,16 +151,25 @@ alone_there : (b : Board) (s : Setting) (acts : List Action) → Stands b s acts
 alone_there b s acts st c lt beside =
     rw (held_there b s acts st c lt, held_there b s acts st (sibling_of c) beside, st.agrees.banned.banned c lt, st.agrees.banned.banned (sibling_of c) beside) refl
 
-ban_not_alone : (b : Board) (s : Setting) (acts : List Action) → Stands b s acts → IsReady s.table b → NoneOver s.table b →
-    (c : ℕ) → c < 128 → sibling_of c < 128 → has b.open_cores.alone c ≡ false → bans_at s acts c ≡ []
-ban_not_alone b s acts st ready none c lt beside e =
+due_not_alone : (b : Board) (s : Setting) (acts : List Action) → Stands b s acts → IsReady s.table b → NoneOver s.table b →
+    (c : ℕ) → c < 128 → sibling_of c < 128 → has b.open_cores.alone c ≡ false → ban_due s (so_far s acts) c ≡ None
+due_not_alone b s acts st ready none c lt beside e =
     let x = so_far s acts in
     let h = holder_of x (sibling_of c) in
     let there : IfSome (placement_of (kept_holder h)) (λ p. p.thread < threads_of_table s.table) =
     rw (← st.agrees.holding.holders (sibling_of c) beside) (ready.own.holding.holders (sibling_of c)) in
-    ap (ban_for s x c)
-    (none_alone s x c (holder_of x c) h (is_some (ban_of x c)) (is_some (ban_of x (sibling_of c)))
-    (sym (alone_there b s acts st c lt beside) ∙ sym (ready.opens.alone c lt) ∙ e) (owner_not_over s x h there (none x st.agrees)))
+    none_alone s x c (holder_of x c) h (is_some (ban_of x c)) (is_some (ban_of x (sibling_of c)))
+    (sym (alone_there b s acts st c lt beside) ∙ sym (ready.opens.alone c lt) ∙ e) (owner_not_over s x h there (none x st.agrees))
+
+ban_not_alone : (b : Board) (s : Setting) (acts : List Action) → Stands b s acts → IsReady s.table b → NoneOver s.table b →
+    (c : ℕ) → c < 128 → sibling_of c < 128 → has b.open_cores.alone c ≡ false → bans_at s acts c ≡ []
+ban_not_alone b s acts st ready none c lt beside e = ap (ban_for s (so_far s acts) c) (due_not_alone b s acts st ready none c lt beside e)
+
+-- no ban is due for a core that may not give rise to one
+pub due_past : (over : Bool) (b : Board) (s : Setting) (acts : List Action) → Stands b s acts → IsReady s.table b → (over ≡ false → NoneOver s.table b) →
+    (c : ℕ) → c < 128 → sibling_of c < 128 → has (cores_to_ban b over) c ≡ false → ban_due s (so_far s acts) c ≡ None
+due_past true b s acts st ready none c lt beside e = due_not_taken b s acts st ready.sets c lt e
+due_past false b s acts st ready none c lt beside e = due_not_alone b s acts st ready (none refl) c lt beside e
 
 -- nor does a pair of them
 ban_pair_not_alone : (b : Board) (s : Setting) (acts : List Action) → Stands b s acts → IsReady s.table b → NoneOver s.table b →

@@ -110,7 +110,7 @@ after_ban x d thread started b cause =
     rw (← append_assoc x (Ban d thread started ∷ []) (cond b (Revoke d cause ∷ []) []))
     (ap is_some (after_revocation (x ++ Ban d thread started ∷ []) d b cause ∙ said))
 
-after_ban_for : (s : Setting) (x : List Action) (c : ℕ) (due : Option ℕ) (a : Action) (rest : List Action) → a ∷ rest ≡ ban_for s x c due →
+pub after_ban_for : (s : Setting) (x : List Action) (c : ℕ) (due : Option ℕ) (a : Action) (rest : List Action) → a ∷ rest ≡ ban_for s x c due →
     is_banned (x ++ ban_for s x c due) (sibling_of c) ≡ true
 after_ban_for s x c None a rest e = cc
 after_ban_for s x c (Some thread) a rest e = after_ban x (sibling_of c) thread (kept_now s thread).started (is_held (holder_of x (sibling_of c))) (causes.Ban c)
@@ -129,12 +129,17 @@ ban_lower s acts n a rest e =
     ∙ after_ban_for s (so_far s acts) (2 * n) (ban_due s (so_far s acts) (2 * n)) a rest e in
     e ∙ sym (append-nil (bans_at s acts (2 * n))) ∙ ap (λ l. bans_at s acts (2 * n) ++ l) (sym (banned_bans_nothing s (acts ++ bans_at s acts (2 * n)) (2 * n + 1) banned))
 
--- a ban by what the board says
-pub ban_parts : (s : Setting) (x : List Action) (c thread beside : ℕ) (rec : Record) (l : List Action) →
+-- a ban by what the board says, where this is due
+pub ban_parts_of : (s : Setting) (x : List Action) (c thread beside : ℕ) (rec : Record) (l : List Action) (due : Option ℕ) →
     beside ≡ sibling_of c → rec ≡ kept_now s thread → l ≡ cond (is_held (holder_of x beside)) (Revoke beside (causes.Ban c) ∷ []) [] →
-    Some thread ≡ ban_due s x c → Ban beside thread rec.started ∷ l ≡ ban_for s x c (ban_due s x c)
-ban_parts s x c thread beside rec l e1 e2 e3 e4 =
+    Some thread ≡ due → Ban beside thread rec.started ∷ l ≡ ban_for s x c due
+ban_parts_of s x c thread beside rec l due e1 e2 e3 e4 =
     ap (λ m. Ban beside thread rec.started ∷ m) e3
     ∙ ap (λ (r : Record). Ban beside thread r.started ∷ cond (is_held (holder_of x beside)) (Revoke beside (causes.Ban c) ∷ []) []) e2
     ∙ ap (λ b. Ban b thread (kept_now s thread).started ∷ cond (is_held (holder_of x b)) (Revoke b (causes.Ban c) ∷ []) []) e1
     ∙ ap (ban_for s x c) e4
+
+pub ban_parts : (s : Setting) (x : List Action) (c thread beside : ℕ) (rec : Record) (l : List Action) →
+    beside ≡ sibling_of c → rec ≡ kept_now s thread → l ≡ cond (is_held (holder_of x beside)) (Revoke beside (causes.Ban c) ∷ []) [] →
+    Some thread ≡ ban_due s x c → Ban beside thread rec.started ∷ l ≡ ban_for s x c (ban_due s x c)
+ban_parts s x c thread beside rec l e1 e2 e3 e4 = ban_parts_of s x c thread beside rec l (ban_due s x c) e1 e2 e3 e4

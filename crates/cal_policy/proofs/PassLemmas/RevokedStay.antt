@@ -32,8 +32,8 @@ use Rattle.cal_policy.specs.Pass.{pass_of}
 use Rattle.cal_policy.specs.Board.{placement_of}
 use Rattle.cal_policy.specs.Pass.Made.{EachAfter}
 use Rattle.cal_policy.specs.Judgement.Orderly.{fits_state}
-use Rattle.cal_policy.specs.Pass.Steady.{IsSound}
 use Rattle.cal_policy.proofs.PassLemmas.Fits.{so_far_push}
+use Rattle.cal_policy.proofs.PassLemmas.LegalOrderly.{FitsSteady}
 use Rattle.cal_policy.proofs.HistoryLemmas.OneMore.{holder_push, last_placement_push}
 use Rattle.std.proofs.lemmas.Bool.{and_parts}
 
@@ -46,12 +46,12 @@ every_append : (P : Action → Type 0) (xs ys : List Action) → Every P xs → 
 every_append P [] ys e f = f
 every_append P (a ∷ xs) ys e f = (e.0, every_append P xs ys e.1 f)
 
-every_in_turn : (P : Action → Type 0) (f : List Action → ℕ → List Action) (before : List Action) (n : ℕ) → ((acts : List Action) (k : ℕ) → Every P (f acts k)) →
+pub every_in_turn : (P : Action → Type 0) (f : List Action → ℕ → List Action) (before : List Action) (n : ℕ) → ((acts : List Action) (k : ℕ) → Every P (f acts k)) →
     Every P (in_turn f before n)
 every_in_turn P f before zero e = tt
 every_in_turn P f before (suc n) e = every_append P (in_turn f before n) (f (before ++ in_turn f before n) n) (every_in_turn P f before n e) (e (before ++ in_turn f before n) n)
 
-every_if : (P : Action → Type 0) (b : Bool) (xs ys : List Action) → Every P xs → Every P ys → Every P (cond b xs ys)
+pub every_if : (P : Action → Type 0) (b : Bool) (xs ys : List Action) → Every P xs → Every P ys → Every P (cond b xs ys)
 every_if P true xs ys e f = e
 every_if P false xs ys e f = f
 
@@ -114,16 +114,16 @@ all_ends (Revoke core cause) rest f = absurd f
 all_ends (Cap task cap) rest f = absurd f
 all_ends (Grant core thread class) rest f = absurd f
 
-all_first : (xs : List Action) → Every Frees xs → FreesFirst xs
+pub all_first : (xs : List Action) → Every Frees xs → FreesFirst xs
 all_first [] f = tt
 all_first (a ∷ xs) f = (all_ends a xs f.0, all_first xs f.1)
 
-then_first : (xs ys : List Action) → FreesFirst xs → Every FreesNone ys → FreesFirst (xs ++ ys)
+pub then_first : (xs ys : List Action) → FreesFirst xs → Every FreesNone ys → FreesFirst (xs ++ ys)
 then_first [] ys f g = none_first ys g
 then_first (a ∷ xs) ys f g = (ends_more a xs ys f.0 g, then_first xs ys f.1 g)
 
 -- the parts of a pass
-frees_all : (s : Setting) (acts : List Action) → Every Frees (frees s acts)
+pub frees_all : (s : Setting) (acts : List Action) → Every Frees (frees s acts)
 frees_all s acts = every_in_turn Frees (free_at s) acts s.table.cores (λ now c. every_if Frees (shows_left (kept_now s) (holder_of (so_far s now) c)) (Free c ∷ []) [] (tt, tt) tt)
 
 unban_none : (s : Setting) (c : ℕ) (o : Option BannedFor) → Every FreesNone (unban_for s c o)
@@ -133,7 +133,7 @@ unban_none s c (Some ban) = every_if FreesNone (still_shows (kept_now s ban.thre
 unbans_none : (s : Setting) (acts : List Action) → Every FreesNone (unbans s acts)
 unbans_none s acts = every_in_turn FreesNone (unban_at s) acts s.table.cores (λ now c. unban_none s c (ban_of (so_far s now) c))
 
-ban_none : (s : Setting) (x : List Action) (c : ℕ) (o : Option ℕ) → Every FreesNone (ban_for s x c o)
+pub ban_none : (s : Setting) (x : List Action) (c : ℕ) (o : Option ℕ) → Every FreesNone (ban_for s x c o)
 ban_none s x c None = tt
 ban_none s x c (Some thread) = (tt, every_if FreesNone (is_held (holder_of x (sibling_of c))) (Revoke (sibling_of c) (causes.Ban c) ∷ []) [] (tt, tt) tt)
 
@@ -152,13 +152,13 @@ rise_none : (s : Setting) (x : List Action) (o : Option ℕ) → Every FreesNone
 rise_none s x None = tt
 rise_none s x (Some t) = (tt, tt)
 
-bandwidth_none : (s : Setting) (acts : List Action) → Every FreesNone (bandwidth_part s acts)
+pub bandwidth_none : (s : Setting) (acts : List Action) → Every FreesNone (bandwidth_part s acts)
 bandwidth_none s acts =
     let x = so_far s acts in
     every_if FreesNone (nat_lt s.table.bandwidth_limit s.input.bandwidth) (cut_of s x (victim_of s x)) (rise_of s x (lowest_below (is_capped s x) (length s.table.tasks)))
     (cut_none s x (victim_of s x)) (rise_none s x (lowest_below (is_capped s x) (length s.table.tasks)))
 
-chosen_none : (s : Setting) (t : ℕ) (thread : Option (Candidate ℕ)) (core : Option (Candidate CoreClass)) → Every FreesNone (grant_of s t thread core)
+pub chosen_none : (s : Setting) (t : ℕ) (thread : Option (Candidate ℕ)) (core : Option (Candidate CoreClass)) → Every FreesNone (grant_of s t thread core)
 chosen_none s t None core = tt
 chosen_none s t (Some thread) None = tt
 chosen_none s t (Some thread) (Some core) =
@@ -210,7 +210,7 @@ left_step table x (Grant core thread class) c p cause fits none e = go (eqb core
         let bad : true ≡ false = sym free ∙ other in cc
     go false is = (holder_push x (Grant core thread class) c ∙ rw is e, last_placement_push x (Grant core thread class) c ∙ rw is refl)
 
-left_stays : (s : Setting) (acts xs : List Action) (c : ℕ) (p : placements.Placement) (cause : Cause) → EachAfter (IsSound s) acts xs → Every FreesNone xs →
+left_stays : (s : Setting) (acts xs : List Action) (c : ℕ) (p : placements.Placement) (cause : Cause) → EachAfter (FitsSteady s) acts xs → Every FreesNone xs →
     holder_of (so_far s acts) c ≡ holders.Leaving p cause → last_placement (so_far s (acts ++ xs)) c ≡ last_placement (so_far s acts) c
 left_stays s acts [] c p cause sound none e = rw append-nil refl
 left_stays s acts (a ∷ xs) c p cause sound none e =
@@ -230,7 +230,7 @@ pub record IsRevocable (table : Table) (x : List Action) (c : ℕ) (p : placemen
   pub granted : last_placement x c ≡ Some p
   pub thread : p.thread < threads_of_table table
 
-pub revocable : (s : Setting) (acts : List Action) (c : ℕ) (cause : Cause) → IsSound s acts (Revoke c cause) → (p : placements.Placement) × IsRevocable s.table (so_far s acts) c p
+pub revocable : (s : Setting) (acts : List Action) (c : ℕ) (cause : Cause) → FitsSteady s acts (Revoke c cause) → (p : placements.Placement) × IsRevocable s.table (so_far s acts) c p
 revocable s acts c cause sound =
     let x = so_far s acts in
     let held = held_by_one (holder_of x c) (and_parts _ (is_held (holder_of x c)) sound.fits).1 in (
@@ -242,7 +242,7 @@ revocable s acts c cause sound =
       },
     )
 
-revoked_here : (s : Setting) (acts xs : List Action) (c : ℕ) (cause : Cause) → EachAfter (IsSound s) acts (Revoke c cause ∷ xs) → Every FreesNone xs →
+revoked_here : (s : Setting) (acts xs : List Action) (c : ℕ) (cause : Cause) → EachAfter (FitsSteady s) acts (Revoke c cause ∷ xs) → Every FreesNone xs →
     last_placement (so_far s (acts ++ Revoke c cause ∷ xs)) c ≡ last_placement (so_far s acts) c
 revoked_here s acts xs c cause sound none =
     let x = so_far s acts in
@@ -255,12 +255,12 @@ revoked_here s acts xs c cause sound none =
 
 -- at the end of a pass the last grant of a core that was revoked in it is that of the moment when
 -- it was revoked
-pub revoked_stays : (s : Setting) (acts xs : List Action) (i c : ℕ) (cause : Cause) → EachAfter (IsSound s) acts xs → FreesFirst xs → slice_get xs i ≡ Some (Revoke c cause) →
+pub revoked_stays : (s : Setting) (acts xs : List Action) (i c : ℕ) (cause : Cause) → EachAfter (FitsSteady s) acts xs → FreesFirst xs → slice_get xs i ≡ Some (Revoke c cause) →
     last_placement (so_far s (acts ++ xs)) c ≡ last_placement (so_far s (acts ++ take i xs)) c
 revoked_stays s acts [] i c cause sound first is = cc
 revoked_stays s acts (a ∷ xs) zero c cause sound first is =
     let same : Revoke c cause ≡ a = cc in
-    let P : Action → Type 0 = λ b. EachAfter (IsSound s) acts (b ∷ xs) → EndsFrees b xs → last_placement (so_far s (acts ++ b ∷ xs)) c ≡ last_placement (so_far s acts) c in
+    let P : Action → Type 0 = λ b. EachAfter (FitsSteady s) acts (b ∷ xs) → EndsFrees b xs → last_placement (so_far s (acts ++ b ∷ xs)) c ≡ last_placement (so_far s acts) c in
     let here = subst P same (λ so none. revoked_here s acts xs c cause so none) sound first.0 in
     here ∙ ap (λ l. last_placement (so_far s l) c) (sym (append-nil acts))
 revoked_stays s acts (a ∷ xs) (suc i) c cause sound first is =

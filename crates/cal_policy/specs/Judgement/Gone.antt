@@ -17,7 +17,9 @@ use Rattle.cal_policy.specs.History.{actions_of, looks_of, holder_of, sent_to}
 use Rattle.cal_policy.specs.History.Looks.{last_shown}
 use Rattle.cal_policy.specs.Judgement.Judging.{judged}
 use Rattle.cal_policy.specs.Judgement.OneByOne.{fault_of}
-use Rattle.cal_policy.specs.Pass.{pass_of, IsLegal}
+use Rattle.cal_policy.specs.Pass.{IsLegal}
+use Rattle.cal_policy.specs.Policies.{pass_by, IsLegalBy}
+use Rattle.cal_policy.specs.declared.policy.Policy.{Policy}
 use Rattle.cal_policy.specs.Setting.{setting}
 
 -- it took all that was sent, is on no core and has no request; the words that never fall stay
@@ -52,11 +54,12 @@ abbrev pub GoneIsKept : Type 0
 GoneIsKept = (table : Table) (history : List PassEntry) (k : ℕ) → IsLegal table history →
     can_be_gone history k ≡ true → IsKeptOfGone table history k
 
--- a pass that keeps it frees every core that the thread holds or leaves
+-- a pass of any policy that keeps it frees every core that the thread holds or leaves
 abbrev pub GoneFreesItsCores : Type 0
-GoneFreesItsCores = (table : Table) (history : List PassEntry) (k : ℕ) (input : Input) →
-    IsTable table → IsLegal table history → slice_get input.seen k ≡ Some (Whole
+GoneFreesItsCores = (policy : Policy) (table : Table) (history : List PassEntry) (k : ℕ)
+    (input : Input) → IsTable table → IsLegalBy policy table history →
+    slice_get input.seen k ≡ Some (Whole
     (shown_when_gone history k).number (shown_when_gone history k).rec) →
     (c : ℕ) (p : placements.Placement) → c < table.cores →
     placement_of (holder_of (actions_of history) c) ≡ Some p → p.thread ≡ k →
-    Contains (pass_of (setting table history input)) (Free c)
+    Contains (pass_by policy (setting table history input)) (Free c)

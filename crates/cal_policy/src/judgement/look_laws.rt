@@ -43,8 +43,8 @@ pub fn gone_is_kept()
     ensures { GoneIsKept }
 {}
 
-/// A pass that keeps the record for a thread that is gone frees every core that the thread holds or
-/// leaves.
+/// A pass of any policy that keeps the record for a thread that is gone frees every core that the
+/// thread holds or leaves.
 pub fn gone_frees_its_cores()
     ensures { GoneFreesItsCores }
 {}

@@ -95,7 +95,7 @@ impl Pass<'_> {
     }
 
     /// The thread for whose request on the core the sibling is to be banned, where a ban is due.
-    fn ban_due(&self, board: &Board, core: u8) -> Option<u8>
+    pub fn ban_due(&self, board: &Board, core: u8) -> Option<u8>
         requires at_hand { IsOfTable self.now.config.now board.now }
         requires core { core < self.now.config.now.cores }
         ensures due { Within self.now board.now (λ s acts. result ≡ rules.ban_due s (so_far s acts) core) }
@@ -111,7 +111,7 @@ impl Pass<'_> {
     }
 
     /// The revocation of a core that is banned for core `by`, where it is held.
-    fn ban_revocation(&self, board: &Board, core: u8, by: u8) -> Option<Action>
+    pub fn ban_revocation(&self, board: &Board, core: u8, by: u8) -> Option<Action>
         requires at_hand { IsOfTable self.now.config.now board.now }
         requires core { core < self.now.config.now.cores }
         ensures due { Within self.now board.now (λ s acts. option_to_list result
@@ -172,7 +172,7 @@ impl Pass<'_> {
 
 /// Whether some task may be over after what a pair gave: one may have been before, or one is. Where
 /// the pair gave nothing no task is asked again, since nothing has changed.
-fn some_may_be_over(config: &Config, board: &Board, before: bool, given: Option<Action>) -> bool
+pub fn some_may_be_over(config: &Config, board: &Board, before: bool, given: Option<Action>) -> bool
     requires table { IsTable config.now }
     requires ready { IsReady config.now board.now }
     requires same { given ≡ None → before ≡ false → NoneOver config.now board.now }
@@ -185,7 +185,7 @@ fn some_may_be_over(config: &Config, board: &Board, before: bool, given: Option<
 }
 
 /// The next core from this one on that may give rise to a ban.
-fn next_to_ban(config: &Config, board: &Board, over: bool, first: u8) -> Option<u8>
+pub fn next_to_ban(config: &Config, board: &Board, over: bool, first: u8) -> Option<u8>
     requires table { IsTable config.now }
     ensures next { IfSome result (λ core. (first ≤ core) × (core < config.now.cores)) }
     ensures between { IfSome result (λ next. (core : ℕ) → first ≤ core → core < next →

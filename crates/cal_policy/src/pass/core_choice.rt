@@ -63,7 +63,7 @@ fn idle_class(config: &Config, task: usize, beside: Holder, last: Option<Placeme
 
 impl Pass<'_> {
     /// The class that a core has while nobody has it and it is not banned.
-    fn class_if_idle(&self, board: &Board, task: usize, core: u8) -> CoreClass
+    pub fn class_if_idle(&self, board: &Board, task: usize, core: u8) -> CoreClass
         requires at_hand { IsOfTable self.now.config.now board.now }
         requires core { core < self.now.config.now.cores }
         ensures { (x : List Action) → Agrees board.now x →
@@ -94,7 +94,7 @@ impl Pass<'_> {
     /// The class of a core that another task holds, as far as that task goes: `BestEffortBurstable`
     /// of a best-effort one, `LatencyCriticalBurstable` of a latency-critical one that is over,
     /// where the task has booked less than it is guaranteed.
-    fn preempt_class(&self, board: &Board, task: usize, other: usize) -> Option<CoreClass>
+    pub fn preempt_class(&self, board: &Board, task: usize, other: usize) -> Option<CoreClass>
         requires at_hand { IsOfTable self.now.config.now board.now }
         requires task { task < length self.now.config.now.tasks }
         requires other { other < length self.now.config.now.tasks }

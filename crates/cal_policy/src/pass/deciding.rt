@@ -55,6 +55,7 @@ impl Pass<'_> {
     {
         match self.terms.policy {
             Policy::Caladan => self.make_parts(board, out),
+            Policy::Assured => self.make_assured_parts(board, out),
         }
     }
 }

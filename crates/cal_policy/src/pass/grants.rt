@@ -39,7 +39,7 @@ impl Pass<'_> {
     }
 
     /// What was chosen for the task: an idle core is granted, another is revoked for it.
-    fn chosen(
+    pub fn chosen(
         &self,
         task: usize,
         thread: Candidate<u128>,

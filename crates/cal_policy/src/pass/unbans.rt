@@ -20,7 +20,7 @@ use crate::pass::Pass;
 use cal_signal::Record;
 
 /// Whether a record still shows its thread on the core, at the request begun at `started`.
-fn shows_still(rec: &Record, core: u8, started: u64) -> bool
+pub fn shows_still(rec: &Record, core: u8, started: u64) -> bool
     ensures { result ≡ still_shows rec.now core started }
 {
     rec.shows(core) && rec.started == started

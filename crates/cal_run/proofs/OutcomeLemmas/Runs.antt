@@ -7,8 +7,7 @@ use Rattle.std.proofs.lemmas.List.{get_or_past, length-map}
 use Rattle.std.proofs.lemmas.Option.{slice_get_past, get_or_from_slice_get}
 use Rattle.std.proofs.Math.Seq.{take-length}
 use Rattle.cal_machine.proofs.Places.{slice_get_at}
-use Rattle.cal_policy.proofs.PolicyLemmas.{pass_input}
-use Rattle.cal_world.proofs.PolicyLemmas.{pass_at_by}
+use Rattle.cal_policy.proofs.PolicyLemmas.{pass_at_by, pass_input}
 use Rattle.cal_machine.specs.Table.{Table}
 use Rattle.cal_machine.specs.declared.request.Request.{Request}
 use Rattle.cal_signal.specs.declared.look.Look.{Look}

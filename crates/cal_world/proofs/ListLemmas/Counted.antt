@@ -3,7 +3,7 @@ use Rattle.std.proofs.Common.{◌≡◌, ℕ, ◌+◌, ◌<◌, ◌≤◌, zero,
 use Rattle.std.proofs.lemmas.Bool.{and_parts}
 use Rattle.std.proofs.lemmas.Bool.Decides.{nat_tests}
 use Rattle.cal_policy.specs.Pass.Choice.{count_below}
-use Rattle.cal_laws.proofs.ListLemmas.Counted.{count_less}
+use Rattle.cal_policy.proofs.ListLemmas.Counted.{count_less}
 use Rattle.std.proofs.Math.Bool.{and-false}
 
 -- f puts the numbers below n that pass p among those below m that pass q, no two on one

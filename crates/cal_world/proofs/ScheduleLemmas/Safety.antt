@@ -16,7 +16,7 @@ use Rattle.cal_world.specs.World.{IsAllowedBy, IsLegalListBy}
 use Rattle.cal_world.specs.Safe.{IsPermittedDecide, IsSafeEvent, LegalListsAreSafe, OfSafeLists, OfLegalLists}
 use Rattle.cal_world.proofs.ListLemmas.OneMore.{each_last, of_each_part}
 use Rattle.cal_world.proofs.ScheduleLemmas.Moves.{history_same, history_more}
-use Rattle.cal_world.proofs.PolicyLemmas.{legal_more_by, nothing_by}
+use Rattle.cal_policy.proofs.PolicyLemmas.{legal_more_by, legal_none_by}
 
 legal_same : (policy : Policy) (table : Table) (before : List Event) (event : Event) → entry_in event ≡ None → IsLegalBy policy table (history_in before) → IsLegalBy policy table (history_in (before ++ event ∷ []))
 legal_same policy table before event none was = subst (IsLegalBy policy table) (sym (history_same before event none)) was
@@ -34,7 +34,7 @@ legal_after policy table before (Decide entry) allowed was =
 -- the passes of a legal list are a legal history
 pub legal_history : (policy : Policy) (table : Table) (events : List Event) → IsLegalListBy policy table events → (n : ℕ) → n ≤ length events → IsLegalBy policy table (history_in (take n events))
 legal_history policy table events list =
-    of_each_part events (λ part. IsLegalBy policy table (history_in part)) (nothing_by policy table)
+    of_each_part events (λ part. IsLegalBy policy table (history_in part)) (legal_none_by policy table)
     (λ i event is was. legal_after policy table (take i events) event (list.each i event is) was)
 
 -- so each is permitted

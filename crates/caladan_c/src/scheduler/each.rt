@@ -8,8 +8,8 @@ ghost use Rattle.caladan_c.specs.Passing.{AfterOwn, MadePass};
 use super::Scheduler;
 use crate::handed_in::HandedIn;
 use crate::walk::{Basis, take_each};
-use cal_guard::{each_policy_is_permitted, permitted_settled_is_no_news};
-use cal_policy::laws::{legal_is_short, one_pass_more_is_legal, open_pass_fits};
+use cal_guard::{each_policy_is_permitted, passes_are_short, permitted_settled_is_no_news};
+use cal_policy::laws::open_pass_fits;
 
 impl Scheduler {
     /// Makes the next pass, each look by itself: a look that is unfit, ahead or foreign is taken as
@@ -27,8 +27,7 @@ impl Scheduler {
         each_policy_is_permitted();
         permitted_settled_is_no_news();
         open_pass_fits();
-        legal_is_short();
-        one_pass_more_is_legal();
+        passes_are_short();
         take_each(
             &mut self.looks,
             Basis {

@@ -1,4 +1,4 @@
-use Rattle.cal_assured.proofs.Between.{passes_permitted}
+use Rattle.cal_guard.proofs.AssuredLemmas.Between.{passes_permitted}
 use Rattle.cal_assured.proofs.permitted.passes_are_permitted.Goals as goal
 
 pub returns : goal.returns

@@ -4,8 +4,7 @@ use Rattle.cal_linear.specs.Linear.{linear, passes_and_rests, watch_events, whol
 use Rattle.cal_linear.specs.Fronts.{no_front, places_in}
 use Rattle.cal_linear.specs.Law.{IsLinearisedBy}
 use Rattle.cal_linear.proofs.Order.{places_none}
-use Rattle.cal_policy.proofs.PolicyLemmas.{pass_input}
-use Rattle.cal_world.proofs.PolicyLemmas.{pass_at_by}
+use Rattle.cal_policy.proofs.PolicyLemmas.{pass_at_by, pass_input}
 use Rattle.cal_linear.proofs.linear.linearise_by.Goals as goal
 
 pub append_run-requires-clause-looks : goal.append_run-requires-clause-looks

@@ -26,4 +26,4 @@ returns c =
     let end = c.loop-entry-test.false in
     let all : length xs ≤ i = omega (arith, end) in
     subst (λ (l : List PassEntry). IsVerdict c.args.config.now l c.verdict.result) (take_all i xs all)
-    (c.verdict.ensures c.args.config.now (take i xs) c.loop-entry.invariant.audits)
+    (c.verdict.ensures.audits c.args.config.now (take i xs) c.loop-entry.invariant.audits)

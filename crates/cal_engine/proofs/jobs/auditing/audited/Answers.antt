@@ -8,5 +8,5 @@ pub returns-clause-answer : goal.returns-clause-answer
 returns-clause-answer c =
     let table = c.in_ok-config.config in
     rw c.in_ok-config.ensures
-    (answered c.args.policy table (history_of (extent_of table) (rows_of c.in_ok-config.trace.now)) c.in_ok-audit.audit c.verdict-verdict.result c.in_ok-text.text.items c.verdict-verdict.ensures
+    (answered c.args.policy table (history_of (extent_of table) (rows_of c.in_ok-config.trace.now)) c.in_ok-audit.audit c.verdict-verdict.result c.in_ok-text.text.items c.verdict-verdict.ensures.own
     c.in_ok-audit.ensures.audits (c.in_ok-text.ensures.text c.args.policy))

@@ -8,7 +8,7 @@ use Rattle.cal_policy.specs.declared.history.entry.PassEntry.{PassEntry}
 use Rattle.cal_run.proofs.RoundsLemmas.Rounds.{before_rounds, with_table}
 use Rattle.cal_trace.specs.History.Text.{entry_rows, lines_of}
 use Rattle.cal_input.specs.declared.fault.RunFault.TheVariants as fault
-use Rattle.cal_engine.proofs.Decided.{none_by}
+use Rattle.cal_policy.proofs.PolicyLemmas.{legal_none_by}
 use Rattle.cal_engine.proofs.Telling.{first_passes, legal_alike, none_passed, told_more}
 use Rattle.cal_engine.proofs.jobs.telling.tell_rounds.Goals as goal
 
@@ -23,7 +23,7 @@ loop-r-init g c =
       made = before_rounds table c.args.arrivals.now c.args.parts.now c.requires.opened;
       most = refl;
       by = refl;
-      legal = subst L (sym none) (none_by policy table);
+      legal = subst L (sym none) (legal_none_by policy table);
       told = subst T (sym none) (Appends-nil (g.W.Write.contents c.args.writer.now));
     }
 

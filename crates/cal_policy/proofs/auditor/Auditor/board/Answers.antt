@@ -1,18 +1,23 @@
 use Rattle.std.proofs.Common.{◌≡◌, List, refl}
 use Rattle.cal_machine.specs.Table.{Table}
-use Rattle.cal_policy.specs.Auditor.{IsAuditOf, KeepsUp}
+use Rattle.cal_policy.specs.Auditor.{KeepsUp}
+use Rattle.cal_policy.specs.Policies.{IsLegalBy, IsVerdictBy}
 use Rattle.cal_policy.specs.State.{IsStateAfter}
-use Rattle.cal_policy.specs.Pass.{IsLegal}
-use Rattle.cal_policy.specs.Verdict.{IsFirstIllegal}
 use Rattle.cal_policy.specs.declared.history.entry.PassEntry.{PassEntry}
+use Rattle.cal_policy.specs.declared.policy.Policy.{Policy}
+use Rattle.cal_policy.specs.declared.policy.Policy.TheVariants.{Caladan}
 use Rattle.cal_policy.specs.declared.verdict.Verdict.{Verdict}
 use Rattle.cal_policy.specs.declared.verdict.Verdict.TheVariants.{Legal, Illegal}
-use Rattle.cal_policy.proofs.PassLemmas.Legality.{never_illegal}
+use Rattle.cal_policy.proofs.PolicyLemmas.{AuditParts, audit_parts, never_illegal_by}
 use Rattle.cal_policy.proofs.auditor.Auditor.board.Goals as goal
 
-pub returns-clause-agrees : goal.returns-clause-agrees
-returns-clause-agrees c = λ table h legal audits. go table h legal audits c.args.self.now.verdict refl
+pub returns-clause-own : goal.returns-clause-own
+returns-clause-own c = λ policy table h legal audits. go policy table h legal (audit_parts policy table h c.args.self.now audits) c.args.self.now.verdict refl
   where
-    go : (table : Table) (h : List PassEntry) → IsLegal table h → IsAuditOf table h c.args.self.now → (v : Verdict) → c.args.self.now.verdict ≡ v → IsStateAfter c.board.result.now h
-    go table h legal audits Legal is = let keeps : KeepsUp h c.args.self.now Legal = rw is at audits.keeps_up in c.board.ensures.agrees h keeps.0
-    go table h legal audits (Illegal p) is = let first : IsFirstIllegal table h p = rw is at audits.right in absurd (never_illegal table h p legal first)
+    go : (policy : Policy) (table : Table) (h : List PassEntry) → IsLegalBy policy table h → AuditParts policy table h c.args.self.now → (v : Verdict) → c.args.self.now.verdict ≡ v → IsStateAfter c.board.result.now h
+    go policy table h legal parts Legal is = let keeps : KeepsUp h c.args.self.now Legal = rw is at parts.keeps_up in c.board.ensures.agrees h keeps.0
+    go policy table h legal parts (Illegal p) is = let first : IsVerdictBy policy table h (Illegal p) = rw is at parts.right in absurd (never_illegal_by policy table h p legal first)
+
+-- of Caladan's policy
+pub returns-clause-agrees : goal.returns-clause-agrees
+returns-clause-agrees c = returns-clause-own c Caladan

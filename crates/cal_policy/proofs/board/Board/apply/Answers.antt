@@ -4,11 +4,12 @@ use Rattle.cal_machine.specs.CoreSet.{has}
 use Rattle.std.specs.Option.{IfSome}
 use Rattle.cal_machine.specs.TableTasks.{threads_of_table}
 use Rattle.cal_policy.specs.declared.board.holders.Holder.{Holder}
-use Rattle.cal_policy.specs.Board.{holder_in}
+use Rattle.cal_policy.specs.Board.{holder_in, holder_at}
 use Rattle.cal_policy.specs.Pass.Grants.{is_thread_for}
 use Rattle.cal_policy.specs.Board.Survey.{CountsOneMore}
 use Rattle.cal_policy.specs.Board.CoreSets.{IsSorted}
 use Rattle.cal_policy.proofs.BoardLemmas.StateKept.{names_fixed, names_threads, placed_at}
+use Rattle.cal_policy.proofs.BoardLemmas.DebtsKept.{low_core}
 use Rattle.cal_policy.proofs.BoardLemmas.Surveyed.{Surveys_moved, counted_at, few_left}
 use Rattle.cal_policy.proofs.BoardLemmas.Sorted.{Sorts_moved}
 use Rattle.cal_policy.proofs.BoardLemmas.OpenCores.{changes_named}
@@ -41,6 +42,8 @@ returns-clause-agrees c = λ x a. record {
   bans = c.apply-2.ensures.agree x a.bans;
   caps = c.apply-3.ensures x a.caps;
   banned = c.note_ban.ensures.banned x (rw c.move_core.ensures.banned a.banned);
+  debts = c.note-3.ensures x a.debts (λ k is. c.holder_at-before.ensures ∙ ap (holder_at c.args.self.now.holding) (c.core_changed_by-core.ensures.changed ∙ is)
+      ∙ a.holding.holders k (low_core c.args.action k is (names_fixed c.args.config.now c.args.action c.requires.table c.requires.names)));
 }
 
 pub returns-clause-ready : goal.returns-clause-ready

@@ -21,6 +21,6 @@ returns-clause-ready c = λ table. record {
   opens = opens_free (holder_in c.new.result) c.new-3.result.banned c.new-4.result c.new.ensures.free
       (λ k lt. c.new-3.ensures.banned.banned k lt) c.new-4.ensures.idle c.new-4.ensures.alone c.new-4.ensures.beside;
   recent = record { cores = λ t lt k. c.new-5.ensures t k ∙ sym (ap (is_thread_for table t) (c.new.ensures.ungranted k)) };
-  keeping = c.new-8.ensures.sets;
+  keeping = c.new-9.ensures.sets;
   shows = shows_free (holder_in c.new.result) _ _ c.new.ensures.free;
 }

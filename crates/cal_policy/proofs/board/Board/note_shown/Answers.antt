@@ -8,7 +8,7 @@ use Rattle.cal_policy.proofs.board.Board.note_shown.Goals as goal
 
 pub returns-clause-stands : goal.returns-clause-stands
 returns-clause-stands c = λ s acts st. record {
-  agrees = record { holding = st.agrees.holding; bans = st.agrees.bans; caps = st.agrees.caps; banned = st.agrees.banned };
+  agrees = record { holding = st.agrees.holding; bans = st.agrees.bans; caps = st.agrees.caps; banned = st.agrees.banned; debts = st.agrees.debts };
   fresh = st.fresh;
   looks = st.looks;
   before = st.before;

@@ -7,10 +7,10 @@ use Rattle.cal_policy.proofs.PolicyLemmas.{caladan_by, orderly_by}
 use Rattle.cal_policy.proofs.book.Book.pass.Goals as goal
 
 pub returns-clause-acts : goal.returns-clause-acts
-returns-clause-acts c = λ h found legal agrees looks.
+returns-clause-acts c = λ is h found legal agrees looks.
     (c.decide_noted.ensures.acts h found (orderly_apart c.args.config.now h (legal_orderly c.args.config.now h c.limits.ensures legal))
     (rw c.deref_mut.ensures.value agrees.actions) (rw c.deref_mut.ensures.value agrees.looks) looks).0
-    ∙ caladan_by c.args.self.now.policy (setting c.args.config.now h (judged_input c.args.config.now h c.args.now c.args.bandwidth found))
+    ∙ caladan_by c.args.self.now.policy (setting c.args.config.now h (judged_input c.args.config.now h c.args.now c.args.bandwidth found)) is
 
 pub returns-clause-agrees : goal.returns-clause-agrees
 returns-clause-agrees c = λ h found legal agrees looks.

@@ -6,10 +6,10 @@ use Rattle.cal_policy.proofs.PolicyLemmas.{caladan_by, orderly_by}
 use Rattle.cal_policy.proofs.book.Book.step.Goals as goal
 
 pub returns-clause-acts : goal.returns-clause-acts
-returns-clause-acts c = λ h legal agrees input.
+returns-clause-acts c = λ is h legal agrees input.
     (c.decide.ensures.acts h (orderly_apart c.args.config.now h (legal_orderly c.args.config.now h c.limits.ensures legal))
     (rw c.deref_mut.ensures.value agrees.actions) (rw c.deref_mut.ensures.value agrees.looks) input.looks.fit).0
-    ∙ caladan_by c.args.self.now.policy (setting c.args.config.now h c.args.input.now)
+    ∙ caladan_by c.args.self.now.policy (setting c.args.config.now h c.args.input.now) is
 
 pub returns-clause-agrees : goal.returns-clause-agrees
 returns-clause-agrees c = λ h legal agrees input.

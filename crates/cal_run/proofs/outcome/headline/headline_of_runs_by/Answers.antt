@@ -5,7 +5,7 @@ use Rattle.cal_world.specs.declared.event.Event.{Event}
 use Rattle.cal_policy.specs.Policies.{IsLegalBy}
 use Rattle.cal_policy.specs.History.Found.{looks_at}
 use Rattle.cal_linear.specs.Runs.{page_at}
-use Rattle.cal_world.proofs.PolicyLemmas.{pass_at_by}
+use Rattle.cal_policy.proofs.PolicyLemmas.{pass_at_by}
 use Rattle.cal_run.proofs.OutcomeLemmas.Fitting.{fitting_never_fall, fitting_published}
 use Rattle.cal_run.proofs.outcome.headline.headline_of_runs_by.Goals as goal
 

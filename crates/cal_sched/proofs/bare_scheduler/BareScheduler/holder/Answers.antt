@@ -21,5 +21,5 @@ returns c =
     let low : c.args.core < s.table.cores = omega (arith, cores, asked) in
     c.holder.ensures s.history (c.board.ensures.agrees s.history c.self.invariant.1)
     ∙ holder_kept s.policy s.table s.history c.limits.ensures c.self.invariant.0.legal c.args.core low c.self.invariant.0.few
-    (one_command_by c.threads_are_sent_one_command.ensures s.policy) (last_run_by c.holders_are_of_their_last_run.ensures s.policy)
+    (one_command_by c.each_policy_is_permitted.ensures c.threads_are_sent_one_command.ensures s.policy) (last_run_by c.each_policy_is_permitted.ensures c.holders_are_of_their_last_run.ensures s.policy)
     ∙ ap (λ (v : SchedulerView). holder_of (actions_of v.history) c.args.core) is

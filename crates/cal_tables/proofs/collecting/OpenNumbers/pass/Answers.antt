@@ -6,7 +6,8 @@ use Rattle.cal_measure.proofs.OneMore.{slice_here}
 use Rattle.cal_measure.specs.Walk.{IsWalkOf}
 use Rattle.cal_policy.specs.Board.{NamesTable}
 use Rattle.cal_policy.specs.History.{actions_of}
-use Rattle.cal_policy.specs.Pass.{IsLegal}
+use Rattle.cal_policy.specs.Policies.{IsLegalBy}
+use Rattle.cal_laws.specs.Point.{Point}
 use Rattle.cal_policy.specs.State.{IsReady, IsStateAfter}
 use Rattle.cal_policy.specs.declared.history.action.Action.{Action}
 use Rattle.cal_policy.specs.declared.history.entry.PassEntry.{PassEntry}
@@ -15,7 +16,6 @@ use Rattle.cal_policy.proofs.BoardLemmas.StateKept.{names_of_fitting}
 use Rattle.cal_run.specs.Outcome.{figures_of}
 use Rattle.cal_run.specs.Parts.{SchedulerSeat}
 use Rattle.cal_trace.specs.declared.arrivals.GivenPass.{GivenPass}
-use Rattle.cal_tables.proofs.PolicyLemmas.{caladan_legal}
 use Rattle.cal_tables.proofs.collecting.OpenNumbers.pass.Goals as goal
 
 -- the state is of the table
@@ -31,11 +31,12 @@ pass-requires-clause-names c =
     let acted = c.step_given.ensures.acted in
     let e = acted.0 in
     let table : c.step_given.new.scheduler.table ≡ t = ap (λ (s : SchedulerSeat). s.table) c.step_given.ensures.seat ∙ sym c.requires.table in
-    let P : Table → Type 0 = λ t. IsLegal t c.step_given.new.scheduler.history in
-    let Q : List PassEntry → Type 0 = λ l. IsLegal t l in
+    let P : Table → Type 0 = λ t. IsLegalBy c.step_given.new.scheduler.policy t c.step_given.new.scheduler.history in
+    let Q : List PassEntry → Type 0 = λ l. IsLegalBy c.step_given.new.scheduler.policy t l in
     let after = c.step_given.new.scheduler in
-    let legal : IsLegal t (h ++ e ∷ []) = subst Q acted.1 (subst P table (caladan_legal after.policy after.table after.history c.step_given.ensures.kept.legal)) in
-    let orderly = c.legal_is_orderly.ensures t (h ++ e ∷ []) c.limits.ensures legal in
+    let legal : IsLegalBy after.policy t (h ++ e ∷ []) = subst Q acted.1 (subst P table c.step_given.ensures.kept.legal) in
+    let permitted = c.each_policy_is_permitted.ensures after.policy t (h ++ e ∷ []) c.limits.ensures legal in
+    let orderly = c.permitted_is_orderly.ensures t (h ++ e ∷ []) permitted in
     let fits = orderly.entries (length h) e (slice_here h e) in
     subst (λ (l : List Action). All (NamesTable t) l) (sym (c.as_slice-actions.ensures ∙ acted.3))
     (names_of_fitting t (actions_of (take (length h) (h ++ e ∷ []))) e.actions c.limits.ensures fits.actions)
@@ -47,11 +48,13 @@ pass-requires-clause-few c =
     let acted = c.step_given.ensures.acted in
     let e = acted.0 in
     let table : c.step_given.new.scheduler.table ≡ t = ap (λ (s : SchedulerSeat). s.table) c.step_given.ensures.seat ∙ sym c.requires.table in
-    let P : Table → Type 0 = λ t. IsLegal t c.step_given.new.scheduler.history in
-    let Q : List PassEntry → Type 0 = λ l. IsLegal t l in
+    let P : Table → Type 0 = λ t. IsLegalBy c.step_given.new.scheduler.policy t c.step_given.new.scheduler.history in
+    let Q : List PassEntry → Type 0 = λ l. IsLegalBy c.step_given.new.scheduler.policy t l in
     let after = c.step_given.new.scheduler in
-    let legal : IsLegal t (h ++ e ∷ []) = subst Q acted.1 (subst P table (caladan_legal after.policy after.table after.history c.step_given.ensures.kept.legal)) in
-    let few = c.legal_is_short.ensures t (h ++ e ∷ []) c.limits.ensures legal (length h) e (slice_here h e) in
+    let legal : IsLegalBy after.policy t (h ++ e ∷ []) = subst Q acted.1 (subst P table c.step_given.ensures.kept.legal) in
+    let permitted = c.each_policy_is_permitted.ensures after.policy t (h ++ e ∷ []) c.limits.ensures legal in
+    let here : Point = record { table = t; history = h ++ e ∷ []; pass = length h; entry = e; made = 0 } in
+    let few = c.passes_are_short.ensures here (record { permitted = permitted; entry = slice_here h e; made = omega arith }) in
     let same = ap (λ (l : List Action). length l) (c.as_slice-actions.ensures ∙ acted.3) in
     omega (arith, same, few)
 

@@ -3,9 +3,8 @@ use Rattle.cal_policy.specs.Policies.{IsVerdictBy}
 use Rattle.cal_policy.specs.declared.history.entry.PassEntry.{PassEntry}
 use Rattle.cal_policy.specs.declared.policy.Policy.{Policy}
 use Rattle.caladan_c.specs.AuditView.{AuditView, HasAudited}
-use Rattle.caladan_c.proofs.Policies.{verdict_by}
 use Rattle.caladan_c.proofs.audit.Audit.verdict.Goals as goal
 
 pub returns : goal.returns
 returns c = subst (λ (a : AuditView). (policy : Policy) (h : List PassEntry) → HasAudited policy a h → IsVerdictBy policy a.table h c.verdict.result) c.self.view_is
-    (verdict_by c.self.inside.config c.self.inside.auditor c.verdict.result (c.verdict.ensures c.self.inside.config))
+    (λ policy h audits. c.verdict.ensures.own policy c.self.inside.config h audits)

@@ -29,7 +29,7 @@ returns-clause-passed c =
     let is : IsInput s.table h (input_of_each s.table h now bandwidth looks) = c.open_pass_fits.ensures s.table h now bandwidth taken c.take_each.new.came came all in
     let used : IsTakenAt s.table h looks c.deref.result.now = rw c.deref.ensures came in
     passed_after s h (input_of_each s.table h now bandwidth looks) c.pass.new.out c.pass.new.self
-    c.one_pass_more_is_legal.ensures c.legal_is_short.ensures c.limits.ensures legal is
+    c.each_policy_is_permitted.ensures c.passes_are_short.ensures c.limits.ensures legal is
     (c.pass.ensures.own h taken legal state used) c.pass.ensures.policy in
     subst (λ (old : Standing). (h : List PassEntry) → IsLegalBy old.book.policy old.table h → IsStateAfter (board_in old.book) h → MadePass old h (input_of_each old.table h now bandwidth looks) new) view whole
 

@@ -1,10 +1,9 @@
 use Rattle.std.proofs.Common.{Some, [], arith}
-use Rattle.cal_engine.proofs.Audited.{next_by}
 use Rattle.cal_engine.proofs.jobs.auditing.OpenAudit.take.Goals as goal
 
 pub returns-in-Ok-clause-takes : goal.returns-in-Ok-clause-takes
 returns-in-Ok-clause-takes c = λ policy h few takes. record {
-  audits = next_by c.args.config.now c.args.self.now.auditor c.next.new.self c.args.entry.now c.next.ensures.audits policy h (omega (arith, few)) takes.audits;
+  audits = c.next.ensures.own policy h (omega (arith, few)) takes.audits;
   of = c.in-Ok.ensures.of h few takes.of;
   written = c.in-Ok.ensures.text (Some []) h takes.of takes.written;
 }

@@ -1,0 +1,47 @@
+-- A pass of the second policy frees cores first.
+use Rattle.std.proofs.Common.{ℕ, ◌&&◌, not, List, [], ◌∷◌, length, Option, Some, None}
+use Rattle.cal_machine.specs.Machine.{sibling_of}
+use Rattle.cal_policy.specs.declared.board.bans.BannedFor.{BannedFor}
+use Rattle.cal_policy.specs.declared.history.action.Action.{Action}
+use Rattle.cal_policy.specs.declared.history.action.Action.TheVariants.{Unban}
+use Rattle.cal_policy.specs.Assured.Grants.{grant_at, grant_in_place, grants}
+use Rattle.cal_policy.specs.Assured.Hyperthreads.{unban_for, unban_at, unbans, due_for, bans_at, bans}
+use Rattle.cal_policy.specs.Assured.Order.{task_in_place}
+use Rattle.cal_policy.specs.Assured.Pass.{pass_of}
+use Rattle.cal_policy.specs.Assured.Short.{are_wanted, waits}
+use Rattle.cal_policy.specs.Assured.Taking.{choice_for}
+use Rattle.cal_policy.specs.Board.Counts.{is_free}
+use Rattle.cal_policy.specs.History.{ban_of, holder_of}
+use Rattle.cal_policy.specs.Pass.Bans.{still_shows}
+use Rattle.cal_policy.specs.Pass.Frees.{frees}
+use Rattle.cal_policy.specs.Pass.Grants.{grant_of, thread_choice}
+use Rattle.cal_policy.specs.Setting.{Setting, so_far, kept_now}
+use Rattle.cal_policy.proofs.PassLemmas.RevokedStay.{Every, FreesNone, FreesFirst, every_in_turn, every_if, all_first, then_first, frees_all, ban_none, bandwidth_none, chosen_none}
+
+unban_none : (s : Setting) (x : List Action) (c : ℕ) (o : Option BannedFor) → Every FreesNone (unban_for s x c o)
+unban_none s x c None = tt
+unban_none s x c (Some ban) =
+    every_if FreesNone (still_shows (kept_now s ban.thread) (sibling_of c) ban.started && not (is_free (holder_of x c) && are_wanted s x)) [] (Unban c ∷ []) tt (tt, tt)
+
+unbans_none : (s : Setting) (acts : List Action) → Every FreesNone (unbans s acts)
+unbans_none s acts = every_in_turn FreesNone (unban_at s) acts s.table.cores (λ now c. unban_none s (so_far s now) c (ban_of (so_far s now) c))
+
+bans_none : (s : Setting) (acts : List Action) → Every FreesNone (bans s acts)
+bans_none s acts = every_in_turn FreesNone (bans_at s) acts s.table.cores (λ now c. ban_none s (so_far s now) c (due_for s (so_far s now) c))
+
+grant_none : (s : Setting) (acts : List Action) (t : ℕ) → Every FreesNone (grant_at s acts t)
+grant_none s acts t =
+    every_if FreesNone (waits s (so_far s acts) t) (grant_of s t (thread_choice s (so_far s acts) t) (choice_for s acts t)) []
+    (chosen_none s t (thread_choice s (so_far s acts) t) (choice_for s acts t)) tt
+
+in_place_none : (s : Setting) (acts : List Action) (o : Option ℕ) → Every FreesNone (grant_in_place s acts o)
+in_place_none s acts None = tt
+in_place_none s acts (Some t) = grant_none s acts t
+
+grants_none : (s : Setting) (acts : List Action) → Every FreesNone (grants s acts)
+grants_none s acts = every_in_turn FreesNone (λ made place. grant_in_place s made (task_in_place s (so_far s acts) place)) acts (length s.table.tasks)
+    (λ now place. in_place_none s now (task_in_place s (so_far s acts) place))
+
+pub pass_frees_first : (s : Setting) → FreesFirst (pass_of s)
+pass_frees_first s =
+    then_first _ _ (then_first _ _ (then_first _ _ (then_first _ _ (all_first (frees s []) (frees_all s [])) (unbans_none s _)) (bans_none s _)) (bandwidth_none s _)) (grants_none s _)

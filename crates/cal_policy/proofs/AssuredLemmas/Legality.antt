@@ -1,0 +1,71 @@
+-- Legal histories of the second policy, pass by pass.
+use Rattle.std.proofs.Common.{◌≡◌, ℕ, ◌<◌, ◌≤◌, List, [], ◌∷◌, ◌++◌, length, get_or, take, Some, slice_get, inl, inr, sym, subst, ◌∙◌, arith, refl, length-append}
+use Rattle.std.proofs.lemmas.List.{length-take-le, get_or-take, take-take, take-append-le}
+use Rattle.std.proofs.lemmas.Option.{slice_get_within, slice_get_read, get_or_from_slice_get}
+use Rattle.std.proofs.Math.Seq.{take-append_seam}
+use Rattle.cal_machine.proofs.Places.{slice_get_at}
+use Rattle.cal_machine.proofs.Last.{some_same, slice_get-last, slice_get-other, last_or_before}
+use Rattle.cal_machine.specs.Table.{Table}
+use Rattle.cal_policy.specs.declared.history.entry.PassEntry.{PassEntry}
+use Rattle.cal_policy.specs.Assured.Pass.{IsPass, IsLegal}
+use Rattle.cal_policy.specs.Policies.{IsFirstOther}
+
+-- where each of the first n entries is a pass after those before it, they are a legal history
+pub legal_upto : (table : Table) (history : List PassEntry) (n : ℕ) → n ≤ length history →
+    ((p : ℕ) → p < n → (entry : PassEntry) → slice_get history p ≡ Some entry → IsPass table (take p history) entry) → IsLegal table (take n history)
+legal_upto table history n le each = record {
+  passes = λ p entry e.
+      let len = length-take-le n history le in
+      let within = slice_get_within (take n history) p entry e in
+      let lt : p < n = omega arith in
+      let low : p < length history = omega arith in
+      let here : get_or history p entry ≡ entry = sym (get_or-take n history p entry lt) ∙ get_or_from_slice_get (take n history) p entry entry e in
+      let there : slice_get history p ≡ Some entry = slice_get_read history (length history) p entry refl low (sym here) in
+      let same = take-take p n history (omega arith) in
+      let P : List PassEntry → Type 0 = λ before. IsPass table before entry in
+      subst P (sym same) (each p lt entry there);
+}
+
+-- nothing is a legal history
+pub legal_none : (table : Table) → IsLegal table []
+legal_none table = record { passes = λ p entry e. absurd (cc) }
+
+-- one pass more is legal
+pub legal_more : (table : Table) (history : List PassEntry) (entry : PassEntry) → IsLegal table history → IsPass table history entry → IsLegal table (history ++ entry ∷ [])
+legal_more table history entry legal next = record {
+  passes = λ p other e. elim (last_or_before history entry other p e) [
+    | inl h ↦ let lt : p ≤ length history = omega (arith, h.0) in rw (take-append-le p history (entry ∷ [])) (legal.passes p other h.1)
+    | inr h ↦ rw (h.0, ← h.1, take-append_seam history (entry ∷ [])) next
+  ];
+}
+
+-- an illegal pass stays the first one
+pub illegal_stays : (table : Table) (history : List PassEntry) (entry : PassEntry) (p : ℕ) → IsFirstOther table history p → IsFirstOther table (history ++ entry ∷ []) p
+illegal_stays table history entry p first =
+    let lt : p < length history = first.within in
+    let le : p ≤ length history = omega (arith, lt) in
+    let same : take p (history ++ entry ∷ []) ≡ take p history = take-append-le p history (entry ∷ []) le in
+    record {
+      within = omega (arith, lt, length-append history (entry ∷ []));
+      before = subst (λ (h : List PassEntry). IsLegal table h) (sym same) first.before;
+      illegal = λ other e. let P : List PassEntry → Type 0 = λ h. ¬ IsPass table h other in
+          subst P (sym same) (first.illegal other (sym (slice_get-other history entry p (λ here. absurd (omega (arith, lt, here)))) ∙ e));
+    }
+
+-- and where all were passes the next that is none is the first
+pub illegal_here : (table : Table) (history : List PassEntry) (entry : PassEntry) → IsLegal table history → (IsPass table history entry → ⊥) →
+    IsFirstOther table (history ++ entry ∷ []) (length history)
+illegal_here table history entry legal none = record {
+  within = omega (arith, length-append history (entry ∷ []));
+  before = subst (λ (h : List PassEntry). IsLegal table h) (sym (take-append_seam history (entry ∷ []))) legal;
+  illegal = λ other e pass.
+      let same : entry ≡ other = some_same entry other (sym (slice_get-last history entry) ∙ e) in
+      let P : List PassEntry → PassEntry → Type 0 = λ h one. IsPass table h one in
+      none (subst (λ (h : List PassEntry). P h entry) (take-append_seam history (entry ∷ [])) (subst (λ (one : PassEntry). P (take (length history) (history ++ entry ∷ [])) one) (sym same) pass));
+}
+
+-- a legal history has no first illegal pass
+pub never_illegal : (table : Table) (history : List PassEntry) (p : ℕ) → IsLegal table history → IsFirstOther table history p → ⊥
+never_illegal table history p legal first =
+    let at = slice_get_at history p first.within in
+    first.illegal at.0 at.1 (legal.passes p at.0 at.1)

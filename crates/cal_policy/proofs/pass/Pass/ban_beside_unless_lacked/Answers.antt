@@ -1,0 +1,18 @@
+use Rattle.std.proofs.Common.{◌<◌, arith}
+use Rattle.cal_policy.specs.Setting.{so_far}
+use Rattle.cal_policy.proofs.PassLemmas.Pairs.{ban_parts_of}
+use Rattle.cal_policy.specs.Assured.Hyperthreads.{due_for}
+use Rattle.cal_policy.specs.Pass.AtHand.{setting_in}
+use Rattle.cal_policy.proofs.pass.Pass.ban_beside_unless_lacked.Goals as goal
+
+pub returns-clause-due : goal.returns-clause-due
+returns-clause-due c = λ h acts st.
+    let s = setting_in c.args.self.now h in
+    let lt : c.in-Some.thread < 128 = omega (arith, c.in-Some.ensures.thread) in
+    ban_parts_of s (so_far s acts) c.args.core c.in-Some.thread c.sibling-beside.result _ _ (due_for s (so_far s acts) c.args.core)
+    c.sibling-beside.ensures.value (st.looks.kept c.in-Some.thread lt) (c.ban_revocation.ensures.due h acts st) (c.in-Some.ensures.due h acts st)
+
+pub returns-clause-names : goal.returns-clause-names
+returns-clause-names c =
+    let lt : c.sibling-beside.result < c.args.self.now.config.now.cores = omega arith in
+    record { first = (lt, c.in-Some.ensures.thread); second = c.ban_revocation.ensures.names }

@@ -1,0 +1,15 @@
+use Rattle.std.proofs.Common.{◌∙◌}
+use Rattle.cal_policy.proofs.AssuredLemmas.Pairs.{unban_lower}
+use Rattle.cal_policy.proofs.PassLemmas.Pairs.{pair_upper}
+use Rattle.cal_policy.specs.Pass.AtHand.{setting_in}
+use Rattle.cal_policy.specs.Assured.Hyperthreads.{unban_at}
+use Rattle.cal_policy.proofs.pass.Pass.ban_end_in_pair.Goals as goal
+
+pub returns-in-Some-clause-due : goal.returns-in-Some-clause-due
+returns-in-Some-clause-due c = λ h acts n st.
+    unban_lower (setting_in c.args.self.now h) acts c.args.pair c.in-Some.action n (c.in-Some.ensures.due h acts st)
+
+pub returns-in-None-clause-due : goal.returns-in-None-clause-due
+returns-in-None-clause-due c = λ h acts n st.
+    c.ban_end-in-None.ensures.due h acts st
+    ∙ pair_upper (unban_at (setting_in c.args.self.now h)) acts c.args.pair (rw c.in-None.is at (c.ban_end.ensures.due h acts st))

@@ -1,0 +1,24 @@
+use Rattle.std.proofs.Common.{◌+◌, ◌-◌, ◌*◌, ◌≤◌, length}
+use Rattle.cal_policy.specs.Setting.{Begun}
+use Rattle.cal_policy.specs.History.Lists.{in_pair}
+use Rattle.cal_policy.specs.Setting.{so_far}
+use Rattle.cal_policy.specs.Pass.AtHand.{setting_in}
+use Rattle.cal_policy.specs.Pass.Bans.{NoPairBanned}
+use Rattle.cal_policy.specs.Assured.Hyperthreads.{unban_at}
+use Rattle.cal_policy.specs.State.{IsReady, Stands}
+use Rattle.cal_policy.proofs.PassLemmas.PartSoFar.{Reached}
+use Rattle.cal_policy.proofs.pass.Pass.end_bans_in_the_way.Given as goal
+
+abbrev pub invariant-loop-core : goal.invariant-loop-core
+invariant-loop-core l = record {
+  acts : (h : Begun) → let s = setting_in l.self h in NoPairBanned (so_far s l.fn.out) → Stands l.fn.board s l.fn.out →
+      Reached (in_pair (unban_at s)) s l.fn.out l.out l.board l.next;
+  apart : (h : Begun) → let s = setting_in l.self h in NoPairBanned (so_far s l.fn.out) → Stands l.fn.board s l.fn.out →
+      NoPairBanned (so_far s l.out);
+  ready : IsReady l.self.config.now l.board;
+  length : length l.out ≤ length l.fn.out + l.next;
+  next : 2 * l.next ≤ l.self.config.now.cores;
+}
+
+abbrev pub decreases-loop-core : goal.decreases-loop-core
+decreases-loop-core l = l.self.config.now.cores - l.next

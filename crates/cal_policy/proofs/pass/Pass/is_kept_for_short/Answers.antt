@@ -1,0 +1,11 @@
+use Rattle.std.proofs.Common.{not, eqb, refl}
+use Rattle.cal_policy.specs.Pass.AtHand.{setting_in}
+use Rattle.cal_policy.specs.Setting.{so_far}
+use Rattle.cal_policy.proofs.AssuredLemmas.Counting.{waits_short_past}
+use Rattle.cal_policy.proofs.AssuredLemmas.Keeping.{middle_fails}
+use Rattle.cal_policy.proofs.pass.Pass.is_kept_for_short.Goals as goal
+
+pub returns-then-not-has_task : goal.returns-then-not-has_task
+returns-then-not-has_task c = λ h acts st.
+    let s = setting_in c.args.self.now h in
+    middle_fails (not (eqb c.args.other c.args.task)) _ _ (waits_short_past s (so_far s acts) c.args.other (c.if-not-has_task.ensures.past refl))

@@ -1,0 +1,14 @@
+use Rattle.std.proofs.Common.{◌+◌, ◌≤◌, arith}
+use Rattle.cal_machine.proofs.ThreadNumbers.{next_le}
+use Rattle.cal_machine.specs.Tasks.{first_thread, task_at}
+use Rattle.cal_policy.specs.Pass.AtHand.{setting_in}
+use Rattle.cal_policy.proofs.AssuredLemmas.Waiting.{calm_task}
+use Rattle.cal_policy.proofs.pass.Pass.none_waits.Goals as goal
+
+pub returns-in-None : goal.returns-in-None
+returns-in-None c = λ yes h acts st t lt.
+    let s = setting_in c.args.self.now h in
+    let p = c.requires.at_hand in
+    let end = next_le s.table.tasks t lt in
+    calm_task c.args.board.now s acts st p.ready.keeping t (omega (arith, end, p.accepted.threads))
+    (λ j x y. c.in-None.ensures.none j (omega arith) (omega (arith, y, end, c.threads.ensures.count)))

@@ -1,0 +1,12 @@
+use Rattle.std.proofs.Common.{◌≡◌, List}
+use Rattle.cal_policy.specs.declared.history.action.Action.{Action}
+use Rattle.cal_policy.specs.Assured.Short.{waits_short}
+use Rattle.cal_policy.specs.Pass.AtHand.{setting_in}
+use Rattle.cal_policy.specs.Pass.Choice.{count_below}
+use Rattle.cal_policy.specs.Setting.{Begun, so_far}
+use Rattle.cal_policy.specs.State.{Stands}
+use Rattle.cal_policy.proofs.pass.Pass.some_waits_short.Given as goal
+
+abbrev pub invariant-loop-task : goal.invariant-loop-task
+invariant-loop-task l = (h : Begun) (acts : List Action) → let s = setting_in l.self h in Stands l.board s acts →
+    count_below (waits_short s (so_far s acts)) l.task ≡ 0

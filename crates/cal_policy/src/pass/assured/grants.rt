@@ -1,0 +1,85 @@
+//! The last part of a pass of `Policy::Assured`: each task that waits gets a core, or has one
+//! revoked for it, in the order that is fixed where the part begins.
+
+ghost use Rattle.std.specs.Prelude.{◌≡◌, ℕ, ◌+◌, ◌<◌, ◌≤◌, ◌++◌, true, false, length};
+ghost use Rattle.std.specs.Prelude.{option_to_list};
+ghost use Rattle.std.specs.Option.{IfSome};
+ghost use Rattle.cal_policy.specs.declared.history.action_list.TheConstants.{MOST_ACTIONS};
+ghost use Rattle.cal_policy.specs.Assured.Grants as rules;
+ghost use Rattle.cal_policy.specs.Assured.Short.{waits};
+ghost use Rattle.cal_policy.specs.Board.{NamesTable};
+ghost use Rattle.cal_policy.specs.Pass.AtHand.{setting_in, Within};
+ghost use Rattle.cal_policy.specs.Setting.{Begun, so_far};
+ghost use Rattle.cal_policy.specs.State.{IsReady, IsOfTable, Stands};
+
+use crate::board::Board;
+use crate::history::action::Action;
+use crate::history::action_list::Actions;
+use crate::pass::Pass;
+
+impl Pass<'_> {
+    /// What a task that waits gets.
+    fn turn_due(&self, board: &Board, task: usize) -> Option<Action>
+        requires at_hand { IsOfTable self.now.config.now board.now }
+        requires task { task < length self.now.config.now.tasks }
+        ensures due { Within self.now board.now (λ s acts. option_to_list result
+            ≡ rules.grant_at s acts task) }
+        ensures names { IfSome result (NamesTable self.now.config.now) }
+    {
+        if !self.waits(board, task) {
+            return None;
+        }
+        let Some(thread) = self.choose_thread(board, task) else {
+            return None;
+        };
+        let core = self.choose_for(board, task);
+        self.chosen(task, thread, core)
+    }
+
+    /// Gives the task, if there is one, what it gets.
+    fn take_turn(&self, board: &mut Board, out: &mut Actions, task: Option<u8>)
+        requires of_table { IsOfTable self.now.config.now board.old }
+        requires task { IfSome task (λ t. t < length self.now.config.now.tasks) }
+        requires room { length out.old < MOST_ACTIONS }
+        ensures acts { (h : Begun) → let s = setting_in self.now h in Stands board.old s out.old →
+            (out.new ≡ out.old ++ rules.grant_in_place s out.old task)
+            × Stands board.new s out.new }
+        ensures ready { IsReady self.now.config.now board.new }
+        ensures length { length out.new ≤ length out.old + 1 }
+    {
+        let Some(task) = task else {
+            return;
+        };
+        let action = self.turn_due(board, task as usize);
+        self.make(board, out, action);
+    }
+
+    /// Whether no thread shows a request that waits: then no task waits.
+    fn none_waits(&self, board: &Board) -> bool
+        requires at_hand { IsOfTable self.now.config.now board.now }
+        ensures { result ≡ true → Within self.now board.now (λ s acts. (t : ℕ) →
+            t < length self.now.config.now.tasks → waits s (so_far s acts) t ≡ false) }
+    {
+        match board.keeping.waiting.next(0, self.config.threads()) {
+            Some(_) => false,
+            None => true,
+        }
+    }
+
+    /// Gives each task what it gets, in the order that is fixed before the first.
+    pub fn grant_in_turn(&self, board: &mut Board, out: &mut Actions)
+        requires of_table { IsOfTable self.now.config.now board.old }
+        requires room { length out.old + length self.now.config.now.tasks ≤ MOST_ACTIONS }
+        ensures acts { (h : Begun) → let s = setting_in self.now h in Stands board.old s out.old →
+            (out.new ≡ out.old ++ rules.grants s out.old) × Stands board.new s out.new }
+        ensures ready { IsReady self.now.config.now board.new }
+    {
+        if self.none_waits(board) {
+            return;
+        }
+        let places = self.places(board);
+        for place in 0..self.config.tasks() {
+            self.take_turn(board, out, places[place]);
+        }
+    }
+}

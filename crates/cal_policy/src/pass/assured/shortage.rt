@@ -1,0 +1,161 @@
+//! Tasks that book less than they are guaranteed, what they lack, and which tasks wait.
+
+ghost use Rattle.std.specs.Prelude.{◌≡◌, ◌<◌, ◌≤◌, nat_lt, List, length};
+ghost use Rattle.cal_machine.specs.declared.numbering.TheConstants.{MOST_THREADS};
+ghost use Rattle.cal_policy.specs.declared.history.action.Action.{Action};
+ghost use Rattle.cal_policy.specs.Assured.InFlight.{pressing};
+ghost use Rattle.cal_policy.specs.Assured.Short as rules;
+ghost use Rattle.cal_policy.specs.Pass.AtHand.{Within};
+ghost use Rattle.cal_policy.specs.Setting.{so_far};
+ghost use Rattle.cal_policy.specs.State.{IsOfTable, Agrees};
+
+use crate::board::Board;
+use crate::board::core_sets::next_core;
+use crate::board::counts::booked_by;
+use crate::pass::Pass;
+
+impl Pass<'_> {
+    /// Whether a task is short: a latency-critical one that books less than it is guaranteed.
+    pub fn is_short(&self, board: &Board, task: usize) -> bool
+        requires at_hand { IsOfTable self.now.config.now board.now }
+        requires task { task < length self.now.config.now.tasks }
+        ensures { (x : List Action) → Agrees board.now x →
+            result ≡ rules.is_short self.now.config.now x task }
+    {
+        let guaranteed = self.config.task(task).guaranteed;
+        self.config.is_latency_critical(task) && booked_by(self.config, board, task) < guaranteed
+    }
+
+    /// How many cores a short task lacks; one that is not short lacks none.
+    pub fn lacks(&self, board: &Board, task: usize) -> usize
+        requires at_hand { IsOfTable self.now.config.now board.now }
+        requires task { task < length self.now.config.now.tasks }
+        ensures lacks { (x : List Action) → Agrees board.now x →
+            result ≡ rules.lacks self.now.config.now x task }
+        ensures few { result ≤ 255 }
+    {
+        let guaranteed = self.config.task(task).guaranteed;
+        let booked = booked_by(self.config, board, task);
+        if self.config.is_latency_critical(task) && booked < guaranteed {
+            (guaranteed - booked) as usize
+        } else {
+            0
+        }
+    }
+
+    /// How many cores all short tasks lack, whether they wait or not.
+    pub fn lacking(&self, board: &Board) -> usize
+        requires at_hand { IsOfTable self.now.config.now board.now }
+        ensures { (x : List Action) → Agrees board.now x →
+            result ≡ rules.lacking self.now.config.now x }
+    {
+        let mut lacking = 0;
+        for task in 0..self.config.tasks() {
+            lacking += self.lacks(board, task);
+        }
+        lacking
+    }
+
+    /// How many cores are free and not banned.
+    pub fn open_cores(&self, board: &Board) -> usize
+        requires at_hand { IsOfTable self.now.config.now board.now }
+        ensures { (x : List Action) → Agrees board.now x →
+            result ≡ rules.open_cores self.now.config.now x }
+    {
+        let mut count = 0;
+        let mut first = 0;
+        while let Some(core) = next_core(self.config, &board.open_cores.idle, first) {
+            count += 1;
+            first = core + 1;
+        }
+        count
+    }
+
+    /// How many late threads of a task have a helper on its way; of a short task none counts.
+    pub fn surplus(&self, board: &Board, task: usize) -> usize
+        requires at_hand { IsOfTable self.now.config.now board.now }
+        requires task { task < length self.now.config.now.tasks }
+        ensures count { Within self.now board.now (λ s acts. result
+            ≡ rules.surplus s (so_far s acts) task) }
+        ensures few { result ≤ MOST_THREADS }
+    {
+        if self.is_short(board, task) {
+            0
+        } else {
+            self.helpers(board, task)
+        }
+    }
+
+    /// Whether more threads of a task press than have a helper on its way. Helpers are counted only
+    /// where some press.
+    fn more_press(&self, board: &Board, task: usize) -> bool
+        requires at_hand { IsOfTable self.now.config.now board.now }
+        requires task { task < length self.now.config.now.tasks }
+        ensures { Within self.now board.now (λ s acts. result
+            ≡ nat_lt (rules.surplus s (so_far s acts) task)
+            (pressing s (so_far s acts) task)) }
+    {
+        let pressing = self.pressing(board, task);
+        if pressing == 0 {
+            return false;
+        }
+        self.surplus(board, task) < pressing
+    }
+
+    /// Whether a task waits: more of its threads press than have a helper, it may book one more
+    /// core, and it has a thread that may be granted one.
+    pub fn waits(&self, board: &Board, task: usize) -> bool
+        requires at_hand { IsOfTable self.now.config.now board.now }
+        requires task { task < length self.now.config.now.tasks }
+        ensures { Within self.now board.now (λ s acts. result
+            ≡ rules.waits s (so_far s acts) task) }
+    {
+        self.more_press(board, task)
+            && self.may_book(board, task)
+            && self.choose_thread(board, task).is_some()
+    }
+
+    /// Whether a task is short and waits.
+    pub fn waits_short(&self, board: &Board, task: usize) -> bool
+        requires at_hand { IsOfTable self.now.config.now board.now }
+        requires task { task < length self.now.config.now.tasks }
+        ensures { Within self.now board.now (λ s acts. result
+            ≡ rules.waits_short s (so_far s acts) task) }
+    {
+        self.is_short(board, task) && self.waits(board, task)
+    }
+
+    /// Whether some short task waits.
+    pub fn some_waits_short(&self, board: &Board) -> bool
+        requires at_hand { IsOfTable self.now.config.now board.now }
+        ensures { Within self.now board.now (λ s acts. result
+            ≡ rules.some_waits_short s (so_far s acts)) }
+    {
+        for task in 0..self.config.tasks() {
+            if self.waits_short(board, task) {
+                return true;
+            }
+        }
+        false
+    }
+
+    /// Whether open cores are lacked: some short task waits, and no more cores are open than are
+    /// lacking.
+    pub fn are_lacked(&self, board: &Board) -> bool
+        requires at_hand { IsOfTable self.now.config.now board.now }
+        ensures { Within self.now board.now (λ s acts. result
+            ≡ rules.are_lacked s (so_far s acts)) }
+    {
+        self.some_waits_short(board) && self.open_cores(board) <= self.lacking(board)
+    }
+
+    /// Whether open cores are wanted: some short task waits, and fewer cores are open than are
+    /// lacking.
+    pub fn are_wanted(&self, board: &Board) -> bool
+        requires at_hand { IsOfTable self.now.config.now board.now }
+        ensures { Within self.now board.now (λ s acts. result
+            ≡ rules.are_wanted s (so_far s acts)) }
+    {
+        self.some_waits_short(board) && self.open_cores(board) < self.lacking(board)
+    }
+}

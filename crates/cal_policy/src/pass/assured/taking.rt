@@ -1,0 +1,217 @@
+//! Which core a task takes: an open one that is not kept from it, else one that another holds.
+
+ghost use Rattle.std.specs.Prelude.{◌≡◌, ◌<◌, ◌&&◌, not, length};
+ghost use Rattle.std.specs.Option.{IfSome};
+ghost use Rattle.cal_machine.specs.TableTasks.{threads_of_table};
+ghost use Rattle.cal_policy.specs.Assured.AtTurn.{is_lacked_by_others};
+ghost use Rattle.cal_policy.specs.Assured.Taking as rules;
+ghost use Rattle.cal_policy.specs.Board.{placement_of};
+ghost use Rattle.cal_policy.specs.History.CoreClasses.{comes_before};
+ghost use Rattle.cal_policy.specs.History.{holder_of};
+ghost use Rattle.cal_policy.specs.Pass.AtHand.{Within};
+ghost use Rattle.cal_policy.specs.Pass.Choice.{best_below};
+ghost use Rattle.cal_policy.specs.Pass.Grants.{is_granted_in};
+ghost use Rattle.cal_policy.specs.Setting.{so_far, has_room};
+ghost use Rattle.cal_policy.specs.State.{IsOfTable};
+
+use crate::board::Board;
+use crate::board::core_sets::next_core;
+use crate::board::holders::Holder;
+use crate::history::core_class::CoreClass;
+use crate::pass::Pass;
+use crate::pass::assured::kept::is_owed_to;
+use crate::pass::choice::{Candidate, first_class};
+
+impl Pass<'_> {
+    /// The class of a core that the task may take; `lacked` says whether each open core is lacked
+    /// by others.
+    fn open_class(&self, board: &Board, task: usize, core: u8, lacked: bool) -> Option<CoreClass>
+        requires at_hand { IsOfTable self.now.config.now board.now }
+        requires task { task < length self.now.config.now.tasks }
+        requires core { core < self.now.config.now.cores }
+        ensures { Within self.now board.now (λ s acts.
+            lacked ≡ is_lacked_by_others s (so_far s acts) task →
+            result ≡ rules.open_class s (so_far s acts) task core) }
+    {
+        if self.may_take(board, task, core, lacked) {
+            Some(self.class_if_idle(board, task, core))
+        } else {
+            None
+        }
+    }
+
+    /// The same, of a core that is owed to the task.
+    fn owed_class(&self, board: &Board, task: usize, core: u8, lacked: bool) -> Option<CoreClass>
+        requires at_hand { IsOfTable self.now.config.now board.now }
+        requires task { task < length self.now.config.now.tasks }
+        requires core { core < self.now.config.now.cores }
+        ensures { Within self.now board.now (λ s acts.
+            lacked ≡ is_lacked_by_others s (so_far s acts) task →
+            result ≡ rules.owed_class s (so_far s acts) task core) }
+    {
+        self.config.limits();
+        if is_owed_to(board, task, core) {
+            self.open_class(board, task, core, lacked)
+        } else {
+            None
+        }
+    }
+
+    /// Of the cores that are owed to the task and that it may take the one of the least class, the
+    /// lowest of those.
+    fn choose_owed(&self, board: &Board, task: usize, lacked: bool) -> Option<Candidate<CoreClass>>
+        requires at_hand { IsOfTable self.now.config.now board.now }
+        requires task { task < length self.now.config.now.tasks }
+        ensures choice { Within self.now board.now (λ s acts.
+            lacked ≡ is_lacked_by_others s (so_far s acts) task →
+            result ≡ best_below comes_before (rules.owed_class s (so_far s acts) task)
+            self.now.config.now.cores) }
+        ensures below { IfSome result (λ best. best.number < self.now.config.now.cores) }
+    {
+        let mut best: Option<Candidate<CoreClass>> = None;
+        let mut first = 0;
+        while let Some(core) = next_core(self.config, &board.open_cores.idle, first) {
+            let class = self.owed_class(board, task, core, lacked);
+            best = first_class(best, class, core);
+            first = core + 1;
+        }
+        best
+    }
+
+    /// Of all that the task may take the one of the least class, the lowest of those.
+    fn choose_any(&self, board: &Board, task: usize, lacked: bool) -> Option<Candidate<CoreClass>>
+        requires at_hand { IsOfTable self.now.config.now board.now }
+        requires task { task < length self.now.config.now.tasks }
+        ensures choice { Within self.now board.now (λ s acts.
+            lacked ≡ is_lacked_by_others s (so_far s acts) task →
+            result ≡ best_below comes_before (rules.open_class s (so_far s acts) task)
+            self.now.config.now.cores) }
+        ensures below { IfSome result (λ best. best.number < self.now.config.now.cores) }
+    {
+        let mut best: Option<Candidate<CoreClass>> = None;
+        let mut first = 0;
+        while let Some(core) = next_core(self.config, &board.open_cores.idle, first) {
+            let class = self.open_class(board, task, core, lacked);
+            best = first_class(best, class, core);
+            first = core + 1;
+        }
+        best
+    }
+
+    /// The open core that the task takes: those that are owed to it come first.
+    pub fn choose_open(&self, board: &Board, task: usize) -> Option<Candidate<CoreClass>>
+        requires at_hand { IsOfTable self.now.config.now board.now }
+        requires task { task < length self.now.config.now.tasks }
+        ensures choice { Within self.now board.now (λ s acts. result
+            ≡ rules.open_choice s (so_far s acts) task) }
+        ensures below { IfSome result (λ best. best.number < self.now.config.now.cores) }
+    {
+        let lacked = self.is_lacked_by_others(board, task);
+        match self.choose_owed(board, task, lacked) {
+            Some(owed) => Some(owed),
+            None => self.choose_any(board, task, lacked),
+        }
+    }
+
+    /// Whether a core that `thread` holds may be taken from it: its ring has room, and the core was
+    /// not granted in this pass.
+    fn may_be_taken(&self, board: &Board, core: u8, thread: u8) -> bool
+        requires at_hand { IsOfTable self.now.config.now board.now }
+        requires core { core < self.now.config.now.cores }
+        requires thread { thread < threads_of_table self.now.config.now }
+        ensures { Within self.now board.now (λ s acts. result
+            ≡ (has_room s thread && not (is_granted_in acts core))) }
+    {
+        self.has_room(thread as usize) && !board.fresh.has(core)
+    }
+
+    /// The class of a core by its holder, where a thread holds it that may lose it.
+    fn class_if_held(
+        &self,
+        board: &Board,
+        task: usize,
+        core: u8,
+        holder: Holder,
+    ) -> Option<CoreClass>
+        requires at_hand { IsOfTable self.now.config.now board.now }
+        requires task { task < length self.now.config.now.tasks }
+        requires core { core < self.now.config.now.cores }
+        requires holder { IfSome (placement_of holder)
+            (λ placement. placement.thread < threads_of_table self.now.config.now) }
+        ensures { Within self.now board.now (λ s acts. result
+            ≡ rules.held_class s acts task core holder) }
+    {
+        match holder {
+            Holder::Held(placement) => {
+                if self.may_be_taken(board, core, placement.thread) {
+                    self.preempt_class(board, task, self.config.task_of(placement.thread as usize))
+                } else {
+                    None
+                }
+            }
+            Holder::Free => None,
+            Holder::Leaving(..) => None,
+        }
+    }
+
+    /// The class of a core that another task holds.
+    fn held_class(&self, board: &Board, task: usize, core: u8) -> Option<CoreClass>
+        requires at_hand { IsOfTable self.now.config.now board.now }
+        requires task { task < length self.now.config.now.tasks }
+        requires core { core < self.now.config.now.cores }
+        ensures { Within self.now board.now (λ s acts. result
+            ≡ rules.held_class s acts task core (holder_of (so_far s acts) core)) }
+    {
+        self.config.limits();
+        self.class_if_held(board, task, core, board.holding.holders[core as usize])
+    }
+
+    /// Of the cores that others hold the one of the least class, the lowest of those.
+    fn choose_held(&self, board: &Board, task: usize) -> Option<Candidate<CoreClass>>
+        requires at_hand { IsOfTable self.now.config.now board.now }
+        requires task { task < length self.now.config.now.tasks }
+        ensures choice { Within self.now board.now (λ s acts. result
+            ≡ rules.held_choice s acts task) }
+        ensures below { IfSome result (λ best. best.number < self.now.config.now.cores) }
+    {
+        let mut best: Option<Candidate<CoreClass>> = None;
+        let mut first = 0;
+        while let Some(core) = next_core(self.config, &board.sets.taken, first) {
+            let class = self.held_class(board, task, core);
+            best = first_class(best, class, core);
+            first = core + 1;
+        }
+        best
+    }
+
+    /// Whether a core may be revoked for the task: it is latency-critical, and more of its threads
+    /// press than cores are coming to it and helpers on their way.
+    fn may_revoke_for(&self, board: &Board, task: usize) -> bool
+        requires at_hand { IsOfTable self.now.config.now board.now }
+        requires task { task < length self.now.config.now.tasks }
+        ensures { Within self.now board.now (λ s acts. result
+            ≡ rules.may_preempt s (so_far s acts) task) }
+    {
+        let on_their_way = self.coming(board, task) + self.surplus(board, task);
+        self.config.is_latency_critical(task) && on_their_way < self.pressing(board, task)
+    }
+
+    /// The core that the task takes: an open one; where there is none, and one may be revoked for
+    /// it, one that another holds.
+    pub fn choose_for(&self, board: &Board, task: usize) -> Option<Candidate<CoreClass>>
+        requires at_hand { IsOfTable self.now.config.now board.now }
+        requires task { task < length self.now.config.now.tasks }
+        ensures choice { Within self.now board.now (λ s acts. result
+            ≡ rules.choice_for s acts task) }
+        ensures below { IfSome result (λ best. best.number < self.now.config.now.cores) }
+    {
+        if let Some(open) = self.choose_open(board, task) {
+            return Some(open);
+        }
+        if self.may_revoke_for(board, task) {
+            self.choose_held(board, task)
+        } else {
+            None
+        }
+    }
+}

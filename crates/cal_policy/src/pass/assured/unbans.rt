@@ -1,0 +1,96 @@
+//! The second part of a pass of `Policy::Assured`: bans end, and those that stand in the way of a
+//! short task that waits.
+
+ghost use Rattle.std.specs.Prelude.{◌≡◌, ◌*◌, ◌+◌, ◌<◌, ◌≤◌, ◌++◌, List, length, option_to_list};
+ghost use Rattle.std.specs.Prelude.{◌&&◌};
+ghost use Rattle.std.specs.Option.{IfSome};
+ghost use Rattle.cal_machine.specs.declared.machine.TheConstants.{MOST_PAIRS};
+ghost use Rattle.cal_policy.specs.declared.history.action_list.TheConstants.{MOST_ACTIONS};
+ghost use Rattle.cal_policy.specs.declared.history.action.Action.{Action};
+ghost use Rattle.cal_policy.specs.Assured.Hyperthreads.{unban_at, unbans};
+ghost use Rattle.cal_policy.specs.Assured.Short as short;
+ghost use Rattle.cal_policy.specs.Board.{NamesTable};
+ghost use Rattle.cal_policy.specs.Board.Counts as counts;
+ghost use Rattle.cal_policy.specs.History.{holder_of};
+ghost use Rattle.cal_policy.specs.History.Lists.{in_pair};
+ghost use Rattle.cal_policy.specs.Pass.AtHand.{setting_in, Within};
+ghost use Rattle.cal_policy.specs.Pass.Bans.{NoPairBanned};
+ghost use Rattle.cal_policy.specs.Setting.{Begun, so_far};
+ghost use Rattle.cal_policy.specs.State.{IsReady, IsOfTable, Stands};
+
+use crate::board::Board;
+use crate::board::core_sets::next_core;
+use crate::board::cores::is_free;
+use crate::history::action::Action;
+use crate::history::action_list::Actions;
+use crate::pass::Pass;
+use crate::pass::unbans::shows_still;
+
+impl Pass<'_> {
+    /// Whether a core is free and wanted by a short task that waits.
+    fn is_free_and_wanted(&self, board: &Board, core: u8) -> bool
+        requires at_hand { IsOfTable self.now.config.now board.now }
+        requires core { core < self.now.config.now.cores }
+        ensures { Within self.now board.now (λ s acts. result
+            ≡ (counts.is_free (holder_of (so_far s acts) core)
+            && short.are_wanted s (so_far s acts))) }
+    {
+        self.config.limits();
+        is_free(board, core) && self.are_wanted(board)
+    }
+
+    /// The end of the core's ban, where it has one that ends.
+    fn ban_end(&self, board: &Board, core: u8) -> Option<Action>
+        requires at_hand { IsOfTable self.now.config.now board.now }
+        requires core { core < self.now.config.now.cores }
+        ensures due { Within self.now board.now (λ s acts. option_to_list result
+            ≡ unban_at s acts core) }
+        ensures names { IfSome result (NamesTable self.now.config.now) }
+    {
+        let beside = self.config.machine().sibling(core);
+        let ban = board.bans.bans[core as usize]?;
+        let rec = &board.keeping.kept[ban.thread as usize];
+        if shows_still(rec, beside, ban.started) && !self.is_free_and_wanted(board, core) {
+            None
+        } else {
+            Some(Action::Unban { core })
+        }
+    }
+
+    /// The end of the ban on a core of this pair. At most one of the two cores is banned.
+    fn ban_end_in_pair(&self, board: &Board, pair: u8) -> Option<Action>
+        requires at_hand { IsOfTable self.now.config.now board.now }
+        requires pair { 2 * pair + 1 < self.now.config.now.cores }
+        ensures due { (h : Begun) (acts : List Action) →
+            let s = setting_in self.now h in
+            NoPairBanned (so_far s acts) → Stands board.now (setting_in self.now h) acts →
+            option_to_list result ≡ in_pair (unban_at s) acts pair }
+        ensures names { IfSome result (NamesTable self.now.config.now) }
+    {
+        match self.ban_end(board, 2 * pair) {
+            Some(action) => Some(action),
+            None => self.ban_end(board, 2 * pair + 1),
+        }
+    }
+
+    /// Ends each ban whose thread no longer shows the core beside and the request that it was for,
+    /// and that of each free core while open cores are wanted. The banned cores are visited upwards,
+    /// pair by pair, and a pair gives at most one action.
+    pub fn end_bans_in_the_way(&self, board: &mut Board, out: &mut Actions)
+        requires of_table { IsOfTable self.now.config.now board.old }
+        requires room { length out.old + MOST_PAIRS ≤ MOST_ACTIONS }
+        ensures acts { (h : Begun) → let s = setting_in self.now h in
+            NoPairBanned (so_far s out.old) → Stands board.old s out.old →
+            (out.new ≡ out.old ++ unbans s out.old) × Stands board.new s out.new }
+        ensures ready { IsReady self.now.config.now board.new }
+        ensures length { length out.new ≤ length out.old + MOST_PAIRS }
+    {
+        let mut next = 0;
+        while let Some(core) = next_core(self.config, &board.sets.banned, 2 * next) {
+            let pair = core / 2;
+            let action = self.ban_end_in_pair(board, pair);
+            self.make(board, out, action);
+            next = pair + 1;
+        }
+    }
+}
