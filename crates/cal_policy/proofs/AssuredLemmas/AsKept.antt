@@ -18,7 +18,7 @@ use Rattle.cal_policy.specs.Assured.Taking.{held_class, open_class, owed_class}
 use Rattle.cal_policy.specs.Board.{kept_holder, kept_number, kept_placement, holder_in}
 use Rattle.cal_policy.specs.Board.Counts.{is_free, is_with}
 use Rattle.cal_policy.specs.Board.CoreSets.{Sorts}
-use Rattle.cal_policy.specs.History.{holder_of, is_banned}
+use Rattle.cal_policy.specs.History.{holder_of}
 use Rattle.cal_policy.specs.Pass.Choice.{count_below}
 use Rattle.cal_policy.specs.Setting.{Setting, so_far}
 use Rattle.cal_policy.specs.State.{Agrees, IsReady, Stands}

@@ -1,12 +1,10 @@
 -- Each action of a pass of the second policy fits the state at its place, and leaves a steady one.
-use Rattle.std.proofs.Common.{◌≡◌, ℕ, ◌<◌, Bool, true, false, ◌&&◌, ◌||◌, not, cond, eqb, ltb, nat_lt, None, List, [], ◌∷◌, ◌++◌, length, Some, refl, sym, ap, ◌∙◌, inl, inr, subst}
+use Rattle.std.proofs.Common.{◌≡◌, ℕ, ◌<◌, Bool, true, ◌&&◌, ◌||◌, not, cond, eqb, ltb, nat_lt, None, List, [], ◌∷◌, ◌++◌, length, Some, refl, sym, ap, ◌∙◌, subst}
 use Rattle.std.specs.Option.{is_some}
 use Rattle.std.proofs.lemmas.Bool.{lt-ltb, and_parts, and_from}
-use Rattle.cal_machine.specs.Table.{Table, IsTable}
-use Rattle.cal_machine.specs.Machine.{sibling_of}
+use Rattle.cal_machine.specs.Table.{IsTable}
 use Rattle.cal_machine.specs.TableTasks.{owner_of, threads_of_table, limit_of, is_latency_critical}
 use Rattle.cal_machine.proofs.Booleans.{some_else}
-use Rattle.cal_machine.proofs.Siblings.{pairs}
 use Rattle.cal_policy.specs.declared.history.action.Action.{Action}
 use Rattle.cal_policy.specs.declared.history.action.Action.TheVariants.{Free, Unban, Ban, Revoke, Cap, Grant}
 use Rattle.cal_policy.specs.declared.history.action.Cause.TheVariants as causes

@@ -1,5 +1,5 @@
 -- A legal history of the second policy is orderly.
-use Rattle.std.proofs.Common.{◌≡◌, ℕ, ◌<◌, ◌≤◌, true, zero, suc, List, [], ◌∷◌, ◌++◌, length, take, Some, sym, arith, subst, append_assoc, ⊎_elim}
+use Rattle.std.proofs.Common.{◌≡◌, ℕ, ◌<◌, ◌≤◌, zero, suc, List, [], ◌∷◌, ◌++◌, length, take, Some, sym, arith, subst, append_assoc, ⊎_elim}
 use Rattle.std.specs.List.{slice_get}
 use Rattle.std.proofs.lemmas.List.{append-nil}
 use Rattle.std.proofs.lemmas.Option.{slice_get_cases, slice_get_within}
@@ -8,7 +8,7 @@ use Rattle.cal_policy.specs.declared.history.action.Action.{Action}
 use Rattle.cal_policy.specs.declared.history.entry.PassEntry.{PassEntry}
 use Rattle.cal_policy.specs.Assured.Pass.{pass_of, IsPass, IsLegal}
 use Rattle.cal_policy.specs.History.{actions_of}
-use Rattle.cal_policy.specs.Judgement.Orderly.{IsOrderlyEntry, IsOrderly}
+use Rattle.cal_policy.specs.Judgement.Orderly.{IsOrderly}
 use Rattle.cal_policy.specs.Pass.Made.{EachAfter}
 use Rattle.cal_policy.specs.Pass.Steady.{IsSteady}
 use Rattle.cal_policy.specs.Setting.{Setting, setting_of, so_far}

@@ -1,5 +1,5 @@
 -- The cores that a task had last, as the board keeps them.
-use Rattle.std.proofs.Common.{◌≡◌, ℕ, ◌<◌, ◌&&◌, Bool, true, false, List, Option, Some, None, ap, sym, ◌∙◌}
+use Rattle.std.proofs.Common.{◌≡◌, ℕ, ◌<◌, List, Option, Some, None, ap, sym, ◌∙◌}
 use Rattle.std.specs.Option.{IfSome, option_map}
 use Rattle.cal_machine.specs.Table.{Table}
 use Rattle.cal_machine.specs.declared.task_table.TheConstants.{MOST_TASKS}

@@ -1,5 +1,5 @@
 -- The turns of a pass, and what each makes.
-use Rattle.std.specs.Prelude.{ℕ, ◌+◌, ◌<◌, nat_lt, if◌then◌else◌, Bool, List, [], ◌++◌, length}
+use Rattle.std.specs.Prelude.{ℕ, ◌+◌, ◌<◌, nat_lt, if◌then◌else◌, List, [], length}
 use Rattle.cal_machine.specs.Table.{Table}
 use Rattle.cal_machine.specs.declared.task.Kind.TheVariants as kinds
 use Rattle.cal_policy.specs.declared.history.action.Action.{Action}

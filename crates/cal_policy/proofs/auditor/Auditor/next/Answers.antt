@@ -1,9 +1,7 @@
-use Rattle.std.proofs.Common.{◌≡◌, ◌-◌, ◌^◌, ◌<◌, ◌++◌, ◌∷◌, [], List, length, min, subst, sym, arith, length-append}
+use Rattle.std.proofs.Common.{◌≡◌, ◌-◌, ◌^◌, ◌++◌, ◌∷◌, [], length, min, subst, arith, length-append}
 use Rattle.std.proofs.lemmas.Bool.{both_ways}
 use Rattle.cal_policy.specs.Auditor.{KeepsUp}
-use Rattle.cal_policy.specs.Policies.{IsPassBy, IsLegalBy, IsVerdictBy, IsAuditBy}
-use Rattle.cal_policy.specs.declared.history.entry.PassEntry.{PassEntry}
-use Rattle.cal_policy.specs.declared.policy.Policy.{Policy}
+use Rattle.cal_policy.specs.Policies.{IsPassBy, IsLegalBy, IsVerdictBy}
 use Rattle.cal_policy.specs.declared.policy.Policy.TheVariants.{Caladan}
 use Rattle.cal_policy.specs.declared.verdict.Verdict.TheVariants.{Legal, Illegal}
 use Rattle.cal_policy.proofs.PolicyLemmas.{audit_parts, audit_from, verdict_stays, verdict_more, verdict_here, legal_of}

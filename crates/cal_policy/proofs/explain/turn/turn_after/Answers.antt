@@ -1,5 +1,5 @@
 -- Each turn is followed by the next of its part, and the last of a part by the first of the next.
-use Rattle.std.proofs.Common.{◌≡◌, ◌+◌, ◌<◌, length, ap, refl, arith}
+use Rattle.std.proofs.Common.{◌≡◌, ◌+◌, length, ap, refl, arith}
 use Rattle.cal_machine.specs.Table.{Table}
 use Rattle.cal_machine.specs.declared.task.Kind.TheVariants as kinds
 use Rattle.cal_policy.specs.Pass.Bans.{unban_at, bans_at}

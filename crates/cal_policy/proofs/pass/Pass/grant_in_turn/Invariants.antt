@@ -1,4 +1,4 @@
-use Rattle.std.proofs.Common.{◌≡◌, ◌+◌, ◌≤◌, length}
+use Rattle.std.proofs.Common.{◌+◌, ◌≤◌, length}
 use Rattle.cal_policy.specs.Assured.Grants.{grant_in_place}
 use Rattle.cal_policy.specs.Assured.Order.{task_in_place}
 use Rattle.cal_policy.specs.Pass.AtHand.{setting_in}

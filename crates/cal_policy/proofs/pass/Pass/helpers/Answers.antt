@@ -1,4 +1,4 @@
-use Rattle.std.proofs.Common.{◌≡◌, ℕ, ◌+◌, ◌≤◌, Bool, ap, ◌∙◌, arith}
+use Rattle.std.proofs.Common.{◌≡◌, ◌+◌, ap, ◌∙◌, arith}
 use Rattle.cal_machine.specs.TableTasks.{thread_of, limit_of}
 use Rattle.cal_policy.specs.Assured.InFlight.{helps}
 use Rattle.cal_policy.specs.Pass.AtHand.{setting_in}

@@ -1,5 +1,5 @@
 -- A core that the thread holds by an untaken Run is counted.
-use Rattle.std.proofs.Common.{◌≡◌, ℕ, ◌<◌, Bool, true, refl, sym, ◌∙◌, arith}
+use Rattle.std.proofs.Common.{◌≡◌, ℕ, ◌<◌, Bool, refl, sym, ◌∙◌, arith}
 use Rattle.cal_policy.specs.Assured.InFlight.{is_untaken}
 use Rattle.cal_policy.specs.History.{holder_of}
 use Rattle.cal_policy.specs.Pass.AtHand.{setting_in}
@@ -7,7 +7,7 @@ use Rattle.cal_policy.specs.Setting.{so_far, kept_now}
 use Rattle.cal_policy.proofs.AssuredLemmas.AsKept.{none_untaken}
 use Rattle.cal_policy.proofs.AssuredLemmas.Sent.{all_taken}
 use Rattle.cal_policy.proofs.AssuredLemmas.Counting.{some_passes, none_passes}
-use Rattle.cal_policy.proofs.BoardLemmas.StateKept.{some_counted, none_more}
+use Rattle.cal_policy.proofs.BoardLemmas.StateKept.{none_more}
 use Rattle.cal_policy.proofs.pass.Pass.is_in_flight.Goals as goal
 
 pub returns-then-has_no_core : goal.returns-then-has_no_core

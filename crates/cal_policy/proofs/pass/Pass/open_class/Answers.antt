@@ -1,4 +1,4 @@
-use Rattle.std.proofs.Common.{None, Some, Option, ap, ◌∙◌}
+use Rattle.std.proofs.Common.{Some, ap, ◌∙◌}
 use Rattle.cal_policy.specs.declared.history.core_class.CoreClass.{CoreClass}
 use Rattle.cal_policy.specs.Assured.Taking.{may_take}
 use Rattle.cal_policy.specs.Pass.AtHand.{setting_in}

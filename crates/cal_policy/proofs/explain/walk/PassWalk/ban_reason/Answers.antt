@@ -1,4 +1,4 @@
-use Rattle.std.proofs.Common.{◌≡◌, subst}
+use Rattle.std.proofs.Common.{subst}
 use Rattle.cal_policy.specs.Explain.Asked.{IsBanReason}
 use Rattle.cal_policy.specs.Setting.{Setting, so_far}
 use Rattle.cal_policy.proofs.explain.walk.PassWalk.ban_reason.Goals as goal

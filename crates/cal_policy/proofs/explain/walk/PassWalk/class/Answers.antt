@@ -1,6 +1,6 @@
 use Rattle.std.proofs.Common.{◌≡◌, subst}
 use Rattle.cal_policy.specs.Pass.Grants.{class_of}
-use Rattle.cal_policy.specs.Setting.{Setting, so_far}
+use Rattle.cal_policy.specs.Setting.{Setting}
 use Rattle.cal_policy.proofs.explain.walk.PassWalk.class.Goals as goal
 
 pub returns : goal.returns

@@ -1,5 +1,5 @@
 -- What the turn makes stands after the actions before it, and the next turn after that.
-use Rattle.std.proofs.Common.{◌≡◌, ap, refl, ◌∙◌}
+use Rattle.std.proofs.Common.{ap, refl, ◌∙◌}
 use Rattle.cal_policy.specs.Explain.Turns.{made_in}
 use Rattle.cal_policy.specs.Explain.Walks.{setting_of}
 use Rattle.cal_policy.proofs.ExplainLemmas.{taken}
