@@ -4,6 +4,7 @@
 -- task, is Caladan's.
 pub mod Agreement
 pub mod Entries
+pub mod OnCores
 pub mod Thread
 pub mod Turns
 use Rattle.std.specs.Prelude.{ℕ, zero, suc, ◌+◌, ◌-◌, ◌^◌, ◌<◌, min, ◌&&◌, not}

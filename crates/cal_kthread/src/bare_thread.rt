@@ -1,17 +1,24 @@
 //! A kernel thread that keeps no journal, and its turns.
+
+mod on_cores;
+
 ghost use Rattle.std.specs.Prelude.{◌≡◌, ◌<◌, ◌≤◌, ◌++◌, length, IfOk, IfSome, MatchResult};
 ghost use Rattle.cal_kthread.specs.Journal.{IsJournal, records_of, commands_of};
 ghost use Rattle.cal_kthread.specs.Team.{place_of};
+ghost use Rattle.cal_kthread.specs.Turn.OnCores.{would_bring};
 ghost use Rattle.cal_kthread.specs.Turn.{Answers, AreAnswers, turned};
 ghost use Rattle.cal_kthread.specs.Turn.Entries.{entries_of};
 ghost use Rattle.cal_kthread.specs.Turn.Turns.{IsOneTurn};
 ghost use Rattle.cal_signal.specs.Pages.{last_published};
+ghost use Rattle.cal_signal.specs.Records.{IsShaped};
 ghost use Rattle.cal_signal.specs.declared.publisher.TheConstants.{LAST_PLACE};
 
 use crate::journal::entry::Entry;
 use crate::turn::entries::{TurnEntries, note_turn};
+use crate::turn::steps::misses_of;
 use crate::turn::thread::Thread;
 use cal_machine::{Past, Request};
+use cal_signal::Record;
 use std::alloc::AllocError;
 use std::marker::Model;
 
@@ -94,6 +101,31 @@ impl BareThread {
         };
         note_turn(&mut self.past, &entries);
         Ok(entries)
+    }
+
+    /// The record that it published last, the zero record before its first turn.
+    pub fn last_record(&self) -> Record
+        ensures last { result ≡ last_published self.now.thread.publisher.published }
+        ensures shaped { IsShaped result }
+    {
+        self.agrees();
+        self.shown()
+    }
+
+    /// The last record, of which nothing more is said.
+    fn shown(&self) -> Record
+        ensures { result ≡ last_published self.now.thread.publisher.published }
+    {
+        let (_, last) = self.thread.publisher.last();
+        last
+    }
+
+    /// The misses that a turn's work costs of the request that it serves on its core: 0 off a core,
+    /// and where it serves none.
+    pub fn would_bring(&self) -> u64
+        ensures { result ≡ would_bring self.now.thread }
+    {
+        misses_of(self.thread.core, self.thread.current)
     }
 
     /// The clock of its last turn, in ticks, or 0 before the first: no turn may have a lower one.

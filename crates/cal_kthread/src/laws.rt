@@ -6,12 +6,23 @@ ghost use Rattle.cal_kthread.specs.Journal.Entries.{EachMayCome, FrontIsJournal,
 ghost use Rattle.cal_kthread.specs.Journal.Entries.{OthersChangeNothing, RecordShowsTaken};
 ghost use Rattle.cal_kthread.specs.End.OnePlace.{NeverIsNowhere, OnceIsInOnePlace};
 ghost use Rattle.cal_kthread.specs.Team.Turns.{TurnKeepsPlace, SamePlaceKeepsTeam};
+ghost use Rattle.cal_kthread.specs.Turn.OnCores.{TurnOnAllIsTurn, TurnOnKeepsPlace};
 ghost use Rattle.cal_kthread.specs.Turn.Turns.{OneTurnMore, TurnsAddUp};
 
 /// A turn leaves the thread its place in its team: its queue, its own end's shares of it, and its
 /// thieves, each at the queue of the same thread.
 pub fn turn_keeps_place()
     ensures { TurnKeepsPlace }
+{}
+
+/// So does a turn on some cores.
+pub fn turn_on_keeps_place()
+    ensures { TurnOnKeepsPlace }
+{}
+
+/// A turn of a thread that works on all cores is a turn.
+pub fn turn_on_all_is_turn()
+    ensures { TurnOnAllIsTurn }
 {}
 
 /// What a turn adds (its clause `added`) after some turns makes one turn more.
@@ -21,7 +32,8 @@ pub fn one_turn_more()
 
 /// Turns of a thread that began with an empty journal publish one record each, with its clock as
 /// the stamp; what arrived is what they were given; and each put at most five entries into the
-/// journal. So 209,714 turns never fill it.
+/// journal. So 209,714 turns never fill it. It holds of turns on some cores too, and of both kinds
+/// in any order: their clauses `added` say the same.
 pub fn turns_add_up()
     ensures { TurnsAddUp }
 {}

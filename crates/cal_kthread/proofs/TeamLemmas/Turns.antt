@@ -1,6 +1,6 @@
 -- A turn keeps its thread's place in its team, its page and its ring: it changes no shares and no
 -- thieves.
-use Rattle.std.proofs.Common.{◌≡◌, ℕ, zero, suc, Option, Some, None, List, [], ◌∷◌, map, sym, refl, ap, ◌∙◌, subst}
+use Rattle.std.proofs.Common.{◌≡◌, ℕ, zero, suc, Bool, true, false, Option, Some, None, List, [], ◌∷◌, map, sym, refl, ap, ◌∙◌, subst}
 use Rattle.cal_machine.specs.declared.command.Command.{Command}
 use Rattle.cal_machine.specs.declared.request.Request.{Request}
 use Rattle.cal_command.specs.Rings.{RingId, TakerView}
@@ -11,8 +11,9 @@ use Rattle.cal_kthread.specs.declared.queue.waiting.Waiting.{Waiting}
 use Rattle.cal_kthread.specs.Queue.{QueueId, QueueView}
 use Rattle.cal_kthread.specs.Team.{IsTeam, Place, place_of, thief_place}
 use Rattle.cal_kthread.specs.Team.Turns.{TurnKeepsPlace, SamePlaceKeepsTeam}
+use Rattle.cal_kthread.specs.Turn.OnCores.{TurnOnAllIsTurn, TurnOnKeepsPlace, core_in_turn, does_work, provided_if, worked_if, turned_if}
 use Rattle.cal_kthread.specs.Turn.Thread.{ThreadView, KernelView}
-use Rattle.cal_kthread.specs.Turn.{Answers, arrived, taken, robbed, provided, worked, worked_on, fronted, turned}
+use Rattle.cal_kthread.specs.Turn.{Answers, arrived, taken, robbed, provided, worked_on, fronted}
 use Rattle.cal_kthread.proofs.ListSums.{map-set-like}
 
 -- a thief that stole is at the same queue
@@ -63,33 +64,57 @@ works-on None current t = refl
 works-on (Some core) None t = refl
 works-on (Some core) (Some current) t = refl
 
+provides-if : (does : Bool) (now : ℕ) (answer : Option Waiting) (theft : Option (ℕ × Waiting)) (t : ThreadView) → kept_of (provided_if does now answer theft t).0 ≡ kept_of t
+provides-if true now answer theft t = provides now answer theft t
+provides-if false now answer theft t = refl
+
+works-if : (does : Bool) (t : ThreadView) → kept_of (worked_if does t).0 ≡ kept_of t
+works-if true t = works-on t.core t.current t
+works-if false t = refl
+
 fronts : (answer : Option Waiting) (t : ThreadView) → kept_of (fronted answer t) ≡ kept_of t
 fronts answer t = fronts-at t.publisher t.taker t.queue t.sources t.misses t.core t.current t.front answer
 
--- the thread as it is before its turn publishes
-abbrev pub unpublished : ℕ → Option Request → Answers → ThreadView → ThreadView
-unpublished now request answers t = fronted answers.front (worked (provided now answers.own answers.theft
+-- the thread as it is before its turn publishes, where the third step is done and where it is not
+abbrev pub unpublished : Bool → ℕ → Option Request → Answers → ThreadView → ThreadView
+unpublished does now request answers t = fronted answers.front (worked_if does (provided_if does now answers.own answers.theft
     (taken now answers.command (arrived now request t).0).0).0).0
 
-pub kept : (now : ℕ) (request : Option Request) (answers : Answers) (t : ThreadView) → kept_of (unpublished now request answers t) ≡ kept_of t
-kept now request answers t =
+pub kept : (does : Bool) (now : ℕ) (request : Option Request) (answers : Answers) (t : ThreadView) → kept_of (unpublished does now request answers t) ≡ kept_of t
+kept does now request answers t =
     let one = arrived now request t in
     let two = taken now answers.command one.0 in
-    let three = provided now answers.own answers.theft two.0 in
-    let four = worked three.0 in
-    fronts answers.front four.0 ∙ works-on three.0.core three.0.current three.0 ∙ provides now answers.own answers.theft two.0
+    let three = provided_if does now answers.own answers.theft two.0 in
+    let four = worked_if does three.0 in
+    fronts answers.front four.0 ∙ works-if does three.0 ∙ provides-if does now answers.own answers.theft two.0
     ∙ takes now answers.command one.0 ∙ arrives now request t
 
+pub keeps-place-if : (does : Bool) (now : ℕ) (request : Option Request) (answers : Answers) (k : KernelView)
+    → place_of (turned_if does now request answers k).thread ≡ place_of k.thread
+keeps-place-if does now request answers k = ap (λ (z : Kept). z.0) (kept does now request answers k.thread)
+
+pub keeps-page : (does : Bool) (now : ℕ) (request : Option Request) (answers : Answers) (k : KernelView)
+    → (turned_if does now request answers k).thread.publisher.page ≡ k.thread.publisher.page
+keeps-page does now request answers k = ap (λ (z : Kept). z.1.page) (kept does now request answers k.thread)
+
+pub keeps-ring : (does : Bool) (now : ℕ) (request : Option Request) (answers : Answers) (k : KernelView)
+    → (turned_if does now request answers k).thread.taker.ring ≡ k.thread.taker.ring
+keeps-ring does now request answers k = ap (λ (z : Kept). z.2) (kept does now request answers k.thread)
+
 pub keeps-place : TurnKeepsPlace
-keeps-place now request answers k = ap (λ (z : Kept). z.0) (kept now request answers k.thread)
+keeps-place = keeps-place-if true
 
-pub keeps-page : (now : ℕ) (request : Option Request) (answers : Answers) (k : KernelView)
-    → (turned now request answers k).thread.publisher.page ≡ k.thread.publisher.page
-keeps-page now request answers k = ap (λ (z : Kept). z.1.page) (kept now request answers k.thread)
+pub on-keeps-place : TurnOnKeepsPlace
+on-keeps-place works now request answers k = keeps-place-if (does_work works (core_in_turn now request answers k)) now request answers k
 
-pub keeps-ring : (now : ℕ) (request : Option Request) (answers : Answers) (k : KernelView)
-    → (turned now request answers k).thread.taker.ring ≡ k.thread.taker.ring
-keeps-ring now request answers k = ap (λ (z : Kept). z.2) (kept now request answers k.thread)
+-- a thread that works on all cores does its third step wherever it is
+works-everywhere : (works : ℕ → Bool) → ((core : ℕ) → works core ≡ true) → (core : Option ℕ) → does_work works core ≡ true
+works-everywhere works all None = refl
+works-everywhere works all (Some core) = all core
+
+pub on-all-is-turn : TurnOnAllIsTurn
+on-all-is-turn works now request answers k all =
+    ap (λ (does : Bool). turned_if does now request answers k) (works-everywhere works all (core_in_turn now request answers k))
 
 pub keeps-team : SamePlaceKeepsTeam
 keeps-team threads k before after team at same = subst IsTeam (sym (map-set-like (λ (t : KernelView). place_of t.thread) threads k before after at same)) team

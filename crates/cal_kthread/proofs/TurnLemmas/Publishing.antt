@@ -2,8 +2,8 @@
 use Rattle.std.proofs.Common.{◌≡◌, ℕ, ◌<◌, ◌≤◌, Option, Some, None, IfSome, List, [], ◌∷◌, ◌++◌, refl, arith}
 use Rattle.cal_machine.specs.declared.machine.TheConstants.{MOST_CORES}
 use Rattle.cal_signal.specs.declared.record.Record.{Record}
-use Rattle.cal_signal.specs.Pages.{last_published, last_from}
-use Rattle.cal_signal.specs.Records.{MayFollow}
+use Rattle.cal_signal.specs.Pages.{Chain, IsPage, last_published, last_from, page_of}
+use Rattle.cal_signal.specs.Records.{IsShaped, MayFollow, zero_record}
 use Rattle.cal_signal.specs.Records.{running_word}
 use Rattle.cal_kthread.specs.Turn.Thread.{ThreadView, IsThread}
 use Rattle.cal_kthread.specs.Turn.{shown}
@@ -21,3 +21,11 @@ follows now t count is later = let n = is.taken in let a = is.shown_taken in let
 pub last_snoc : (x : Record) (xs : List Record) (y : Record) → last_from x (xs ++ y ∷ []) ≡ y
 last_snoc x [] y = refl
 last_snoc x (z ∷ zs) y = last_snoc z zs y
+
+-- and it is shaped
+last-of-chain : (x : Record) (xs : List Record) → IsShaped x → Chain MayFollow x xs → IsShaped (last_from x xs)
+last-of-chain x [] shaped chain = shaped
+last-of-chain x (y ∷ ys) shaped chain = last-of-chain y ys chain.0.1 chain.1
+
+pub last-shaped : (published : List Record) → IsPage (page_of published) → IsShaped (last_published published)
+last-shaped published page = last-of-chain zero_record published (omega arith, omega arith) page.1

@@ -18,7 +18,8 @@ use Rattle.cal_kthread.specs.declared.queue.waiting.Waiting.{Waiting}
 use Rattle.cal_kthread.specs.Journal.{arrival_in, arrivals_of, record_in, records_of}
 use Rattle.cal_kthread.specs.Queue.{QueueView}
 use Rattle.cal_kthread.specs.Turn.Thread.{ThreadView, KernelView}
-use Rattle.cal_kthread.specs.Turn.{Answers, arrived, taken, provided, worked, worked_on, served, shown, noted, turned}
+use Rattle.cal_kthread.specs.Turn.OnCores.{provided_if, worked_if, turned_if}
+use Rattle.cal_kthread.specs.Turn.{Answers, arrived, taken, provided, worked_on, served, shown, noted}
 use Rattle.cal_kthread.specs.Turn.Entries.{arrival, taking, theft, work, publication, entries_of}
 use Rattle.cal_kthread.specs.Turn.Turns.{IsOneTurn, Given, AreTurns, OneTurnMore, TurnsAddUp}
 use Rattle.cal_kthread.proofs.TeamLemmas.Turns.{Kept, kept, unpublished}
@@ -58,6 +59,14 @@ works : (core : Option ℕ) (current : Option Current) (t : ThreadView) → IsBe
 works None current t = tt
 works (Some core) None t = (refl, refl)
 works (Some core) (Some current) t = serves current (nat_le current.remaining 1) refl
+
+provides-if : (does : Bool) (now : ℕ) (answer : Option Waiting) (theft : Option (ℕ × Waiting)) (t : ThreadView) → IsBetween (provided_if does now answer theft t).1
+provides-if true now answer theft t = provides now answer theft t
+provides-if false now answer theft t = tt
+
+works-if : (does : Bool) (t : ThreadView) → IsBetween (worked_if does t).1
+works-if true t = works t.core t.current t
+works-if false t = tt
 
 -- entries that a step put into the journal, if it put one
 few : (o : Option Entry) → length (option_to_list o) ≤ 1
@@ -110,24 +119,24 @@ all-none h a b c x y z = filter_map-append h (a ++ b) c ∙ ap (λ l. l ++ filte
 parts : {Y : Type 0} (h : Entry → Option Y) (a b c d : List Entry) → filter_map h (a ++ b ++ c ++ d) ≡ filter_map h a ++ filter_map h b ++ filter_map h c ++ filter_map h d
 parts h a b c d = filter_map-append h (a ++ b ++ c) d ∙ ap (λ l. l ++ filter_map h d) (filter_map-append h (a ++ b) c ∙ ap (λ l. l ++ filter_map h c) (filter_map-append h a b))
 
--- the journal after a turn, where its page is of the records before it
-pub one-turn : (now : ℕ) (request : Option Request) (answers : Answers) (k : KernelView) → records_of k.journal ≡ k.thread.publisher.published
-    → IsOneTurn now request k.journal (turned now request answers k).journal
-one-turn now request answers k page =
+-- the journal after a turn, its third step done or not, where its page is of the records before it
+pub one-turn : (does : Bool) (now : ℕ) (request : Option Request) (answers : Answers) (k : KernelView) → records_of k.journal ≡ k.thread.publisher.published
+    → IsOneTurn now request k.journal (turned_if does now request answers k).journal
+one-turn does now request answers k page =
     let one = arrived now request k.thread in
     let two = taken now answers.command one.0 in
-    let three = provided now answers.own answers.theft two.0 in
-    let four = worked three.0 in
-    let last = unpublished now request answers k.thread in
+    let three = provided_if does now answers.own answers.theft two.0 in
+    let four = worked_if does three.0 in
+    let last = unpublished does now request answers k.thread in
     let a : List Entry = option_to_list two.1 in
     let b : List Entry = option_to_list three.1 in
     let c : List Entry = option_to_list four.1 in
     let shows : Record = shown now last in
     let here : List Entry = Published (length last.publisher.published + 1) shows ∷ [] in
     let first : IsBetween two.1 = takes now answers.command one.0 in
-    let second : IsBetween three.1 = provides now answers.own answers.theft two.0 in
-    let third : IsBetween four.1 = works three.0.core three.0.current three.0 in
-    let same : length last.publisher.published ≡ length (records_of k.journal) = ap (λ (z : Kept). length z.1.published) (kept now request answers k.thread) ∙ ap length (sym page) in
+    let second : IsBetween three.1 = provides-if does now answers.own answers.theft two.0 in
+    let third : IsBetween four.1 = works-if does three.0 in
+    let same : length last.publisher.published ≡ length (records_of k.journal) = ap (λ (z : Kept). length z.1.published) (kept does now request answers k.thread) ∙ ap length (sym page) in
     record {
       between = a ++ b ++ c;
       shows = shows;

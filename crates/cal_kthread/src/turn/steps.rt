@@ -2,6 +2,7 @@
 //! for which an entry stands in the journal.
 ghost use Rattle.std.specs.Prelude.{◌≡◌, ℕ, ◌+◌, ◌<◌, ◌≤◌, min, Option, option_map};
 ghost use Rattle.std.specs.Prelude.{Some, None, length, IfSome, MatchResult};
+ghost use Rattle.cal_machine.specs.CoreSet.{has};
 ghost use Rattle.cal_machine.specs.declared.command.Command.{Command};
 ghost use Rattle.cal_signal.specs.Pages.{last_published};
 ghost use Rattle.cal_signal.specs.Records.{MayFollow};
@@ -11,6 +12,8 @@ ghost use Rattle.cal_kthread.specs.declared.journal.entry.Entry.TheVariants.{Arr
 ghost use Rattle.cal_kthread.specs.declared.queue.waiting.Waiting.{Waiting};
 ghost use Rattle.cal_kthread.specs.Journal.{core_after as core_of};
 ghost use Rattle.cal_kthread.specs.Turn as turn;
+ghost use Rattle.cal_kthread.specs.Turn.OnCores.{does_work, misses_on, provided_if};
+ghost use Rattle.cal_kthread.specs.Turn.OnCores.{worked_if};
 ghost use Rattle.cal_kthread.specs.Turn.Entries.{entry_of_taken, entry_of_theft};
 ghost use Rattle.cal_kthread.specs.Turn.Entries.{entry_of_work, entry_of_publication};
 
@@ -21,7 +24,7 @@ use crate::turn::done::{Publication, Taken, Theft, Worked};
 use crate::turn::sources::steal_first;
 use crate::turn::thread::Thread;
 use cal_command::Command;
-use cal_machine::Request;
+use cal_machine::{CoreSet, Request};
 use cal_signal::{MOST_MISSES, Record, running_word};
 use std::alloc::AllocError;
 
@@ -106,6 +109,41 @@ impl Thread {
         served(current)
     }
 
+    /// Whether the thread, which has taken its command, does step 3 where that is done on these cores.
+    pub(crate) fn does_work(&self, works: CoreSet) -> bool
+        ensures { result ≡ does_work (has works) self.now.core }
+    {
+        let Some(core) = self.core else {
+            return true;
+        };
+        works.has(core)
+    }
+
+    /// The first part of step 3, where it is done.
+    pub(crate) fn provide_if(&mut self, does: bool, now: u64) -> Option<Theft>
+        ensures provided { (own : Option Waiting) × (theft : Option (ℕ × Waiting))
+            × IfSome theft (λ place. place.0 < length self.old.sources)
+            × ((self.new, option_map entry_of_theft result)
+            ≡ provided_if does now own theft self.old) }
+        ensures apart { self.new.publisher ≡ self.old.publisher }
+    {
+        if !does {
+            return None;
+        }
+        self.provide(now)
+    }
+
+    /// And the second part, where it is done.
+    pub(crate) fn work_if(&mut self, does: bool) -> Option<Worked>
+        ensures worked { (self.new, option_map entry_of_work result) ≡ worked_if does self.old }
+        ensures apart { self.new.publisher ≡ self.old.publisher }
+    {
+        if !does {
+            return None;
+        }
+        self.work()
+    }
+
     /// 4. Without a front request the thread takes the first of its own queue as its front.
     pub(crate) fn fill_front(&mut self)
         ensures fronted { (answer : Option Waiting) × (self.new ≡ turn.fronted answer self.old) }
@@ -149,6 +187,16 @@ impl Thread {
         let shown = self.record(now);
         let place = self.publisher.put(shown);
         Publication { place, shown }
+    }
+}
+
+/// The misses that a turn's work costs of the current request on a core, 0 where there is none.
+pub(crate) fn misses_of(core: Option<u8>, current: Option<Current>) -> u64
+    ensures { result ≡ misses_on core current }
+{
+    match (core, current) {
+        (Some(_), Some(current)) => current.waiting.request.misses,
+        _ => 0,
     }
 }
 

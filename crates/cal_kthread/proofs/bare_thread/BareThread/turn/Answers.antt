@@ -1,4 +1,4 @@
-use Rattle.std.proofs.Common.{◌≡◌, ◌<◌, ◌∙◌, ◌++◌, subst, sym, ap, length, Option, IfSome, Some, refl, arith}
+use Rattle.std.proofs.Common.{◌≡◌, ◌<◌, ◌∙◌, ◌++◌, true, subst, sym, ap, length, Option, IfSome, Some, refl, arith}
 use Rattle.cal_signal.specs.declared.record.Record.{Record}
 use Rattle.cal_signal.specs.Ends.{PublisherView}
 use Rattle.cal_signal.specs.Pages.{last_published}
@@ -72,7 +72,7 @@ noting : (c : goal.After-note_turn) → c.note_turn.new.past ≡ noted (noted (n
 noting c = c.note_turn.ensures
 
 agreeing : (c : goal.After-note_turn) → IsJournalOf c.note_turn.new.past c.publish-published.new.self
-agreeing c = agrees c.args.now c.args.request (answers_of c) (the_view c.self.inside) (one c) (two c) (three c) (four c) c.fill_front.new.self (last c) c.note_turn.new.past
+agreeing c = agrees true c.args.now c.args.request (answers_of c) (the_view c.self.inside) (one c) (two c) (three c) (four c) c.fill_front.new.self (last c) c.note_turn.new.past
     c.in_ok-arrived.ensures.arrived c.take-took.ensures.taken.1 c.provide-stole.ensures.provided.3 c.work-worked.ensures.worked c.fill_front.ensures.fronted.1 c.publish-published.ensures.shown (noting c)
     c.self.invariant c.provide-stole.ensures.provided.2 c.publish-published.ensures.follows
 
@@ -86,7 +86,7 @@ returns-clause-turned c =
     let are : AreAnswers (answers_of c) (the_view c.self.inside) = subst (λ vs. IfSome (answers_of c).theft (λ theft. theft.0 < length vs)) same c.provide-stole.ensures.provided.2 in (
       answers_of c,
       subst (AreAnswers (answers_of c)) c.self.view_is are,
-      turns c.args.now c.args.request (answers_of c) (the_view c.self.inside) (one c) (two c) (three c) (four c) c.fill_front.new.self (last c) c.note_turn.new.past
+      turns true c.args.now c.args.request (answers_of c) (the_view c.self.inside) (one c) (two c) (three c) (four c) c.fill_front.new.self (last c) c.note_turn.new.past
           c.in_ok-arrived.ensures.arrived c.take-took.ensures.taken.1 c.provide-stole.ensures.provided.3 c.work-worked.ensures.worked c.fill_front.ensures.fronted.1 c.publish-published.ensures.shown (noting c)
           ∙ ap (turned c.args.now c.args.request (answers_of c)) c.self.view_is,
     )
@@ -97,8 +97,8 @@ returns-clause-place c = let t = returns-clause-turned c in ap (λ (k : KernelVi
 pub returns-clause-ends : goal.returns-clause-ends
 returns-clause-ends c =
     let t = returns-clause-turned c in (
-      ap (λ (k : KernelView). k.thread.publisher.page) t.2 ∙ keeps-page c.args.now c.args.request t.0 c.args.self.now,
-      ap (λ (k : KernelView). k.thread.taker.ring) t.2 ∙ keeps-ring c.args.now c.args.request t.0 c.args.self.now,
+      ap (λ (k : KernelView). k.thread.publisher.page) t.2 ∙ keeps-page true c.args.now c.args.request t.0 c.args.self.now,
+      ap (λ (k : KernelView). k.thread.taker.ring) t.2 ∙ keeps-ring true c.args.now c.args.request t.0 c.args.self.now,
     )
 
 pub returns-clause-number : goal.returns-clause-number
@@ -108,7 +108,7 @@ pub returns-clause-added : goal.returns-clause-added
 returns-clause-added c =
     let t = returns-clause-turned c in
     let page = subst (λ (k : KernelView). records_of k.journal ≡ k.thread.publisher.published) c.self.view_is c.self.invariant.records in
-    subst (λ (k : KernelView). IsOneTurn c.args.now c.args.request c.args.self.now.journal k.journal) (sym t.2) (one-turn c.args.now c.args.request t.0 c.args.self.now page)
+    subst (λ (k : KernelView). IsOneTurn c.args.now c.args.request c.args.self.now.journal k.journal) (sym t.2) (one-turn true c.args.now c.args.request t.0 c.args.self.now page)
 
 pub returns-clause-journal : goal.returns-clause-journal
 returns-clause-journal c = (agreeing c).is_journal
