@@ -1,5 +1,5 @@
 -- The cores between the banned ones are not left held.
-use Rattle.std.proofs.Common.{◌≡◌, ℕ, ◌+◌, ◌<◌, ◌≤◌, ◌&&◌, zero, suc, not, Bool, false, None, List, Option, refl, ap, sym, subst, ◌∙◌, arith, ⊎_elim}
+use Rattle.std.proofs.Common.{◌≡◌, ℕ, ◌<◌, ◌≤◌, ◌&&◌, zero, suc, not, Bool, false, None, List, Option, refl, ap, sym, subst, ◌∙◌, arith, ⊎_elim}
 use Rattle.std.proofs.lemmas.Bool.{cases_lt}
 use Rattle.cal_machine.specs.CoreSet.{has}
 use Rattle.cal_policy.specs.declared.history.action.Action.{Action}
