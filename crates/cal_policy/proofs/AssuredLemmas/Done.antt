@@ -15,7 +15,7 @@ use Rattle.cal_policy.specs.declared.pass.choice.Candidate.{Candidate}
 use Rattle.cal_policy.specs.declared.history.core_class.CoreClass.{CoreClass}
 use Rattle.cal_policy.specs.History.CoreClasses.{class_number, is_idle, comes_before}
 use Rattle.cal_policy.specs.History.{holder_of, last_thread, ban_of, is_banned}
-use Rattle.cal_policy.specs.Board.Counts.{is_held, is_free}
+use Rattle.cal_policy.specs.Board.Counts.{is_held}
 use Rattle.cal_policy.specs.Pass.Choice.{best_below, lowest_below}
 use Rattle.cal_policy.specs.Pass.Frees.{shows_left, free_at, frees}
 use Rattle.cal_policy.specs.Pass.Bans.{still_shows, ban_for}
@@ -143,7 +143,7 @@ frees_made s acts = each_turn (IsFreeing s) (free_at s) acts s.table.cores (λ c
 unban_made : (s : Setting) (acts : List Action) (c : ℕ) → c < s.table.cores → (o : Option BannedFor) → ban_of (so_far s acts) c ≡ o → EachAfter (IsUnbanning s) acts (unban_for s (so_far s acts) c o)
 unban_made s acts c lt None e = tt
 unban_made s acts c lt (Some ban) e =
-    each_unless (IsUnbanning s) acts (still_shows (kept_now s ban.thread) (sibling_of c) ban.started && not (is_free (holder_of (so_far s acts) c) && are_wanted s (so_far s acts))) (Unban c ∷ [])
+    each_unless (IsUnbanning s) acts (still_shows (kept_now s ban.thread) (sibling_of c) ban.started && not (are_wanted s (so_far s acts))) (Unban c ∷ [])
     (λ o. (record { low = lt; banned = ap is_some e }, tt))
 
 pub unbans_made : (s : Setting) (acts : List Action) → EachAfter (IsUnbanning s) acts (unbans s acts)

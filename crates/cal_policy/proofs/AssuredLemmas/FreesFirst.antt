@@ -10,8 +10,7 @@ use Rattle.cal_policy.specs.Assured.Order.{task_in_place}
 use Rattle.cal_policy.specs.Assured.Pass.{pass_of}
 use Rattle.cal_policy.specs.Assured.Short.{are_wanted, waits}
 use Rattle.cal_policy.specs.Assured.Taking.{choice_for}
-use Rattle.cal_policy.specs.Board.Counts.{is_free}
-use Rattle.cal_policy.specs.History.{ban_of, holder_of}
+use Rattle.cal_policy.specs.History.{ban_of}
 use Rattle.cal_policy.specs.Pass.Bans.{still_shows}
 use Rattle.cal_policy.specs.Pass.Frees.{frees}
 use Rattle.cal_policy.specs.Pass.Grants.{grant_of, thread_choice}
@@ -21,7 +20,7 @@ use Rattle.cal_policy.proofs.PassLemmas.RevokedStay.{Every, FreesNone, FreesFirs
 unban_none : (s : Setting) (x : List Action) (c : ℕ) (o : Option BannedFor) → Every FreesNone (unban_for s x c o)
 unban_none s x c None = tt
 unban_none s x c (Some ban) =
-    every_if FreesNone (still_shows (kept_now s ban.thread) (sibling_of c) ban.started && not (is_free (holder_of x c) && are_wanted s x)) [] (Unban c ∷ []) tt (tt, tt)
+    every_if FreesNone (still_shows (kept_now s ban.thread) (sibling_of c) ban.started && not (are_wanted s x)) [] (Unban c ∷ []) tt (tt, tt)
 
 unbans_none : (s : Setting) (acts : List Action) → Every FreesNone (unbans s acts)
 unbans_none s acts = every_in_turn FreesNone (unban_at s) acts s.table.cores (λ now c. unban_none s (so_far s now) c (ban_of (so_far s now) c))

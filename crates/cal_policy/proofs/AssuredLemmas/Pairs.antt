@@ -32,7 +32,7 @@ unbanned_at x core c = ap is_some (ban_push x (Unban core) c ∙ unwrap_if (eqb 
 
 after_unban_for : (s : Setting) (x : List Action) (c d : ℕ) (o : Option BannedFor) → (ban_of (x ++ unban_for s x c o) d ≡ None) ⊎ (ban_of (x ++ unban_for s x c o) d ≡ ban_of x d)
 after_unban_for s x c d None = inr (ap (λ y. ban_of y d) (append-nil x))
-after_unban_for s x c d (Some ban) = after_end x c d (still_shows (kept_now s ban.thread) (sibling_of c) ban.started && not (is_free (holder_of x c) && are_wanted s x))
+after_unban_for s x c d (Some ban) = after_end x c d (still_shows (kept_now s ban.thread) (sibling_of c) ban.started && not (are_wanted s x))
 
 -- what ends a ban leaves each ban as it was, or ends it
 after_unban : (s : Setting) (acts : List Action) (c d : ℕ) →

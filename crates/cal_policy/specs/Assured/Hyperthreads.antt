@@ -12,12 +12,11 @@ use Rattle.cal_policy.specs.Assured.Short.{are_lacked, are_wanted}
 use Rattle.cal_policy.specs.Setting.{Setting, so_far, kept_now}
 
 -- a ban on core c ends, unless its thread's kept record still shows the sibling and the same start;
--- that of a free core ends too where open cores are wanted
+-- it ends too where open cores are wanted
 abbrev pub unban_for : Setting → List Action → ℕ → Option BannedFor → List Action
 unban_for s x c None = []
 unban_for s x c (Some ban) =
-    if still_shows (kept_now s ban.thread) (sibling_of c) ban.started
-    && not (is_free (holder_of x c) && are_wanted s x)
+    if still_shows (kept_now s ban.thread) (sibling_of c) ban.started && not (are_wanted s x)
     then [] else Unban c ∷ []
 
 abbrev pub unban_at : Setting → List Action → ℕ → List Action

@@ -2,16 +2,12 @@
 //! short task that waits.
 
 ghost use Rattle.std.specs.Prelude.{◌≡◌, ◌*◌, ◌+◌, ◌<◌, ◌≤◌, ◌++◌, List, length, option_to_list};
-ghost use Rattle.std.specs.Prelude.{◌&&◌};
 ghost use Rattle.std.specs.Option.{IfSome};
 ghost use Rattle.cal_machine.specs.declared.machine.TheConstants.{MOST_PAIRS};
 ghost use Rattle.cal_policy.specs.declared.history.action_list.TheConstants.{MOST_ACTIONS};
 ghost use Rattle.cal_policy.specs.declared.history.action.Action.{Action};
 ghost use Rattle.cal_policy.specs.Assured.Hyperthreads.{unban_at, unbans};
-ghost use Rattle.cal_policy.specs.Assured.Short as short;
 ghost use Rattle.cal_policy.specs.Board.{NamesTable};
-ghost use Rattle.cal_policy.specs.Board.Counts as counts;
-ghost use Rattle.cal_policy.specs.History.{holder_of};
 ghost use Rattle.cal_policy.specs.History.Lists.{in_pair};
 ghost use Rattle.cal_policy.specs.Pass.AtHand.{setting_in, Within};
 ghost use Rattle.cal_policy.specs.Pass.Bans.{NoPairBanned};
@@ -20,25 +16,12 @@ ghost use Rattle.cal_policy.specs.State.{IsReady, IsOfTable, Stands};
 
 use crate::board::Board;
 use crate::board::core_sets::next_core;
-use crate::board::cores::is_free;
 use crate::history::action::Action;
 use crate::history::action_list::Actions;
 use crate::pass::Pass;
 use crate::pass::unbans::shows_still;
 
 impl Pass<'_> {
-    /// Whether a core is free and wanted by a short task that waits.
-    fn is_free_and_wanted(&self, board: &Board, core: u8) -> bool
-        requires at_hand { IsOfTable self.now.config.now board.now }
-        requires core { core < self.now.config.now.cores }
-        ensures { Within self.now board.now (λ s acts. result
-            ≡ (counts.is_free (holder_of (so_far s acts) core)
-            && short.are_wanted s (so_far s acts))) }
-    {
-        self.config.limits();
-        is_free(board, core) && self.are_wanted(board)
-    }
-
     /// The end of the core's ban, where it has one that ends.
     fn ban_end(&self, board: &Board, core: u8) -> Option<Action>
         requires at_hand { IsOfTable self.now.config.now board.now }
@@ -50,7 +33,7 @@ impl Pass<'_> {
         let beside = self.config.machine().sibling(core);
         let ban = board.bans.bans[core as usize]?;
         let rec = &board.keeping.kept[ban.thread as usize];
-        if shows_still(rec, beside, ban.started) && !self.is_free_and_wanted(board, core) {
+        if shows_still(rec, beside, ban.started) && !self.are_wanted(board) {
             None
         } else {
             Some(Action::Unban { core })
@@ -74,7 +57,7 @@ impl Pass<'_> {
     }
 
     /// Ends each ban whose thread no longer shows the core beside and the request that it was for,
-    /// and that of each free core while open cores are wanted. The banned cores are visited upwards,
+    /// and each ban while open cores are wanted. The banned cores are visited upwards,
     /// pair by pair, and a pair gives at most one action.
     pub fn end_bans_in_the_way(&self, board: &mut Board, out: &mut Actions)
         requires of_table { IsOfTable self.now.config.now board.old }
