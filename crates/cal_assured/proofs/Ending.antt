@@ -81,19 +81,15 @@ unban_left more s now n =
       ended = λ w e. subst P (sym (so_far_push s now (Unban n))) (unbanned_ended s x n e);
     }
 
-kept_ban : (s : Setting) (x : List Action) (n : ℕ) (shown : Bool) → (shown && not (is_free (holder_of x n) && are_wanted s x)) ≡ true → some_waits_short s x ≡ true → Ended s x n → Ended s x (suc n)
+kept_ban : (s : Setting) (x : List Action) (n : ℕ) (shown : Bool) → (shown && not (are_wanted s x)) ≡ true → some_waits_short s x ≡ true → Ended s x n → Ended s x (suc n)
 kept_ban s x n shown e wait was =
-    let both = and_parts shown (not (is_free (holder_of x n) && are_wanted s x)) e in
-    let no = not-true (is_free (holder_of x n) && are_wanted s x) both.1 in
+    let both = and_parts shown (not (are_wanted s x)) e in
     ⊎_elim
-    (λ held. one_more s x n (λ free. absurd (both_ways _ held free)) was)
-    (λ unwanted. ⊎_elim
     (λ none. absurd (both_ways _ none wait))
     (λ enough. inl (ltb-false (open_cores s.table x) (lacking s.table x) enough))
-    (and_cases (some_waits_short s x) (ltb (open_cores s.table x) (lacking s.table x)) unwanted))
-    (and_cases (is_free (holder_of x n)) (are_wanted s x) no)
+    (and_cases (some_waits_short s x) (ltb (open_cores s.table x) (lacking s.table x)) (not-true (are_wanted s x) both.1))
 
-turn_by : ActionIsOneMore → (s : Setting) (now : List Action) (n : ℕ) (shown b : Bool) → (shown && not (is_free (holder_of (so_far s now) n) && are_wanted s (so_far s now))) ≡ b → Left s now (cond b [] (Unban n ∷ [])) n
+turn_by : ActionIsOneMore → (s : Setting) (now : List Action) (n : ℕ) (shown b : Bool) → (shown && not (are_wanted s (so_far s now))) ≡ b → Left s now (cond b [] (Unban n ∷ [])) n
 turn_by more s now n shown true e = left_nothing s now n (λ wait was. kept_ban s (so_far s now) n shown e wait was)
 turn_by more s now n shown false e = unban_left more s now n
 
@@ -101,7 +97,7 @@ turn_left : ActionIsOneMore → (s : Setting) (now : List Action) (n : ℕ) (o :
 turn_left more s now n None e = left_nothing s now n (λ wait was. one_more s (so_far s now) n (λ free. ap is_some e) was)
 turn_left more s now n (Some ban) e =
     turn_by more s now n (still_shows (kept_now s ban.thread) (sibling_of n) ban.started)
-    (still_shows (kept_now s ban.thread) (sibling_of n) ban.started && not (is_free (holder_of (so_far s now) n) && are_wanted s (so_far s now))) refl
+    (still_shows (kept_now s ban.thread) (sibling_of n) ban.started && not (are_wanted s (so_far s now))) refl
 
 turns_end : ActionIsOneMore → (s : Setting) (before : List Action) (n : ℕ) → some_waits_short s (so_far s (before ++ in_turn (unban_at s) before n)) ≡ true →
     Ended s (so_far s (before ++ in_turn (unban_at s) before n)) n

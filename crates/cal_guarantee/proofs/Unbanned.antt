@@ -48,14 +48,8 @@ one_more x n here below c lt free = ⊎_elim
     (λ (g : n ≤ c). let same : c ≡ n = omega (arith, g, lt) in rw same (here (rw same at free)))
     (cases_lt c n)
 
-kept_ban : (s : Setting) (x : List Action) (n : ℕ) → some_waits_short s x ≡ true → (is_free (holder_of x n) && are_wanted s x) ≡ false → IsUnbannedTo s.table x n → IsUnbannedTo s.table x (suc n)
-kept_ban s x n some e h = ⊎_elim
-    (λ (free : is_free (holder_of x n) ≡ true). inl (not_wanted s x some (ap (λ b. b && are_wanted s x) (sym free) ∙ e)))
-    (λ (busy : is_free (holder_of x n) ≡ false). ⊎_elim
-    (λ enough. inl enough)
-    (λ below. inr (one_more x n (λ free. let clash : true ≡ false = sym free ∙ busy in cc) below))
-    h)
-    (cases_Bool (is_free (holder_of x n)))
+kept_ban : (s : Setting) (x : List Action) (n : ℕ) → some_waits_short s x ≡ true → are_wanted s x ≡ false → IsUnbannedTo s.table x (suc n)
+kept_ban s x n some e = inl (not_wanted s x some e)
 
 ended_ban : (s : Setting) (acts : List Action) (n : ℕ) → IsSteady s.table (so_far s acts) → some_waits_short s (so_far s acts) ≡ true → IsUnbannedTo s.table (so_far s acts) n →
     IsUnbannedTo s.table (so_far s acts ++ Unban n ∷ []) (suc n)
@@ -66,12 +60,12 @@ ended_ban s acts n steady some h =
     (λ c lt free. unban_at_most x n c (below c lt (ap is_free (sym (holder_push x (Unban n) c)) ∙ free)))))
     h
 
-after_turn : (s : Setting) (acts : List Action) (n : ℕ) (b : Bool) → (b ≡ true → (is_free (holder_of (so_far s acts) n) && are_wanted s (so_far s acts)) ≡ false) →
+after_turn : (s : Setting) (acts : List Action) (n : ℕ) (b : Bool) → (b ≡ true → are_wanted s (so_far s acts) ≡ false) →
     IsSteady s.table (so_far s acts) → some_waits_short s (so_far s acts) ≡ true → IsUnbannedTo s.table (so_far s acts) n →
     IsUnbannedTo s.table (so_far s (acts ++ cond b [] (Unban n ∷ []))) (suc n)
 after_turn s acts n true e steady some h =
     let P : List Action → Type 0 = λ now. IsUnbannedTo s.table (so_far s now) (suc n) in
-    subst P (sym (append-nil acts)) (kept_ban s (so_far s acts) n some (e refl) h)
+    subst P (sym (append-nil acts)) (kept_ban s (so_far s acts) n some (e refl))
 after_turn s acts n false e steady some h =
     let P : List Action → Type 0 = λ x. IsUnbannedTo s.table x (suc n) in
     subst P (sym (so_far_more s acts (Unban n ∷ []))) (ended_ban s acts n steady some h)
@@ -85,7 +79,7 @@ after_unban s acts n None e steady some h =
 after_unban s acts n (Some ban) e steady some h =
     let x = so_far s acts in
     let shown = still_shows (kept_now s ban.thread) (sibling_of n) ban.started in
-    let wanted = is_free (holder_of x n) && are_wanted s x in
+    let wanted = are_wanted s x in
     after_turn s acts n (shown && not wanted) (λ is. not-true wanted (and_parts shown (not wanted) is).1) steady some h
 
 -- the task is short and waits at each turn

@@ -92,9 +92,10 @@ lacked_core_is_not_banned = record {
       [];
 }
 
--- A ban of a core that is being left stands, though a short task waits: to end it opened nothing.
-abbrev pub left_core_stays_banned : Worked
-left_core_stays_banned = record {
+-- A ban of a core that is being left ends where a short task waits, and begins anew, since its
+-- request is still shown.
+abbrev pub left_core_is_banned_anew : Worked
+left_core_is_banned_anew = record {
   table = record {
     cores = 2;
     bandwidth_limit = 1000;
@@ -121,7 +122,7 @@ left_core_stays_banned = record {
       looked true (Whole 2 (rec 1 2 0 81 100 1 101 1 101)) ∷
       looked true (Whole 3 (rec 0 0 1 101 0 11 102 0 72)) ∷
       []) (
-      []) ∷
+      Unban 1 ∷ Ban 1 1 70 ∷ []) ∷
       [];
 }
 
@@ -181,4 +182,4 @@ spare_core_is_banned = record {
 
 -- all of them
 abbrev pub BansAreAsWorked : Type 0
-BansAreAsWorked = IsWorked few_bans_end × IsWorked ban_ends_for_short × IsWorked lacked_core_is_not_banned × IsWorked left_core_stays_banned × IsWorked guarantee_before_ban × IsWorked spare_core_is_banned
+BansAreAsWorked = IsWorked few_bans_end × IsWorked ban_ends_for_short × IsWorked lacked_core_is_not_banned × IsWorked left_core_is_banned_anew × IsWorked guarantee_before_ban × IsWorked spare_core_is_banned
