@@ -10,28 +10,32 @@ const POLICIES: [&str; 2] = ["caladan", "assured"];
 
 /// The option for one policy.
 pub fn policy_word<'a>(alloc: Global) -> Arg<'a> {
-    named_word(alloc, "NAME", "The policy to go by")
+    let help = "The policy to go by: caladan, assured [default: caladan]";
+    named_word(alloc, "NAME", help)
 }
 
 /// The option for one policy or several.
 pub fn policies_word<'a>(alloc: Global) -> Arg<'a> {
-    named_word(alloc, "NAME,..", "The policies to go by, a run for each").value_delimiter(',')
+    let help = "A run by each: caladan, assured [default: caladan]";
+    named_word(alloc, "NAME,..", help).value_delimiter(',')
 }
 
 fn named_word<'a>(alloc: Global, value: &'a str, help: &'a str) -> Arg<'a> {
     value_word(alloc, "policy", value, help)
-        .default_value(Policy::Caladan.name())
         .value_parser(POLICIES.as_slice())
+        .hide_possible_values(true)
 }
 
-/// The policies that are asked for; none where the word has no such option.
+/// The policies that are asked for; without a name `Policy::Caladan`.
 pub fn policies_asked(alloc: Global, own: &ArgMatches<'_>) -> Result<Vec<Policy>, AllocError> {
     let mut policies = Vec::new(alloc);
-    if let Some(names) = own.get_strs("policy") {
-        for name in names {
-            // The option takes no other name.
-            policies.push(Policy::named(name).unwrap_or(Policy::Caladan))?;
-        }
+    let Some(names) = own.get_strs("policy") else {
+        policies.push(Policy::Caladan)?;
+        return Ok(policies);
+    };
+    for name in names {
+        // The option takes no other name.
+        policies.push(Policy::named(name).unwrap_or(Policy::Caladan))?;
     }
     Ok(policies)
 }
