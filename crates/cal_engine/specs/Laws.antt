@@ -13,8 +13,17 @@ use Rattle.cal_input.specs.Recorded.{recorded_run_of}
 use Rattle.cal_engine.specs.Front.{front_of}
 use Rattle.cal_engine.specs.declared.jobs.front.Front.TheVariants as fronts
 
--- the text of a legal history that a file can hold, with the table of an input in front, is an
--- input: of that table and that history
+-- the text of a history of the policy that a file can hold, with the table of an input in front, is
+-- an input: of that table and that history
+abbrev pub WithTableIsReadBackBy : Type 0
+WithTableIsReadBackBy =
+    (policy : Policy) (given : List ℕ) (table : Table) (trace : List ℕ) (history : List PassEntry) →
+    parts_of given ≡ Ok (record { table = table; trace = trace }) →
+    IsLegalBy policy table history → IsSized history →
+    recorded_run_of (front_of fronts.Table given ++ history_text history)
+    ≡ Ok (record { table = table; history = history })
+
+-- the same of Policy::Caladan
 abbrev pub WithTableIsReadBack : Type 0
 WithTableIsReadBack =
     (given : List ℕ) (table : Table) (trace : List ℕ) (history : List PassEntry) →
