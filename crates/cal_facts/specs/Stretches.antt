@@ -10,7 +10,8 @@ use Rattle.cal_measure.specs.declared.spans.bans.BanSpan.{BanSpan}
 use Rattle.cal_measure.specs.declared.spans.span.Left.{Left}
 use Rattle.cal_measure.specs.declared.spans.span.Span.{Span}
 use Rattle.cal_policy.specs.declared.history.entry.PassEntry.{PassEntry}
-use Rattle.cal_run.specs.Outcome.{IsRun}
+use Rattle.cal_policy.specs.declared.policy.Policy.{Policy}
+use Rattle.cal_run.specs.Outcome.{IsRunBy}
 use Rattle.cal_run.specs.declared.outcome.Outcome.{Outcome}
 use Rattle.cal_trace.specs.declared.arrivals.Arrivals.{Arrivals}
 use Rattle.cal_facts.specs.Bans.{bans_of, lifted_of}
@@ -113,8 +114,9 @@ pub record AreSpanFacts (cores : ℕ) (history : List PassEntry) (facts : SpanFa
   pub bans : facts.bans.items ≡ bans_of cores history
   pub clocks : facts.clocks.items ≡ clocks_of history
 
--- a run on these arrivals came to some outcome, and these are those of its history
-pub record IsRunOfSpans (table : Table) (arrivals : Arrivals) (facts : SpanFacts) : Type 0 where
+-- a run by the policy on these arrivals came to some outcome, and these are those of its history
+pub record IsRunOfSpans (policy : Policy) (table : Table) (arrivals : Arrivals)
+    (facts : SpanFacts) : Type 0 where
   pub outcome : Outcome
-  pub run : IsRun table arrivals outcome
+  pub run : IsRunBy policy table arrivals outcome
   pub are : AreSpanFacts table.cores outcome.history facts

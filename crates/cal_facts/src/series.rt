@@ -18,6 +18,7 @@ use crate::series::replaying::series_of_history;
 use crate::series::writing::write_series_rows;
 use cal_input::RunFault;
 use cal_machine::Config;
+use cal_policy::Policy;
 use std::alloc::Global;
 use std::io::Write;
 
@@ -26,13 +27,18 @@ use std::io::Write;
 /// takes, and writes nothing before all of it was read and the run was made.
 ///
 /// The faults are those of the word `lockstep`, in its order; of a history those of `audit`.
-pub fn write_series<W: Write>(alloc: Global, input: &[u8], writer: &mut W) -> Result<(), RunFault>
+pub fn write_series<W: Write>(
+    alloc: Global,
+    policy: Policy,
+    input: &[u8],
+    writer: &mut W,
+) -> Result<(), RunFault>
     // The text of what is asked for was written and nothing else, or the fault says what it must.
-    ensures exact { Tells (IsAskedText series_text) result (asked_of input.now)
+    ensures exact { Tells (IsAskedText policy series_text) result (asked_of input.now)
         (W.contents writer.old) (W.contents writer.new) }
     ensures untouched { IfErr result (λ fault. fault ≢ RunFault.Write → writer.new ≡ writer.old) }
 {
-    let (config, points) = series_asked(alloc, input)?;
+    let (config, points) = series_asked(alloc, policy, input)?;
     match write_series_rows(&config, points.as_slice(), writer) {
         Ok(()) => Ok(()),
         Err(_) => Err(RunFault::Write),
@@ -40,15 +46,19 @@ pub fn write_series<W: Write>(alloc: Global, input: &[u8], writer: &mut W) -> Re
 }
 
 /// The table of an input, and the series of what it asks for.
-fn series_asked(alloc: Global, input: &[u8]) -> Result<(Config, Vec<Point>), RunFault>
+fn series_asked(
+    alloc: Global,
+    policy: Policy,
+    input: &[u8],
+) -> Result<(Config, Vec<Point>), RunFault>
     ensures points { IfOk result (λ told.
-        IsAskedText series_text (asked_of input.now) (text_of_series told.0 told.1.items)) }
+        IsAskedText policy series_text (asked_of input.now) (text_of_series told.0 told.1.items)) }
     ensures fault { IfErr result (λ fault. Decided fault (asked_of input.now ≡ Err fault)) }
 {
     let asked = read_asked(alloc, input)?;
     match asked {
         Asked::Run { config, arrivals } => {
-            let points = series_of_run(alloc, &config, &arrivals)?;
+            let points = series_of_run(alloc, &config, policy, &arrivals)?;
             Ok((config, points))
         }
         Asked::History { config, history } => {

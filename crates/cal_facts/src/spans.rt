@@ -17,22 +17,28 @@ use crate::spans::facts::SpanFacts;
 use crate::spans::writing::write_facts;
 use cal_input::RunFault;
 use cal_machine::Config;
+use cal_policy::Policy;
 use std::alloc::Global;
 use std::io::Write;
 
 /// Writes the spans and the bans of what an input asks for, a row for each stretch of passes in
-/// which a core is held, left or banned: of the run on one thread on its arrivals or, where what
-/// follows the table has not their header, of the history that it records, whichever that is.
-/// Nothing is written before all of it was read and the run was made.
+/// which a core is held, left or banned: of the run by this policy on one thread on its arrivals or,
+/// where what follows the table has not their header, of the history that it records, whichever that
+/// is. Nothing is written before all of it was read and the run was made.
 ///
 /// The faults are those of the word `lockstep`, in its order; of a history those of `audit`.
-pub fn write_spans<W: Write>(alloc: Global, input: &[u8], writer: &mut W) -> Result<(), RunFault>
+pub fn write_spans<W: Write>(
+    alloc: Global,
+    policy: Policy,
+    input: &[u8],
+    writer: &mut W,
+) -> Result<(), RunFault>
     // The text of what is asked for was written and nothing else, or the fault says what it must.
-    ensures exact { Tells (IsAskedText spans_text) result (asked_of input.now)
+    ensures exact { Tells (IsAskedText policy spans_text) result (asked_of input.now)
         (W.contents writer.old) (W.contents writer.new) }
     ensures untouched { IfErr result (λ fault. fault ≢ RunFault.Write → writer.new ≡ writer.old) }
 {
-    let (config, facts) = spans_asked(alloc, input)?;
+    let (config, facts) = spans_asked(alloc, policy, input)?;
     match write_facts(&config, &facts, writer) {
         Ok(()) => Ok(()),
         Err(_) => Err(RunFault::Write),
@@ -40,15 +46,15 @@ pub fn write_spans<W: Write>(alloc: Global, input: &[u8], writer: &mut W) -> Res
 }
 
 /// The table of an input, and the spans and the bans of what it asks for.
-fn spans_asked(alloc: Global, input: &[u8]) -> Result<(Config, SpanFacts), RunFault>
+fn spans_asked(alloc: Global, policy: Policy, input: &[u8]) -> Result<(Config, SpanFacts), RunFault>
     ensures facts { IfOk result (λ told.
-        IsAskedText spans_text (asked_of input.now) (text_of_facts told.0 told.1)) }
+        IsAskedText policy spans_text (asked_of input.now) (text_of_facts told.0 told.1)) }
     ensures fault { IfErr result (λ fault. Decided fault (asked_of input.now ≡ Err fault)) }
 {
     let asked = read_asked(alloc, input)?;
     match asked {
         Asked::Run { config, arrivals } => {
-            let facts = SpanFacts::of_run(alloc, &config, &arrivals)?;
+            let facts = SpanFacts::of_run(alloc, &config, policy, &arrivals)?;
             Ok((config, facts))
         }
         Asked::History { config, history } => {

@@ -19,6 +19,11 @@ use Rattle.cal_measure.specs.declared.walk.machine_time.MachineTime.{MachineTime
 use Rattle.cal_measure.specs.declared.walk.Walk.{Walk}
 use Rattle.cal_measure.specs.declared.walk.task_time.TaskTime.{TaskTime}
 
+-- each pass of a history has at most MOST_ACTIONS actions
+abbrev pub AreShort : List PassEntry → Type 0
+AreShort history = (p : ℕ) (entry : PassEntry) → slice_get history p ≡ Some entry →
+    length entry.actions ≤ MOST_ACTIONS
+
 -- how long what is so after the last pass of a history lasts once this pass follows; 0 where there
 -- is none before it
 abbrev pub until_next : List PassEntry → PassEntry → ℕ

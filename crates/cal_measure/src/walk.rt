@@ -8,11 +8,11 @@ ghost use Rattle.std.specs.Prelude.{◌≡◌, ◌<◌, ◌≤◌, ◌+◌, ◌+
 ghost use Rattle.std.specs.List.{All};
 ghost use Rattle.cal_machine.specs.Table.{Table};
 ghost use Rattle.cal_measure.specs.Cores.{AreCoresOfTasks, AreMachineCores, MakeTheWhole};
-ghost use Rattle.cal_measure.specs.Walk.{AreActionsOfEach, EachTask, IsOpenFor, IsTimeOf};
-ghost use Rattle.cal_measure.specs.Walk.{IsWalkOf};
+ghost use Rattle.cal_measure.specs.Walk.{AreActionsOfEach, AreShort, EachTask, IsOpenFor};
+ghost use Rattle.cal_measure.specs.Walk.{IsTimeOf, IsWalkOf};
 ghost use Rattle.cal_measure.specs.Walk.{since};
 ghost use Rattle.cal_policy.specs.Board.{NamesTable};
-ghost use Rattle.cal_policy.specs.Pass.{IsLegal};
+ghost use Rattle.cal_policy.specs.Judgement.Orderly.{IsOrderly};
 ghost use Rattle.cal_policy.specs.State.{IsReady, IsStateAfter};
 ghost use Rattle.cal_policy.specs.declared.history.action_list.TheConstants.{MOST_ACTIONS};
 ghost use Rattle.cal_policy.specs.declared.history.entry.PassEntry.{PassEntry};
@@ -23,7 +23,6 @@ use crate::walk::each_task::{count_actions_of_each, time_each};
 use crate::walk::machine_time::MachineTime;
 use crate::walk::task_time::{PassTiming, TaskTime};
 use cal_machine::Config;
-use cal_policy::laws::{legal_is_orderly, legal_is_short};
 use cal_policy::state::{Board, replay};
 use cal_policy::{Action, PassEntry};
 use cal_trace::GivenPass;
@@ -171,15 +170,14 @@ pub fn given_of(entry: &PassEntry) -> GivenPass
     }
 }
 
-/// The walk over all passes of a legal history. Fails only when out of memory.
+/// The walk over all passes of an orderly history, as a legal one is. Fails only when out of memory.
 pub fn walked(alloc: Global, config: &Config, history: &[PassEntry]) -> Result<Walk, AllocError>
-    requires legal { IsLegal config.now history.now }
+    requires orderly { IsOrderly config.now history.now }
+    requires short { AreShort history.now }
     requires few { length history.now ≤ MOST_PASSES }
     ensures open { IfOk result (IsOpenFor config.now) }
     ensures walk { IfOk result (IsWalkOf config.now history.now) }
 {
-    legal_is_orderly();
-    legal_is_short();
     config.limits();
     let mut walk = Walk::open(alloc, config)?;
     let mut state = Board::new();

@@ -6,6 +6,7 @@ use Rattle.cal_measure.specs.declared.requests.TaskRequests.{TaskRequests}
 use Rattle.cal_measure.specs.declared.spread.Time.{Time}
 use Rattle.cal_measure.specs.declared.spread.Time.TheVariants.{Known, More}
 use Rattle.cal_sweep.specs.declared.objective.Objective.{Objective}
+use Rattle.cal_sweep.specs.declared.runs.Sweep.{Sweep}
 use Rattle.cal_sweep.specs.declared.runs.SweptLoad.{SweptLoad}
 use Rattle.cal_sweep.specs.declared.runs.SweptRun.{SweptRun}
 use Rattle.cal_tables.specs.Rows.{time_in}
@@ -47,6 +48,7 @@ is_missed None loads = false
 is_missed (Some objective) loads =
     is_missed_at objective (slice_get loads (length loads - 1))
 
--- the exit status: 1 where an objective is missed at the last load, and 0 else
-abbrev pub status_of_sweep : Option Objective → List SweptLoad → ℕ
-status_of_sweep objective loads = if is_missed objective loads then 1 else 0
+-- the exit status: 1 where an objective is missed at the last load of one of the sweeps, and 0 else
+abbrev pub status_of_sweeps : Option Objective → List Sweep → ℕ
+status_of_sweeps objective sweeps =
+    if list_any (λ sweep. is_missed objective sweep.loads.items) sweeps then 1 else 0

@@ -7,6 +7,7 @@ use Rattle.cal_load.specs.declared.made.Made.{Made}
 use Rattle.cal_load.specs.declared.making.TaskLoad.{TaskLoad}
 use Rattle.cal_machine.specs.Reading.{table_in}
 use Rattle.cal_machine.specs.Table.{Table}
+use Rattle.cal_policy.specs.declared.policy.Policy.{Policy}
 use Rattle.cal_tables.specs.Compared.{AreEachOf}
 use Rattle.cal_tables.specs.Joining.{table_part}
 use Rattle.cal_tables.specs.Measured.{IsMeasuredRun}
@@ -19,34 +20,37 @@ use Rattle.cal_sweep.specs.declared.runs.SweptRun.{SweptRun}
 use Rattle.cal_sweep.specs.declared.words.Asked.{Asked}
 use Rattle.cal_sweep.specs.Words.{AreLoadedWith}
 
--- the run has these counts, and the numbers of a run of this table on these arrivals
-pub record IsRunOn (table : Table) (made : Made) (run : SweptRun) : Type 0 where
+-- the run has these counts, and the numbers of a run by the policy of this table on these arrivals
+pub record IsRunOn (policy : Policy) (table : Table) (made : Made) (run : SweptRun) : Type 0 where
   pub counts : run.counts ≡ made.counts
-  pub measured : IsMeasuredRun table made.arrivals run.numbers
+  pub measured : IsMeasuredRun policy table made.arrivals run.numbers
 
--- a run of this table on arrivals that were made for it of what is asked for, with this load of the
--- task that is swept: as many for each task as the counts of the run say, by the timing asked for
-pub record IsSweptRun (asked : Asked) (load : ℕ) (table : Table) (run : SweptRun) : Type 0 where
+-- a run by the policy of this table on arrivals that were made for it of what is asked for, with this
+-- load of the task that is swept: as many for each task as the counts of the run say, by the timing
+-- asked for
+pub record IsSweptRun (policy : Policy) (asked : Asked) (load : ℕ) (table : Table)
+    (run : SweptRun) : Type 0 where
   pub loads : List TaskLoad
   pub asks : AreLoadedWith asked load loads
   pub made : Made
   pub are : IsMadeOf table loads made
   pub timed : IsTiming asked.timing → IsTimedBy asked.timing made.arrivals
-  pub ran : IsRunOn table made run
+  pub ran : IsRunOn policy table made run
 
 -- as many runs as tables, each of the table at its place with this load
-abbrev pub AreSweptRuns : Asked → ℕ → List Table → List SweptRun → Type 0
-AreSweptRuns asked load tables runs = AreEachOf (IsSweptRun asked load) tables runs
+abbrev pub AreSweptRuns : Policy → Asked → ℕ → List Table → List SweptRun → Type 0
+AreSweptRuns policy asked load tables runs = AreEachOf (IsSweptRun policy asked load) tables runs
 
 -- the runs of this load: one of each table
-pub record IsSweptLoad (asked : Asked) (tables : List Table) (load : ℕ)
+pub record IsSweptLoad (policy : Policy) (asked : Asked) (tables : List Table) (load : ℕ)
     (of_load : SweptLoad) : Type 0 where
   pub at : of_load.load ≡ load
-  pub runs : AreSweptRuns asked load tables of_load.runs.items
+  pub runs : AreSweptRuns policy asked load tables of_load.runs.items
 
 -- for each of these loads in turn, a run of each table
-abbrev pub AreSweptLoads : Asked → List Table → List ℕ → List SweptLoad → Type 0
-AreSweptLoads asked tables loads swept = AreEachOf (IsSweptLoad asked tables) loads swept
+abbrev pub AreSweptLoads : Policy → Asked → List Table → List ℕ → List SweptLoad → Type 0
+AreSweptLoads policy asked tables loads swept =
+    AreEachOf (IsSweptLoad policy asked tables) loads swept
 
 -- a key and its values
 pub record Varying : Type 0 where
@@ -66,13 +70,13 @@ abbrev pub AreTablesOf : Option Varying → Table → List Table → Type 0
 AreTablesOf None table tables = tables ≡ table ∷ []
 AreTablesOf (Some varying) table tables = AreVaried table varying.key varying.values tables
 
--- the sweep that is asked for, of the table of an input or of those that it gives
-pub record IsSweep (input : List ℕ) (varying : Option Varying) (asked : Asked)
+-- the sweep by the policy that is asked for, of the table of an input or of those that it gives
+pub record IsSweep (input : List ℕ) (varying : Option Varying) (policy : Policy) (asked : Asked)
     (tables : List Table) (swept : List SweptLoad) : Type 0 where
   pub table : Table
   pub given : table_in (table_part input) ≡ Ok table
   pub varied : AreTablesOf varying table tables
-  pub are : AreSweptLoads asked tables asked.loads.items swept
+  pub are : AreSweptLoads policy asked tables asked.loads.items swept
 
 -- the fault of a writer
 abbrev pub of_writer : ComparisonFault

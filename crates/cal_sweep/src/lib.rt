@@ -17,11 +17,11 @@ mod table;
 mod verdict;
 mod words;
 
-pub use answer::{EndedSweep, answer_sweep, end_sweep};
+pub use answer::{EndedSweeps, answer_sweep, end_sweeps};
 pub use fault::SweepFault;
 pub use job::SweepJob;
 pub use naming::SweepNames;
 pub use objective::{Objective, objective_of};
-pub use runs::{Sweep, SweptLoad, SweptRun, swept};
-pub use verdict::{is_missed, status_of_sweep};
+pub use runs::{Sweep, SweptLoad, SweptRun, swept, swept_by_each};
+pub use verdict::{is_missed, status_of_sweeps};
 pub use words::{Asked, SweepWords, asked_of};

@@ -1,20 +1,42 @@
-//! What the tables, the tasks and the clock ticks of a sweep are called.
+//! What the tables, the policies, the tasks and the clock ticks of a sweep are called.
 
 ghost use Rattle.std.specs.Prelude.{◌≡◌, IfErr, IfOk, length};
 ghost use Rattle.cal_sweep.specs.Faults.{AreCounted};
 
 use crate::fault::SweepFault;
 use cal_machine::Config;
+use cal_policy::Policy;
 use cal_tables::{Labels, Variation};
 
-/// What the tables, the tasks and the clock ticks of a sweep are called.
+/// What the tables, the policies, the tasks and the clock ticks of a sweep are called.
 #[derive(Clone, Copy)]
 pub struct SweepNames<'a> {
     /// The key and the values that make the tables, of which each is called by its own; none where
     /// there is the input's table alone.
     pub variation: Option<Variation<'a>>,
+    /// The policies by each of which there is a sweep.
+    pub policies: &'a [Policy],
     /// What tasks and clock ticks are called.
     pub labels: Labels<'a>,
+}
+
+impl<'a> SweepNames<'a> {
+    /// The value that made the table at a place.
+    pub fn value(self, table: usize) -> Option<&'a str> {
+        let variation = self.variation?;
+        variation.values.get(table).copied()
+    }
+
+    /// The name of the policy at a place, where there are several.
+    pub fn policy(self, policy: usize) -> Option<&'static str> {
+        if self.policies.len() < 2 {
+            return None;
+        }
+        match self.policies.get(policy) {
+            Some(policy) => Some(policy.name()),
+            None => None,
+        }
+    }
 }
 
 /// Whether there are no names of tasks, or as many as a table has tasks. The fault is `Names`.

@@ -7,6 +7,7 @@ ghost use Rattle.cal_load.specs.Known.{AreKnown};
 ghost use Rattle.cal_sweep.specs.Faults.{AreCounted, IsFirstFault, SweepDecided};
 ghost use Rattle.cal_sweep.specs.Sweeps.{AreSweptLoads, AreSweptRuns, AreTablesOf, IsSweep};
 ghost use Rattle.cal_sweep.specs.Sweeps.{IsRunOn, IsSweptLoad, IsSweptRun, varying_of};
+ghost use Rattle.cal_tables.specs.Compared.{AreEachOf};
 ghost use Rattle.cal_tables.specs.Joining.{table_part};
 ghost use Rattle.cal_trace.specs.Arrivals.FitsTable.{FitsTable};
 
@@ -15,6 +16,7 @@ use crate::job::SweepJob;
 use crate::naming::are_counted;
 use cal_load::{ArrivalPlan, Count, Made, are_known, made_arrivals};
 use cal_machine::Config;
+use cal_policy::Policy;
 use cal_tables::{
     ComparisonFault, Reason, RunNumbers, Variation, measured_run, table_at, table_part,
     varied_tables,
@@ -50,18 +52,19 @@ pub struct Sweep {
     pub loads: Vec<SweptLoad>,
 }
 
-/// The run of a table on arrivals that were made, measured. A fault is that of the table at this
-/// place.
+/// The run of a table by this policy on arrivals that were made, measured. A fault is that of the
+/// table at this place.
 fn run_on(
     alloc: Global,
+    policy: Policy,
     table: &Config,
     place: usize,
     made: Made,
 ) -> Result<SweptRun, ComparisonFault>
     requires { FitsTable table.now made.arrivals }
-    ensures { IfOk result (IsRunOn table.now made) }
+    ensures { IfOk result (IsRunOn policy table.now made) }
 {
-    match measured_run(alloc, table, &made.arrivals) {
+    match measured_run(alloc, table, policy, &made.arrivals) {
         Ok(numbers) => Ok(SweptRun {
             counts: made.counts,
             numbers,
@@ -76,11 +79,12 @@ fn run_on(
 /// The run of a table on the arrivals that are made for it with this load.
 fn swept_run<'a>(
     job: &SweepJob<'a>,
+    policy: Policy,
     table: &Config,
     place: usize,
     load: u64,
 ) -> Result<SweptRun, SweepFault<'a>>
-    ensures { IfOk result (IsSweptRun job.now.asked.now load table.now) }
+    ensures { IfOk result (IsSweptRun policy job.now.asked.now load table.now) }
 {
     let asked = job.asked;
     let loads = asked.at(job.alloc, load)?;
@@ -90,22 +94,23 @@ fn swept_run<'a>(
         seed: asked.seed,
     };
     let made = made_arrivals(job.alloc, table, &plan, asked.word)?;
-    let run = run_on(job.alloc, table, place, made)?;
+    let run = run_on(job.alloc, policy, table, place, made)?;
     Ok(run)
 }
 
 /// A run of each table with this load, in the order of the tables.
 fn swept_runs<'a>(
     job: &SweepJob<'a>,
+    policy: Policy,
     tables: &[Config],
     load: u64,
 ) -> Result<Vec<SweptRun>, SweepFault<'a>>
     ensures { IfOk result (λ runs.
-        AreSweptRuns job.now.asked.now load tables.now runs.items) }
+        AreSweptRuns policy job.now.asked.now load tables.now runs.items) }
 {
     let mut runs = Vec::new(job.alloc);
     for place in 0..tables.len() {
-        let of_table = swept_run(job, table_at(tables, place), place, load)?;
+        let of_table = swept_run(job, policy, table_at(tables, place), place, load)?;
         runs.push(of_table)?;
     }
     Ok(runs)
@@ -114,12 +119,13 @@ fn swept_runs<'a>(
 /// The runs of a load: one of each table.
 fn swept_load<'a>(
     job: &SweepJob<'a>,
+    policy: Policy,
     tables: &[Config],
     load: u64,
 ) -> Result<SweptLoad, SweepFault<'a>>
-    ensures { IfOk result (IsSweptLoad job.now.asked.now tables.now load) }
+    ensures { IfOk result (IsSweptLoad policy job.now.asked.now tables.now load) }
 {
-    let runs = swept_runs(job, tables, load)?;
+    let runs = swept_runs(job, policy, tables, load)?;
     Ok(SweptLoad { load, runs })
 }
 
@@ -129,20 +135,21 @@ fn swept_load<'a>(
 fn answered_loads<'a>(
     rt: &(impl Threads + Sync),
     job: &SweepJob<'a>,
+    policy: Policy,
     tables: &[Config],
     loads: &[u64],
 ) -> Result<Result<Vec<SweptLoad>, SweepFault<'a>>, AllocError>
-    ensures { IfOk result (λ answer. IfOk answer
-        (λ swept. AreSweptLoads job.now.asked.now tables.now loads.now swept.items)) }
+    ensures { IfOk result (λ answer. IfOk answer (λ swept.
+        AreSweptLoads policy job.now.asked.now tables.now loads.now swept.items)) }
 {
     loads
         .par_iter()
         .with_min_len(1)
         .map(
             |load: &u64| -> Result<SweptLoad, SweepFault>
-                ensures { IfOk result
-                    (IsSweptLoad job.entry.now.asked.now tables.entry.now load.now) }
-            { swept_load(job, tables, *load) },
+                ensures { IfOk result (IsSweptLoad policy
+                    job.entry.now.asked.now tables.entry.now load.now) }
+            { swept_load(job, policy, tables, *load) },
         )
         .collect(rt, job.alloc)
 }
@@ -151,13 +158,14 @@ fn answered_loads<'a>(
 fn swept_loads<'a>(
     rt: &(impl Threads + Sync),
     job: &SweepJob<'a>,
+    policy: Policy,
     tables: &[Config],
     loads: &[u64],
 ) -> Result<Vec<SweptLoad>, SweepFault<'a>>
     ensures { IfOk result (λ swept.
-        AreSweptLoads job.now.asked.now tables.now loads.now swept.items) }
+        AreSweptLoads policy job.now.asked.now tables.now loads.now swept.items) }
 {
-    answered_loads(rt, job, tables, loads)?
+    answered_loads(rt, job, policy, tables, loads)?
 }
 
 /// One table alone. Fails only when out of memory.
@@ -184,14 +192,19 @@ fn tables_of(
 }
 
 /// The table of a job's input, or those that it gives with each value of a variation, and for each
-/// load in turn a run of each of these tables on arrivals that are made for it with this load.
+/// load in turn a run by this policy of each of these tables on arrivals that are made for it
+/// with this load.
 ///
 /// The fault is that of the table, then `Names` where there are some and not as many as its tasks,
 /// then that of the first word that names a task which it has not, then that of the first value that
 /// makes the table faulty; then that of the first run that has one. `Memory` may come at any place.
-pub fn swept<'a>(rt: &(impl Threads + Sync), job: &SweepJob<'a>) -> Result<Sweep, SweepFault<'a>>
+pub fn swept<'a>(
+    rt: &(impl Threads + Sync),
+    job: &SweepJob<'a>,
+    policy: Policy,
+) -> Result<Sweep, SweepFault<'a>>
     ensures made { IfOk result (λ sweep. IsSweep job.now.input.now
-        (varying_of job.now.names.variation) job.now.asked.now
+        (varying_of job.now.names.variation) policy job.now.asked.now
         sweep.tables.items sweep.loads.items) }
     // None is made with some names that are not as many as the tasks, nor for a task that is not
     // there.
@@ -214,6 +227,27 @@ pub fn swept<'a>(rt: &(impl Threads + Sync), job: &SweepJob<'a>) -> Result<Sweep
     are_counted(&table, names.labels)?;
     are_known(&table, asked.tasks.as_slice(), asked.named.as_slice())?;
     let tables = tables_of(alloc, table, names.variation)?;
-    let loads = swept_loads(rt, job, tables.as_slice(), asked.loads.as_slice())?;
+    let loads = swept_loads(rt, job, policy, tables.as_slice(), asked.loads.as_slice())?;
     Ok(Sweep { tables, loads })
+}
+
+/// The sweep by each of a job's policies, in their order. The fault is that of the first that has one,
+/// as `swept` says.
+pub fn swept_by_each<'a>(
+    rt: &(impl Threads + Sync),
+    job: &SweepJob<'a>,
+) -> Result<Vec<Sweep>, SweepFault<'a>>
+    ensures made { IfOk result (λ sweeps. AreEachOf (λ policy sweep. IsSweep job.now.input.now
+        (varying_of job.now.names.variation) policy job.now.asked.now
+        sweep.tables.items sweep.loads.items) job.now.names.policies.now sweeps.items) }
+    ensures refused { IfErr result (λ fault. SweepDecided fault (IsFirstFault
+        (table_in (table_part job.now.input.now)) (length job.now.names.labels.names.now)
+        job.now.asked.now.tasks.items fault)) }
+{
+    let mut sweeps = Vec::new(job.alloc);
+    for policy in job.names.policies {
+        let sweep = swept(rt, job, *policy)?;
+        sweeps.push(sweep)?;
+    }
+    Ok(sweeps)
 }

@@ -1,4 +1,4 @@
-//! A sweep as a table: a row for each run, by loads and then by tables.
+//! Sweeps as a table: a row for each run, by loads, then by tables, and last by policies.
 
 use crate::naming::SweepNames;
 use crate::objective::rank_word;
@@ -107,10 +107,34 @@ fn figure_of(table: &Config, run: &SweptRun, task: usize, column: Column) -> Opt
     }
 }
 
-/// Which sweep is shown, of which task, under which names, and in which form.
+/// A run, and by the tables and policies which it is.
+#[derive(Clone, Copy)]
+struct RunAt<'a> {
+    place: usize,
+    policy: usize,
+    table: &'a Config,
+    run: &'a SweptRun,
+}
+
+/// What stands for a table and for a policy, where one of them has a name, or both have.
+fn joined(
+    alloc: Global,
+    table: Option<&str>,
+    policy: Option<&str>,
+) -> Result<Option<String>, AllocError> {
+    let name = match (table, policy) {
+        (None, None) => return Ok(None),
+        (Some(table), Some(policy)) => format!(in alloc; "{table} {policy}")?,
+        (Some(one), None) | (None, Some(one)) => String::from_str(alloc, one)?,
+    };
+    Ok(Some(name))
+}
+
+/// Which sweeps are shown, of which task, under which names, and in which form.
 #[derive(Clone, Copy)]
 pub struct ShownSweep<'a> {
-    pub sweep: &'a Sweep,
+    /// The sweep by each policy.
+    pub sweeps: &'a [Sweep],
     /// The number of the task.
     pub task: usize,
     pub names: SweepNames<'a>,
@@ -136,12 +160,26 @@ impl<'a> ShownSweep<'a> {
         }
     }
 
+    /// What stands over the names of the runs of a load, where these have names: the key that is
+    /// varied, `policy` where there are several, or both.
+    fn run_heading(self, alloc: Global) -> Result<Option<String>, AllocError> {
+        let key = match self.names.variation {
+            Some(variation) => Some(variation.key),
+            None => None,
+        };
+        let policy = match self.names.policy(0) {
+            Some(_) => Some("policy"),
+            None => None,
+        };
+        joined(alloc, key, policy)
+    }
+
     /// The first row: what each column is.
     fn heading(self, alloc: Global) -> Result<Vec<String>, AllocError> {
         let mut row = Vec::new(alloc);
         row.push(self.load_heading(alloc)?)?;
-        if let Some(variation) = self.names.variation {
-            row.push(String::from_str(alloc, variation.key)?)?;
+        if let Some(name) = self.run_heading(alloc)? {
+            row.push(name)?;
         }
         for column in COLUMNS {
             let name = String::from_str(alloc, name_of(column))?;
@@ -150,61 +188,80 @@ impl<'a> ShownSweep<'a> {
         Ok(row)
     }
 
-    /// What a column says of the run of the table at a place.
-    fn figure(self, place: usize, run: &SweptRun, column: Column) -> Option<Figure> {
-        let table = self.sweep.tables.as_slice().get(place)?;
-        figure_of(table, run, self.task, column)
-    }
-
-    /// The value that made the table at a place.
-    fn value(self, place: usize) -> Option<&'a str> {
-        let variation = self.names.variation?;
-        variation.values.get(place).copied()
-    }
-
-    /// The row of the run of the table at a place: the load, the value that made the table, and
-    /// what each column says.
-    fn row(
-        self,
-        alloc: Global,
-        load: u64,
-        place: usize,
-        run: &SweptRun,
-    ) -> Result<Vec<String>, AllocError> {
+    /// The row of a run: the load, what the run is called, and what each column says.
+    fn row(self, alloc: Global, load: u64, at: RunAt<'_>) -> Result<Vec<String>, AllocError> {
         let mut row = Vec::new(alloc);
         row.push(number(alloc, load, Unit::Thousandth)?)?;
-        if let Some(value) = self.value(place) {
-            row.push(String::from_str(alloc, value)?)?;
+        let (value, policy) = (self.names.value(at.place), self.names.policy(at.policy));
+        if let Some(name) = joined(alloc, value, policy)? {
+            row.push(name)?;
         }
         for column in COLUMNS {
-            let figure = self.figure(place, run, column);
+            let figure = figure_of(at.table, at.run, self.task, column);
             let form = self.form_of(column);
             form.put_figure(alloc, &mut row, figure, unit_of(column))?;
         }
         Ok(row)
     }
 
-    /// Puts the rows of a load.
-    fn put_load(
+    /// The run by the policy at a place of the table at another, with the load at a third.
+    fn run_at(self, load: usize, place: usize, policy: usize) -> Option<RunAt<'a>> {
+        let sweep = self.sweeps.get(policy)?;
+        Some(RunAt {
+            place,
+            policy,
+            table: sweep.tables.as_slice().get(place)?,
+            run: sweep
+                .loads
+                .as_slice()
+                .get(load)?
+                .runs
+                .as_slice()
+                .get(place)?,
+        })
+    }
+
+    /// Puts the rows of a load and a table, one for each policy.
+    fn put_table(
         self,
         alloc: Global,
         load: &SweptLoad,
+        places: (usize, usize),
         sheet: &mut Sheet,
     ) -> Result<(), AllocError> {
-        for place in 0..load.runs.len() {
-            let row = self.row(alloc, load.load, place, &load.runs[place])?;
-            sheet.put(row)?;
+        for policy in 0..self.sweeps.len() {
+            if let Some(run) = self.run_at(places.0, places.1, policy) {
+                sheet.put(self.row(alloc, load.load, run)?)?;
+            }
         }
         Ok(())
     }
 
-    /// The runs of the sweep, a row for each: what came of the task in it. Fails only when out of
+    /// Puts the rows of the load at a place.
+    fn put_load(
+        self,
+        alloc: Global,
+        load: &SweptLoad,
+        place: usize,
+        sheet: &mut Sheet,
+    ) -> Result<(), AllocError> {
+        for table in 0..load.runs.len() {
+            self.put_table(alloc, load, (place, table), sheet)?;
+        }
+        Ok(())
+    }
+
+    /// The runs of the sweeps, a row for each: what came of the task in it. Fails only when out of
     /// memory.
     pub fn sheet(self, alloc: Global) -> Result<Sheet, AllocError> {
         let mut sheet = Sheet::new(alloc);
         sheet.put(self.heading(alloc)?)?;
-        for load in self.sweep.loads.as_slice() {
-            self.put_load(alloc, load, &mut sheet)?;
+        let Some(first) = self.sweeps.first() else {
+            return Ok(sheet);
+        };
+        let loads = first.loads.as_slice();
+        for place in 0..loads.len() {
+            self.put_load(alloc, &loads[place], place, &mut sheet)?;
         }
         Ok(sheet)
     }

@@ -2,13 +2,13 @@
 
 ghost use Rattle.std.specs.Prelude.{◌≡◌};
 ghost use Rattle.std.specs.List.{list_any};
-ghost use Rattle.cal_sweep.specs.Objectives.{is_missed, is_missed_by, status_of_sweep};
+ghost use Rattle.cal_sweep.specs.Objectives.{is_missed, is_missed_by, status_of_sweeps};
 
 use crate::naming::SweepNames;
 use crate::objective::{Objective, is_kept, rank_word, response_at};
 use crate::runs::{Sweep, SweptLoad, SweptRun};
 use cal_measure::Time;
-use cal_tables::{Labels, Variation};
+use cal_tables::Labels;
 use std::io::Write;
 
 /// Whether a run misses an objective.
@@ -43,18 +43,37 @@ pub fn is_missed(objective: Option<Objective>, loads: &[SweptLoad]) -> bool
     }
 }
 
-/// The exit status after a sweep: 1 where one of the runs of its last load misses the objective,
-/// and 0 else.
-pub fn status_of_sweep(objective: Option<Objective>, loads: &[SweptLoad]) -> u8
-    ensures { result ≡ status_of_sweep objective loads.now }
+/// Whether one of some sweeps misses an objective at its last load.
+fn is_missed_in_any(objective: Option<Objective>, sweeps: &[Sweep]) -> bool
+    ensures { result ≡ list_any (λ sweep. is_missed objective sweep.loads.items) sweeps.now }
 {
-    if is_missed(objective, loads) { 1 } else { 0 }
+    for sweep in sweeps {
+        if is_missed(objective, sweep.loads.as_slice()) {
+            return true;
+        }
+    }
+    false
 }
 
-/// Writes a line for each table whose run of the last load misses the objective: the objective, the
-/// load, what stands at the rank there, and up to which load the objective was kept.
+/// The exit status after some sweeps: 1 where one of the runs of the last load of one misses the
+/// objective, and 0 else.
+pub fn status_of_sweeps(objective: Option<Objective>, sweeps: &[Sweep]) -> u8
+    ensures { result ≡ status_of_sweeps objective sweeps.now }
+{
+    if is_missed_in_any(objective, sweeps) {
+        1
+    } else {
+        0
+    }
+}
+
+/// Writes a line for each table whose run of the last load of a sweep misses the objective: the
+/// objective, the load, what stands at the rank there, and up to which load the objective was kept.
+/// Before it stand the value that makes the table and the policy, at this place, where there are
+/// several.
 pub fn say_misses<E: Write>(
     sweep: &Sweep,
+    policy: usize,
     objective: &Objective,
     names: SweepNames<'_>,
     errors: &mut E,
@@ -66,7 +85,7 @@ pub fn say_misses<E: Write>(
     for table in 0..last.runs.len() {
         let run = &last.runs[table];
         if is_missed_by(objective, run) {
-            say_name(names.variation, table, errors);
+            say_name(names, table, policy, errors);
             let miss = Miss {
                 objective,
                 load: last.load,
@@ -78,13 +97,14 @@ pub fn say_misses<E: Write>(
     }
 }
 
-/// Writes the name of the program, and the value that makes the table.
-fn say_name<E: Write>(variation: Option<Variation<'_>>, table: usize, errors: &mut E) {
+/// Writes the name of the program, the value that makes the table, and the policy.
+fn say_name<E: Write>(names: SweepNames<'_>, table: usize, policy: usize, errors: &mut E) {
     let _ = write!(errors, "caladan_view: ");
-    if let Some(variation) = variation {
-        if let Some(value) = variation.values.get(table) {
-            let _ = write!(errors, "{}={value}: ", variation.key);
-        }
+    if let (Some(variation), Some(value)) = (names.variation, names.value(table)) {
+        let _ = write!(errors, "{}={value}: ", variation.key);
+    }
+    if let Some(policy) = names.policy(policy) {
+        let _ = write!(errors, "{policy}: ");
     }
 }
 

@@ -6,7 +6,9 @@ use Rattle.cal_input.specs.Recorded.{recorded_in, recorded_on}
 use Rattle.cal_input.specs.declared.fault.RunFault.{RunFault}
 use Rattle.cal_input.proofs.Refusals.{run_decided}
 use Rattle.cal_machine.specs.Table.{Table}
+use Rattle.cal_policy.proofs.PolicyLemmas.{verdict_legal}
 use Rattle.cal_policy.specs.declared.history.entry.PassEntry.{PassEntry}
+use Rattle.cal_policy.specs.declared.policy.Policy.{Policy}
 use Rattle.cal_policy.specs.declared.verdict.Verdict.TheVariants as verdicts
 use Rattle.cal_trace.specs.declared.arrivals.Arrivals.{Arrivals}
 use Rattle.cal_trace.specs.declared.fault.TraceFault.{TraceFault}
@@ -16,15 +18,16 @@ use Rattle.cal_tables.specs.declared.recorded.HistoryNumbers.{HistoryNumbers}
 use Rattle.cal_tables.specs.declared.recorded.Recorded.TheVariants as recorded
 
 -- of a recorded history
-pub legal_recorded : (table : Table) (trace : List ℕ) (numbers : HistoryNumbers) → IsRecorded table trace (recorded.Legal numbers)
-    → IsVerdictFor verdicts.Legal (asked_history (recorded_in table trace))
-legal_recorded table trace numbers told =
-    subst (λ (h : Result (List PassEntry) TraceFault). IsVerdictFor verdicts.Legal (asked_history (recorded_on table h))) (sym told.told) told.measured.legal
+pub legal_recorded : (policy : Policy) (table : Table) (trace : List ℕ) (numbers : HistoryNumbers) → IsRecorded policy table trace (recorded.Legal numbers)
+    → IsVerdictFor policy verdicts.Legal (asked_history (recorded_in table trace))
+legal_recorded policy table trace numbers told =
+    subst (λ (h : Result (List PassEntry) TraceFault). IsVerdictFor policy verdicts.Legal (asked_history (recorded_on table h))) (sym told.told)
+    (verdict_legal policy table told.history told.measured.legal)
 
-pub illegal_recorded : (table : Table) (trace : List ℕ) (pass : ℕ) → IsRecorded table trace (recorded.Illegal pass)
-    → IsVerdictFor (verdicts.Illegal pass) (asked_history (recorded_in table trace))
-illegal_recorded table trace pass told =
-    subst (λ (h : Result (List PassEntry) TraceFault). IsVerdictFor (verdicts.Illegal pass) (asked_history (recorded_on table h))) (sym told.told) told.measured
+pub illegal_recorded : (policy : Policy) (table : Table) (trace : List ℕ) (pass : ℕ) → IsRecorded policy table trace (recorded.Illegal pass)
+    → IsVerdictFor policy (verdicts.Illegal pass) (asked_history (recorded_in table trace))
+illegal_recorded policy table trace pass told =
+    subst (λ (h : Result (List PassEntry) TraceFault). IsVerdictFor policy (verdicts.Illegal pass) (asked_history (recorded_on table h))) (sym told.told) told.measured
 
 -- what an input of these parts asks for
 pub asked_parts : (input : List ℕ) (table : Table) (trace : List ℕ) → parts_of input ≡ Ok (record { table = table; trace = trace })
@@ -36,9 +39,9 @@ pub asked_run : (input : List ℕ) (table : Table) (trace : List ℕ) (arrivals 
 asked_run input table trace arrivals parts told = asked_parts input table trace parts ∙ ap (asked_on table trace) told
 
 -- a run is legal
-pub verdict_run : (input : List ℕ) (table : Table) (trace : List ℕ) (arrivals : Arrivals) → parts_of input ≡ Ok (record { table = table; trace = trace })
-    → arrivals_in table trace ≡ Ok arrivals → IsVerdictFor verdicts.Legal (asked_of input)
-verdict_run input table trace arrivals parts told = subst (λ (o : Result Subject RunFault). IsVerdictFor verdicts.Legal o) (sym (asked_run input table trace arrivals parts told)) refl
+pub verdict_run : (policy : Policy) (input : List ℕ) (table : Table) (trace : List ℕ) (arrivals : Arrivals) → parts_of input ≡ Ok (record { table = table; trace = trace })
+    → arrivals_in table trace ≡ Ok arrivals → IsVerdictFor policy verdicts.Legal (asked_of input)
+verdict_run policy input table trace arrivals parts told = subst (λ (o : Result Subject RunFault). IsVerdictFor policy verdicts.Legal o) (sym (asked_run input table trace arrivals parts told)) refl
 
 -- a fault of a part is the input's
 pub refused_parts : (input : List ℕ) (f : RunFault) → Decided f (parts_of input ≡ Err f) → Decided f (asked_of input ≡ Err f)

@@ -7,7 +7,8 @@ use Rattle.cal_input.specs.declared.fault.RunFault.{RunFault}
 use Rattle.cal_input.specs.declared.fault.RunFault.TheVariants as fault
 use Rattle.cal_machine.specs.Table.{Table}
 use Rattle.cal_machine.specs.Tasks.{threads_in}
-use Rattle.cal_policy.specs.Verdict.{IsVerdict}
+use Rattle.cal_policy.specs.Policies.{IsVerdictBy}
+use Rattle.cal_policy.specs.declared.policy.Policy.{Policy}
 use Rattle.cal_policy.specs.declared.verdict.Verdict.{Verdict}
 use Rattle.cal_policy.specs.declared.verdict.Verdict.TheVariants as verdicts
 use Rattle.cal_trace.specs.Arrivals.{arrivals_of}
@@ -51,17 +52,17 @@ asked_in (Ok parts) = asked_on parts.table parts.trace (arrivals_in parts.table 
 abbrev pub asked_of : List ℕ → Result Subject RunFault
 asked_of input = asked_in (parts_of input)
 
--- the verdict on what is asked for: a run is legal, on a history it is the audit's
-abbrev pub IsVerdictOn : Verdict → Subject → Type 0
-IsVerdictOn verdict (of_run input) = verdict ≡ verdicts.Legal
-IsVerdictOn verdict (of_history run) = IsVerdict run.table run.history verdict
+-- the verdict by the policy on what is asked for: a run is legal, on a history it is the audit's
+abbrev pub IsVerdictOn : Policy → Verdict → Subject → Type 0
+IsVerdictOn policy verdict (of_run input) = verdict ≡ verdicts.Legal
+IsVerdictOn policy verdict (of_history run) = IsVerdictBy policy run.table run.history verdict
 
 -- something is asked for, and this is the verdict on it
-abbrev pub IsVerdictFor : Verdict → Result Subject RunFault → Type 0
-IsVerdictFor verdict (Err f) = ⊥
-IsVerdictFor verdict (Ok asked) = IsVerdictOn verdict asked
+abbrev pub IsVerdictFor : Policy → Verdict → Result Subject RunFault → Type 0
+IsVerdictFor policy verdict (Err f) = ⊥
+IsVerdictFor policy verdict (Ok asked) = IsVerdictOn policy verdict asked
 
 -- the verdict is that on what is asked for, or the fault says what it must of the input
-abbrev pub Judges : Result Verdict RunFault → Result Subject RunFault → Type 0
-Judges (Ok verdict) asked = IsVerdictFor verdict asked
-Judges (Err f) asked = Failed f asked
+abbrev pub Judges : Policy → Result Verdict RunFault → Result Subject RunFault → Type 0
+Judges policy (Ok verdict) asked = IsVerdictFor policy verdict asked
+Judges policy (Err f) asked = Failed f asked

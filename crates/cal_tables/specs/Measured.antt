@@ -10,7 +10,8 @@ use Rattle.cal_measure.specs.ThreadWork.{AreTotalsOfEach, IsThreadWorkOf}
 use Rattle.cal_measure.specs.Walk.{IsWalkOf}
 use Rattle.cal_measure.specs.declared.requests.TaskRequests.{TaskRequests}
 use Rattle.cal_policy.specs.declared.history.entry.PassEntry.{PassEntry}
-use Rattle.cal_run.specs.Outcome.{IsRun}
+use Rattle.cal_policy.specs.declared.policy.Policy.{Policy}
+use Rattle.cal_run.specs.Outcome.{IsRunBy}
 use Rattle.cal_run.specs.declared.outcome.Outcome.{Outcome}
 use Rattle.cal_tables.specs.declared.collecting.EndedNumbers.{EndedNumbers}
 use Rattle.cal_tables.specs.declared.collecting.OpenNumbers.{OpenNumbers}
@@ -57,9 +58,9 @@ pub record AreRunNumbers (table : Table) (arrivals : Arrivals) (outcome : Outcom
   pub whole : MakeTheWhole table numbers.machine
   pub turns : numbers.turns ≡ turns_last arrivals
 
--- a run on these arrivals came to some outcome, and these are its numbers
-pub record IsMeasuredRun (table : Table) (arrivals : Arrivals)
+-- a run by the policy on these arrivals came to some outcome, and these are its numbers
+pub record IsMeasuredRun (policy : Policy) (table : Table) (arrivals : Arrivals)
     (numbers : RunNumbers) : Type 0 where
   pub outcome : Outcome
-  pub run : IsRun table arrivals outcome
+  pub run : IsRunBy policy table arrivals outcome
   pub are : AreRunNumbers table arrivals outcome numbers

@@ -1,9 +1,10 @@
 -- A recorded history, measured.
 use Rattle.std.specs.Prelude.{◌≡◌, ℕ, List, Ok}
 use Rattle.cal_machine.specs.Table.{Table}
-use Rattle.cal_policy.specs.Pass.{IsLegal}
-use Rattle.cal_policy.specs.Verdict.{IsFirstIllegal}
+use Rattle.cal_policy.specs.Policies.{IsLegalBy, IsVerdictBy}
 use Rattle.cal_policy.specs.declared.history.entry.PassEntry.{PassEntry}
+use Rattle.cal_policy.specs.declared.policy.Policy.{Policy}
+use Rattle.cal_policy.specs.declared.verdict.Verdict.TheVariants as verdicts
 use Rattle.cal_tables.specs.Measured.{AreHistoryNumbers}
 use Rattle.cal_tables.specs.declared.recorded.HistoryNumbers.{HistoryNumbers}
 use Rattle.cal_tables.specs.declared.recorded.Recorded.{Recorded}
@@ -12,19 +13,26 @@ use Rattle.cal_trace.specs.History.{history_of}
 use Rattle.cal_trace.specs.History.Reading.{extent_of}
 use Rattle.cal_trace.specs.Rows.{rows_of}
 
--- the history is legal, and these are the numbers of its cores
-pub record AreLegalNumbers (table : Table) (history : List PassEntry)
+-- the history is one of some policy
+pub record IsOfAPolicy (table : Table) (history : List PassEntry) : Type 0 where
+  pub policy : Policy
+  pub legal : IsLegalBy policy table history
+
+-- the history is the policy's, and these are the numbers of its cores
+pub record AreLegalNumbers (policy : Policy) (table : Table) (history : List PassEntry)
     (numbers : HistoryNumbers) : Type 0 where
-  pub legal : IsLegal table history
+  pub legal : IsLegalBy policy table history
   pub are : AreHistoryNumbers table history numbers
 
--- what is said of a history: its numbers, or the first pass that is none
-abbrev pub IsMeasured : Table → List PassEntry → Recorded → Type 0
-IsMeasured table history (Legal numbers) = AreLegalNumbers table history numbers
-IsMeasured table history (Illegal pass) = IsFirstIllegal table history pass
+-- what is said of a history by the policy: its numbers, or the first pass that is none
+abbrev pub IsMeasured : Policy → Table → List PassEntry → Recorded → Type 0
+IsMeasured policy table history (Legal numbers) = AreLegalNumbers policy table history numbers
+IsMeasured policy table history (Illegal pass) =
+    IsVerdictBy policy table history (verdicts.Illegal pass)
 
--- what is said of the history that a text tells
-pub record IsRecorded (table : Table) (trace : List ℕ) (recorded : Recorded) : Type 0 where
+-- what is said by the policy of the history that a text tells
+pub record IsRecorded (policy : Policy) (table : Table) (trace : List ℕ)
+    (recorded : Recorded) : Type 0 where
   pub history : List PassEntry
   pub told : history_of (extent_of table) (rows_of trace) ≡ Ok history
-  pub measured : IsMeasured table history recorded
+  pub measured : IsMeasured policy table history recorded

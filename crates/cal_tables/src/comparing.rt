@@ -10,7 +10,7 @@ pub mod tables;
 pub mod varying;
 
 ghost use Rattle.std.specs.Prelude.{◌≡◌, ◌≢◌, IfErr, IfOk, map};
-ghost use Rattle.cal_tables.specs.Compared.{IsComparison};
+ghost use Rattle.cal_tables.specs.Compared.{AreEachOf, IsComparison};
 ghost use Rattle.cal_tables.specs.Varied.{IsComparisonOf, IsVariation};
 
 use crate::comparing::fault::ComparisonFault;
@@ -23,6 +23,7 @@ use crate::measuring::RunNumbers;
 use crate::style::NumberStyle;
 use cal_input::RunFault;
 use cal_machine::Config;
+use cal_policy::Policy;
 use std::alloc::Global;
 use std::io::Write;
 
@@ -35,19 +36,23 @@ pub struct Comparison<R> {
     pub runs: Vec<R>,
 }
 
-/// The tables of an input, each ended by a separator line, and what is kept of each one's run on the
-/// arrivals that stand after the last of these lines, in the order of the tables. The arrivals are
-/// given for the first table; each gets them as `moved_arrivals` says.
+/// The tables of an input, each ended by a separator line, and what is kept of each one's run by this
+/// policy on the arrivals that stand after the last of these lines, in the order of the tables. The
+/// arrivals are given for the first table; each gets them as `moved_arrivals` says.
 ///
 /// The fault is the input's `Separator`, else the first table's that has one, else that of the
 /// arrivals, which is the first table's, else that of the first table which they do not fit.
 /// `Memory` may come at any place.
-pub fn compared<R: OfRun>(alloc: Global, input: &[u8]) -> Result<Comparison<R>, ComparisonFault>
+pub fn compared<R: OfRun>(
+    alloc: Global,
+    policy: Policy,
+    input: &[u8],
+) -> Result<Comparison<R>, ComparisonFault>
     ensures { IfOk result (λ comparison.
-        IsComparison R.tells input.now comparison.tables.items comparison.runs.items) }
+        IsComparison (R.tells policy) input.now comparison.tables.items comparison.runs.items) }
 {
     let from = given_tables(alloc, input)?;
-    let runs = runs_of(alloc, &from)?;
+    let runs = runs_of(alloc, policy, &from)?;
     let GivenTables { tables, .. } = from;
     Ok(Comparison { tables, runs })
 }
@@ -62,73 +67,97 @@ pub struct Variation<'a> {
 }
 
 /// The tables that the one of an input gives with each of these values at this key, and what is kept
-/// of each one's run on the input's arrivals, in the order of the values. The arrivals are given for
-/// the input's table; each gets them as `moved_arrivals` says.
+/// of each one's run by this policy on the input's arrivals, in the order of the values. The arrivals
+/// are given for the input's table; each gets them as `moved_arrivals` says.
 ///
 /// The faults are those of the word `lockstep`, in its order; then that of the first value that
 /// makes the table faulty (a key that it has not is unknown), then that of the first value which
 /// makes a table that the arrivals do not fit. `Memory` may come at any place.
 pub fn compared_values<R: OfRun>(
     alloc: Global,
+    policy: Policy,
     input: &[u8],
     variation: Variation<'_>,
 ) -> Result<Comparison<R>, ComparisonFault>
-    ensures { IfOk result (λ comparison. IsVariation R.tells input.now variation.entry.key.now
+    ensures { IfOk result (λ comparison. IsVariation (R.tells policy) input.now
+        variation.entry.key.now
         (map (λ value. value.now) variation.entry.values.now)
         comparison.tables.items comparison.runs.items) }
 {
     let from = varied_given(alloc, input, variation)?;
-    let runs = runs_of(alloc, &from)?;
+    let runs = runs_of(alloc, policy, &from)?;
     let GivenTables { tables, .. } = from;
     Ok(Comparison { tables, runs })
 }
 
-/// The runs of an input: of its tables, or of those that its table gives with some values. The
-/// faults are those of `compared`, or of `compared_values`.
+/// The runs of an input by this policy: of its tables, or of those that its table gives with some
+/// values. The faults are those of `compared`, or of `compared_values`.
 pub fn comparison_of<R: OfRun>(
     alloc: Global,
+    policy: Policy,
     input: &[u8],
     variation: Option<Variation<'_>>,
 ) -> Result<Comparison<R>, ComparisonFault>
-    ensures { IfOk result (λ comparison. IsComparisonOf R.tells input.now variation.entry
+    ensures { IfOk result (λ comparison. IsComparisonOf (R.tells policy) input.now variation.entry
         comparison.tables.items comparison.runs.items) }
 {
     match variation {
-        Some(variation) => compared_values(alloc, input, variation),
-        None => compared(alloc, input),
+        Some(variation) => compared_values(alloc, policy, input, variation),
+        None => compared(alloc, policy, input),
     }
 }
 
-/// What is written of the runs of an input, in memory.
-fn compared_text(
-    alloc: Global,
-    input: &[u8],
-    variation: Option<Variation<'_>>,
-    style: NumberStyle<'_>,
-) -> Result<String, ComparisonFault> {
-    let runs: Comparison<RunNumbers> = comparison_of(alloc, input, variation)?;
-    let shown = ShownComparison {
-        runs: &runs,
-        variation,
-        style,
-    };
-    let sheet = shown.sheet(alloc)?;
-    Ok(sheet.written(alloc, style.form)?)
-}
-
-/// An input of tables and arrivals.
+/// An input of tables and arrivals, and by what its runs are made.
 #[derive(Clone, Copy)]
 pub struct ComparedInput<'a> {
     /// The bytes of the input.
     pub bytes: &'a [u8],
     /// What varies its one table; without it the tables are those of the input.
     pub variation: Option<Variation<'a>>,
+    /// By which policies each table has a run.
+    pub policies: &'a [Policy],
 }
 
-/// Makes a whole run of each table of an input on one thread, and writes the numbers side by side in
-/// this style: in columns that line up, or as CSV. With a variation the input has one table, and the
-/// runs are those of the tables that it gives. Nothing is written before the runs were made and the
-/// text is in memory.
+/// The runs of an input by each of its policies, in their order. The fault is that of the first that
+/// has one.
+pub fn comparisons_of<R: OfRun>(
+    alloc: Global,
+    input: ComparedInput<'_>,
+) -> Result<Vec<Comparison<R>>, ComparisonFault>
+    ensures { IfOk result (λ comparisons. AreEachOf
+        (λ policy comparison. IsComparisonOf (R.tells policy) input.entry.bytes.now
+        input.entry.variation comparison.tables.items comparison.runs.items)
+        input.entry.policies.now comparisons.items) }
+{
+    let mut comparisons = Vec::new(alloc);
+    for policy in input.policies {
+        let runs = comparison_of(alloc, *policy, input.bytes, input.variation)?;
+        comparisons.push(runs)?;
+    }
+    Ok(comparisons)
+}
+
+/// What is written of the runs of an input, in memory.
+fn compared_text(
+    alloc: Global,
+    input: ComparedInput<'_>,
+    style: NumberStyle<'_>,
+) -> Result<String, ComparisonFault> {
+    let runs: Vec<Comparison<RunNumbers>> = comparisons_of(alloc, input)?;
+    let shown = ShownComparison {
+        runs: runs.as_slice(),
+        policies: input.policies,
+        variation: input.variation,
+        style,
+    };
+    let sheet = shown.sheet(alloc)?;
+    Ok(sheet.written(alloc, style.form)?)
+}
+
+/// Makes a whole run of each table of an input by each policy on one thread, and writes the numbers
+/// side by side in this style: in columns that line up, or as CSV. With a variation the input has one
+/// table, and the runs are those of the tables that it gives. Nothing is written before the runs were
+/// made and the text is in memory.
 pub fn compare<W: Write>(
     alloc: Global,
     input: ComparedInput<'_>,
@@ -139,7 +168,7 @@ pub fn compare<W: Write>(
     ensures untouched { IfErr result (λ fault.
         fault ≢ ComparisonFault.Run RunFault.Write → writer.new ≡ writer.old) }
 {
-    let text = compared_text(alloc, input.bytes, input.variation, style)?;
+    let text = compared_text(alloc, input, style)?;
     match writer.write_all(text.as_bytes()) {
         Ok(()) => Ok(()),
         Err(_) => Err(ComparisonFault::from(RunFault::Write)),
@@ -148,7 +177,7 @@ pub fn compare<W: Write>(
 
 /// Writes of an input of `compare` that of `measure` for one of its tables, the first being 0: the
 /// table and the arrivals that it gets. With a variation it is one of those that the input's table
-/// gives. Nothing is written before the whole text is in memory.
+/// gives. Which policies there are is not asked. Nothing is written before the whole text is in memory.
 ///
 /// The faults are those of `compare` up to the arrivals, then `NoTable`, then that of the table
 /// which the arrivals do not fit.

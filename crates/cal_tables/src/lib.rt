@@ -24,7 +24,7 @@ pub use comparing::tables::read_tables;
 pub use comparing::varying::varied_tables;
 pub use comparing::{
     ComparedInput, Comparison, Variation, compare, compared, compared_values, comparison_of,
-    write_input,
+    comparisons_of, write_input,
 };
 pub use core_rows::{CoreLine, core_figure};
 pub use figures::{Figure, Rank, Unit, count, number, share, time_in};

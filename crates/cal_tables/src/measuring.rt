@@ -19,8 +19,8 @@ use crate::writing::{history_sheet, sheet_of};
 use cal_input::{RunFault, read_parts};
 use cal_machine::Config;
 use cal_measure::{MachineCores, TaskCores, TaskRequests, turns_last};
-use cal_policy::Verdict;
-use cal_run::lockstep_collected;
+use cal_policy::{Policy, Verdict};
+use cal_run::lockstep_collected_by;
 use cal_trace::{Arrivals, FaultKind, read_arrivals};
 use std::alloc::{AllocError, Global};
 use std::io::Write;
@@ -81,19 +81,20 @@ pub(crate) fn numbers_of_run(
     })
 }
 
-/// Makes a whole run on one thread on these arrivals, and measures it while it is made. Its fault is
-/// `Memory`.
+/// Makes a whole run by this policy on one thread on these arrivals, and measures it while it is
+/// made. Its fault is `Memory`.
 pub fn measured_run(
     alloc: Global,
     config: &Config,
+    policy: Policy,
     arrivals: &Arrivals,
 ) -> Result<RunNumbers, RunFault>
     requires fits { FitsTable config.now arrivals.now }
-    ensures numbers { IfOk result (IsMeasuredRun config.now arrivals.now) }
+    ensures numbers { IfOk result (IsMeasuredRun policy config.now arrivals.now) }
     ensures kind { IfErr result (λ fault. fault ≡ RunFault.Memory) }
 {
     let mut numbers = OpenNumbers::open(alloc, config)?;
-    let left = lockstep_collected(alloc, config, arrivals, &mut numbers)?;
+    let left = lockstep_collected_by(alloc, config, policy, arrivals, &mut numbers)?;
     let ended = numbers.end(alloc, arrivals, left)?;
     Ok(numbers_of_run(alloc, arrivals, &ended)?)
 }
@@ -101,40 +102,47 @@ pub fn measured_run(
 impl OfRun for RunNumbers {
     ghost tells = { IsMeasuredRun };
 
-    fn of_run(alloc: Global, config: &Config, arrivals: &Arrivals) -> Result<RunNumbers, RunFault> {
-        measured_run(alloc, config, arrivals)
+    fn of_run(
+        alloc: Global,
+        config: &Config,
+        policy: Policy,
+        arrivals: &Arrivals,
+    ) -> Result<RunNumbers, RunFault> {
+        measured_run(alloc, config, policy, arrivals)
     }
 }
 
-/// What is written of a run on these arrivals, in memory. Its fault is `Memory`.
+/// What is written of a run by this policy on these arrivals, in memory. Its fault is `Memory`.
 fn run_text(
     alloc: Global,
     config: &Config,
+    policy: Policy,
     arrivals: &Arrivals,
     style: NumberStyle<'_>,
 ) -> Result<String, RunFault>
     requires { FitsTable config.now arrivals.now }
     ensures kind { IfErr result (λ fault. fault ≡ RunFault.Memory) }
 {
-    let numbers = measured_run(alloc, config, arrivals)?;
+    let numbers = measured_run(alloc, config, policy, arrivals)?;
     let sheet = sheet_of(alloc, config, &numbers, style)?;
     Ok(sheet.written(alloc, style.form)?)
 }
 
-/// What an audit says of a recorded history, and what is written of it, in memory: of one that is
-/// not legal nothing.
+/// What an audit by this policy says of a recorded history, and what is written of it, in memory: of
+/// one that is not legal nothing.
 fn recorded_text(
     alloc: Global,
     config: &Config,
+    policy: Policy,
     trace: &[u8],
     style: NumberStyle<'_>,
 ) -> Result<(Verdict, String), RunFault>
     ensures verdict { IfOk result (λ told.
-        IsVerdictFor told.0 (asked_history (recorded_in config.now trace.now))) }
+        IsVerdictFor policy told.0 (asked_history (recorded_in config.now trace.now))) }
     ensures fault { IfErr result (λ fault.
         Decided fault (recorded_in config.now trace.now ≡ Err fault)) }
 {
-    match measured_recording(alloc, config, trace)? {
+    match measured_recording(alloc, config, policy, trace)? {
         Recorded::Legal { numbers } => {
             let sheet = history_sheet(alloc, config, &numbers, style)?;
             Ok((Verdict::Legal, sheet.written(alloc, style.form)?))
@@ -147,44 +155,49 @@ fn recorded_text(
 /// arrivals or, where what follows the table has not their header, of the history that it records.
 fn measured_text(
     alloc: Global,
+    policy: Policy,
     input: &[u8],
     style: NumberStyle<'_>,
 ) -> Result<(Verdict, String), RunFault>
-    ensures verdict { IfOk result (λ told. IsVerdictFor told.0 (asked_of input.now)) }
+    ensures verdict { IfOk result (λ told. IsVerdictFor policy told.0 (asked_of input.now)) }
     ensures fault { IfErr result (λ fault. Decided fault (asked_of input.now ≡ Err fault)) }
 {
     let (config, trace) = read_parts(alloc, input)?;
     match read_arrivals(alloc, &config, trace) {
-        Ok(arrivals) => Ok((Verdict::Legal, run_text(alloc, &config, &arrivals, style)?)),
+        Ok(arrivals) => {
+            let text = run_text(alloc, &config, policy, &arrivals, style)?;
+            Ok((Verdict::Legal, text))
+        }
         Err(fault) if fault.kind == FaultKind::Header => {
-            recorded_text(alloc, &config, trace, style)
+            recorded_text(alloc, &config, policy, trace, style)
         }
         Err(fault) => Err(RunFault::from(fault)),
     }
 }
 
 /// Writes the numbers of an input in this style: in columns that line up, or as CSV. Where it is a
-/// task table and arrivals they are those of a whole run on one thread; where it is a table and a
-/// history, those of the history's cores, if it is legal. What is answered is the audit's verdict; a
-/// run is legal. Nothing is written before the whole text is in memory.
+/// task table and arrivals they are those of a whole run by this policy on one thread; where it is a
+/// table and a history, those of the history's cores, if it is legal. What is answered is the audit's
+/// verdict; a run is legal. Nothing is written before the whole text is in memory.
 ///
 /// The faults are those of the word `lockstep`, in its order; of a history those of `audit`. An
 /// input is not too long here, whatever its length.
 pub fn measure<W: Write>(
     alloc: Global,
+    policy: Policy,
     input: &[u8],
     style: NumberStyle<'_>,
     writer: &mut W,
 ) -> Result<Verdict, RunFault>
     // The verdict is that on the run or the history that the input asks for, or the fault says what
     // it must of the input.
-    ensures exact { Judges result (asked_of input.now) }
+    ensures exact { Judges policy result (asked_of input.now) }
     // Nothing is written before the run was made, and nothing of a history that is not legal.
     ensures untouched { IfErr result (λ fault. fault ≢ RunFault.Write → writer.new ≡ writer.old) }
     ensures illegal { IfOk result (λ verdict.
         verdict ≢ Verdict.Legal → writer.new ≡ writer.old) }
 {
-    let (verdict, text) = measured_text(alloc, input, style)?;
+    let (verdict, text) = measured_text(alloc, policy, input, style)?;
     match verdict {
         Verdict::Illegal { .. } => Ok(verdict),
         Verdict::Legal => match writer.write_all(text.as_bytes()) {

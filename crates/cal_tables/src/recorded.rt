@@ -5,17 +5,17 @@ ghost use Rattle.cal_input.specs.Answers.{Decided};
 ghost use Rattle.cal_input.specs.Recorded.{recorded_in};
 ghost use Rattle.cal_machine.specs.Table.{Table};
 ghost use Rattle.cal_measure.specs.Walk.{IsOpenFor, IsWalkOf};
-ghost use Rattle.cal_policy.specs.Pass.{IsLegal};
-ghost use Rattle.cal_policy.specs.Verdict.{IsVerdict};
+ghost use Rattle.cal_policy.specs.Policies.{IsVerdictBy};
 ghost use Rattle.cal_policy.specs.declared.history.entry.PassEntry.{PassEntry as EntryOf};
 ghost use Rattle.cal_policy.specs.declared.history.entry.TheConstants.{MOST_PASSES};
 ghost use Rattle.cal_tables.specs.Measured.{AreHistoryNumbers};
-ghost use Rattle.cal_tables.specs.Recording.{IsMeasured, IsRecorded};
+ghost use Rattle.cal_tables.specs.Recording.{IsMeasured, IsOfAPolicy, IsRecorded};
 
+use cal_guard::{each_policy_is_permitted, passes_are_short, permitted_is_orderly};
 use cal_input::RunFault;
 use cal_machine::Config;
 use cal_measure::{MachineCores, TaskCores, Walk, walked};
-use cal_policy::{Auditor, PassEntry, Verdict};
+use cal_policy::{Auditor, PassEntry, Policy, Verdict};
 use cal_trace::read_history;
 use std::alloc::{AllocError, Global};
 
@@ -57,38 +57,53 @@ pub(crate) fn numbers_of_walk(alloc: Global, walk: &Walk) -> Result<HistoryNumbe
     })
 }
 
-/// The numbers of the cores in a legal history, by one walk over it. Fails only when out of memory.
+/// The numbers of the cores in a history of some policy, by one walk over it. Fails only when out of
+/// memory.
 pub fn history_numbers(
     alloc: Global,
     config: &Config,
     history: &[PassEntry],
 ) -> Result<HistoryNumbers, AllocError>
-    requires legal { IsLegal config.now history.now }
+    requires legal { IsOfAPolicy config.now history.now }
     requires few { length history.now ≤ MOST_PASSES }
     ensures { IfOk result (AreHistoryNumbers config.now history.now) }
 {
+    each_policy_is_permitted();
+    permitted_is_orderly();
+    passes_are_short();
+    config.limits();
     let walk = walked(alloc, config, history)?;
     numbers_of_walk(alloc, &walk)
 }
 
-/// What an audit says of a history. Fails only when out of memory.
-fn verdict_on(alloc: Global, config: &Config, history: &[PassEntry]) -> Result<Verdict, AllocError>
+/// What an audit by this policy says of a history. Fails only when out of memory.
+fn verdict_on(
+    alloc: Global,
+    config: &Config,
+    policy: Policy,
+    history: &[PassEntry],
+) -> Result<Verdict, AllocError>
     requires { length history.now ≤ MOST_PASSES }
-    ensures { IfOk result (IsVerdict config.now history.now) }
+    ensures { IfOk result (IsVerdictBy policy config.now history.now) }
 {
-    let mut auditor = Auditor::open(alloc, config)?;
+    let mut auditor = Auditor::open_by(alloc, config, policy)?;
     for entry in history {
         auditor.next(config, entry);
     }
     Ok(auditor.verdict())
 }
 
-/// What is said of a history.
-fn measured(alloc: Global, config: &Config, history: &[PassEntry]) -> Result<Recorded, AllocError>
+/// What is said of a history by this policy.
+fn measured(
+    alloc: Global,
+    config: &Config,
+    policy: Policy,
+    history: &[PassEntry],
+) -> Result<Recorded, AllocError>
     requires { length history.now ≤ MOST_PASSES }
-    ensures { IfOk result (IsMeasured config.now history.now) }
+    ensures { IfOk result (IsMeasured policy config.now history.now) }
 {
-    match verdict_on(alloc, config, history)? {
+    match verdict_on(alloc, config, policy, history)? {
         Verdict::Legal => {
             let numbers = history_numbers(alloc, config, history)?;
             Ok(Recorded::Legal { numbers })
@@ -97,19 +112,20 @@ fn measured(alloc: Global, config: &Config, history: &[PassEntry]) -> Result<Rec
     }
 }
 
-/// Reads a history for a table to its end, audits it, and measures it where it is legal. The whole
-/// history is in memory meanwhile.
+/// Reads a history for a table to its end, audits it by this policy, and measures it where it is
+/// legal. The whole history is in memory meanwhile.
 ///
 /// The fault is that of the trace. `Memory` may come at any place.
 pub fn measured_recording(
     alloc: Global,
     config: &Config,
+    policy: Policy,
     trace: &[u8],
 ) -> Result<Recorded, RunFault>
-    ensures recorded { IfOk result (IsRecorded config.now trace.now) }
+    ensures recorded { IfOk result (IsRecorded policy config.now trace.now) }
     ensures fault { IfErr result (λ fault.
         Decided fault (recorded_in config.now trace.now ≡ Err fault)) }
 {
     let history = read_history(alloc, config, trace)?;
-    Ok(measured(alloc, config, history.as_slice())?)
+    Ok(measured(alloc, config, policy, history.as_slice())?)
 }

@@ -20,28 +20,32 @@ use crate::standing::Row;
 use crate::walk::Walk;
 use cal_input::{RunFault, read_parts, recorded_passes};
 use cal_machine::Config;
-use cal_policy::{Action, PassEntry};
-use cal_run::lockstep_end;
+use cal_policy::{Action, PassEntry, Policy};
+use cal_run::lockstep_end_by;
 use cal_tables::Labels;
 use cal_trace::{Arrivals, FaultKind, HistoryRows, read_arrivals};
 use std::alloc::Global;
 use std::io::Write;
 
 /// Writes the history of an input as trace events, under its labels. It takes any history, of
-/// which it keeps no pass. Of an input of a task table and arrivals it writes the run on one thread
-/// that they make, with its requests. It writes nothing of an input that is refused.
+/// which it keeps no pass. Of an input of a task table and arrivals it writes the run by this policy
+/// on one thread that they make, with its requests. It writes nothing of an input that is refused.
 ///
 /// The faults come in this order: `Separator`, `Config`, `Trace`, `Write`; `Memory` may come at any
 /// place.
 pub fn write_timeline<W: Write>(
     alloc: Global,
+    policy: Policy,
     input: &[u8],
     labels: Labels<'_>,
     writer: &mut W,
 ) -> Result<(), RunFault> {
     let (config, trace) = read_parts(alloc, input)?;
     match read_arrivals(alloc, &config, trace) {
-        Ok(arrivals) => write_run(&config, &arrivals, Events::new(alloc, labels), writer),
+        Ok(arrivals) => {
+            let events = Events::new(alloc, labels);
+            write_run(&config, policy, &arrivals, events, writer)
+        }
         Err(fault) if fault.kind == FaultKind::Header => {
             write_history(input, Events::new(alloc, labels), writer)
         }
@@ -71,17 +75,19 @@ fn write_history<W: Write>(
     events.page.send(writer)
 }
 
-/// Makes the run on one thread of a table and arrivals, and writes it, with no event before it: its
-/// history, and then what came of its requests. Nothing is written before the run was made.
+/// Makes the run by this policy on one thread of a table and arrivals, and writes it, with no event
+/// before it: its history, and then what came of its requests. Nothing is written before the run was
+/// made.
 fn write_run<W: Write>(
     config: &Config,
+    policy: Policy,
     arrivals: &Arrivals,
     mut events: Events<'_>,
     writer: &mut W,
 ) -> Result<(), RunFault>
     requires { FitsTable config.now arrivals.now }
 {
-    let end = lockstep_end(events.alloc, config, arrivals)?;
+    let end = lockstep_end_by(events.alloc, config, policy, arrivals)?;
     events.begin_at(first_clock(arrivals));
     events.page.put(OPENING);
     put_names(config, &mut events);

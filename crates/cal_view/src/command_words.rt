@@ -3,5 +3,6 @@
 pub mod arrival_words;
 pub mod command_line;
 pub mod help_texts;
+pub mod policy_words;
 pub mod sweep_words;
 pub mod variation;

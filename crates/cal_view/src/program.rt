@@ -237,6 +237,7 @@ impl<'h, 'a, H: Files + Threads + Sync> ProgramRun<'h, 'a, H> {
                 let sweeping = Sweeping {
                     alloc,
                     words: asked,
+                    policies: request.policies.as_slice(),
                     labels,
                 };
                 sweeping.answer(self.rt, reader, output, errors)
@@ -260,6 +261,7 @@ impl<'h, 'a, H: Files + Threads + Sync> ProgramRun<'h, 'a, H> {
         let input = JobInput {
             alloc,
             read,
+            policies: self.request.policies.as_slice(),
             labels,
         };
         match answer_read(job, &input, output, errors) {
@@ -278,6 +280,7 @@ fn answer_read<W: Write, E: Write>(
     errors: &mut E,
 ) -> Result<u8, RunFault> {
     let (alloc, bytes, labels) = (input.alloc, input.bytes(), input.labels);
+    let policy = input.policy();
     if let Some(status) = refuse_count(alloc, labels, bytes, errors)? {
         return Ok(status);
     }
@@ -286,9 +289,9 @@ fn answer_read<W: Write, E: Write>(
         InputJob::Explain { asked } => return answer_explain(input, asked, output, errors),
         InputJob::Compare { asked } => return answer_compare(input, asked, output, errors),
         InputJob::Measure { form } => return answer_measure(input, form, output, errors),
-        InputJob::History { front } => record(alloc, bytes, front, output)?,
-        InputJob::Timeline => write_timeline(alloc, bytes, labels, output)?,
-        InputJob::Facts { facts } => tell(alloc, bytes, facts, output)?,
+        InputJob::History { front } => record(alloc, policy, bytes, front, output)?,
+        InputJob::Timeline => write_timeline(alloc, policy, bytes, labels, output)?,
+        InputJob::Facts { facts } => tell(alloc, policy, bytes, facts, output)?,
     }
     Ok(0)
 }

@@ -16,8 +16,8 @@ use cal_input::RunFault;
 use cal_kthread::TurnEntries;
 use cal_machine::Config;
 use cal_measure::{ThreadWork, end_works, open_works, run_end};
-use cal_policy::Actions;
-use cal_run::{Collector, lockstep_collected, step_given};
+use cal_policy::{Actions, Policy};
+use cal_run::{Collector, lockstep_collected_by, step_given};
 use cal_sched::BareScheduler;
 use cal_trace::Arrivals;
 use std::alloc::{AllocError, Global};
@@ -88,19 +88,20 @@ impl Collector for OpenRequests {
     }
 }
 
-/// Makes a whole run on one thread on these arrivals, and takes what its threads serve while it is
+/// Makes a whole run by this policy on one thread on these arrivals, and takes what its threads serve while it is
 /// made. The fault is `Memory`.
 pub(crate) fn served_of_run(
     alloc: Global,
     config: &Config,
+    policy: Policy,
     arrivals: &Arrivals,
 ) -> Result<ServedRequests, RunFault>
     requires fits { FitsTable config.now arrivals.now }
-    ensures served { IfOk result (IsRunServed config.now arrivals.now) }
+    ensures served { IfOk result (IsRunServed policy config.now arrivals.now) }
     ensures kind { IfErr result (λ fault. fault ≡ RunFault.Memory) }
 {
     let mut open = OpenRequests::open(alloc, config)?;
-    lockstep_collected(alloc, config, arrivals, &mut open)?;
+    lockstep_collected_by(alloc, config, policy, arrivals, &mut open)?;
     let OpenRequests { works, .. } = open;
     let threads = end_works(alloc, works, run_end(arrivals))?;
     Ok(ServedRequests::of(alloc, threads.as_slice())?)

@@ -8,8 +8,8 @@ use crate::series::point::{MadePass, Point, put_points};
 use cal_input::RunFault;
 use cal_kthread::TurnEntries;
 use cal_machine::Config;
-use cal_policy::Actions;
-use cal_run::{Collector, lockstep_collected, step_given};
+use cal_policy::{Actions, Policy};
+use cal_run::{Collector, lockstep_collected_by, step_given};
 use cal_sched::BareScheduler;
 use cal_trace::Arrivals;
 use std::alloc::{AllocError, Global};
@@ -70,19 +70,20 @@ impl Collector for OpenSeries {
     }
 }
 
-/// Makes a whole run on one thread on these arrivals, and takes its series while it is made. The
+/// Makes a whole run by this policy on one thread on these arrivals, and takes its series while it is made. The
 /// fault is `Memory`.
 pub(crate) fn series_of_run(
     alloc: Global,
     config: &Config,
+    policy: Policy,
     arrivals: &Arrivals,
 ) -> Result<Vec<Point>, RunFault>
     requires fits { FitsTable config.now arrivals.now }
-    ensures points { IfOk result (λ points. IsSeriesOfRun config.now arrivals.now points.items) }
+    ensures points { IfOk result (λ points. IsSeriesOfRun policy config.now arrivals.now points.items) }
     ensures kind { IfErr result (λ fault. fault ≡ RunFault.Memory) }
 {
     let mut open = OpenSeries::open(alloc, config)?;
-    lockstep_collected(alloc, config, arrivals, &mut open)?;
+    lockstep_collected_by(alloc, config, policy, arrivals, &mut open)?;
     let OpenSeries { points, .. } = open;
     Ok(points)
 }

@@ -10,8 +10,8 @@ use crate::spans::gathering::Gathering;
 use cal_input::RunFault;
 use cal_machine::Config;
 use cal_measure::{BanSpan, Span};
-use cal_policy::PassEntry;
-use cal_run::lockstep_collected;
+use cal_policy::{PassEntry, Policy};
+use cal_run::lockstep_collected_by;
 use cal_trace::Arrivals;
 use std::alloc::{AllocError, Global};
 
@@ -49,19 +49,20 @@ impl SpanFacts {
         })
     }
 
-    /// Makes a whole run on one thread on these arrivals, and gathers its spans and bans while it is
+    /// Makes a whole run by this policy on one thread on these arrivals, and gathers its spans and bans while it is
     /// made. The fault is `Memory`.
     pub fn of_run(
         alloc: Global,
         config: &Config,
+        policy: Policy,
         arrivals: &Arrivals,
     ) -> Result<SpanFacts, RunFault>
         requires fits { FitsTable config.now arrivals.now }
-        ensures facts { IfOk result (IsRunOfSpans config.now arrivals.now) }
+        ensures facts { IfOk result (IsRunOfSpans policy config.now arrivals.now) }
         ensures kind { IfErr result (λ fault. fault ≡ RunFault.Memory) }
     {
         let mut open = OpenSpans::open(alloc)?;
-        lockstep_collected(alloc, config, arrivals, &mut open)?;
+        lockstep_collected_by(alloc, config, policy, arrivals, &mut open)?;
         let OpenSpans { gathering, .. } = open;
         let (spans, bans) = gathering.into_lists(config.machine().cores())?;
         let clocks = clocks_given(alloc, arrivals.passes.as_slice())?;

@@ -1,5 +1,5 @@
-//! The numbers of several runs, row by row: a column for each run, and beside each but the first
-//! what it has more or less than the first.
+//! The numbers of several runs, row by row: for each table a column for each policy, and beside each
+//! column but the first what it has more or less than the first.
 
 use crate::comparing::changes::{Change, changes_of};
 use crate::comparing::{Comparison, Variation};
@@ -13,6 +13,7 @@ use crate::measuring::RunNumbers;
 use crate::sheet::Sheet;
 use crate::style::NumberStyle;
 use crate::writing::{LINES, Line, label, request_figure, task_name, unit};
+use cal_policy::Policy;
 use std::alloc::{AllocError, Global};
 
 /// What a row says of each run.
@@ -48,9 +49,9 @@ impl Row {
         }
     }
 
-    /// What it says of a run, which may have no such task.
-    fn figure_in(self, runs: &Comparison<RunNumbers>, column: usize) -> Option<Figure> {
-        let numbers = runs.runs.as_slice().get(column)?;
+    /// What it says of the run of a table, which may have no such task.
+    fn figure_in(self, runs: &Comparison<RunNumbers>, table: usize) -> Option<Figure> {
+        let numbers = runs.runs.as_slice().get(table)?;
         match self {
             Row::Requests(task, line) => request_figure(numbers, task, line),
             Row::Cores(task, line) => {
@@ -58,8 +59,7 @@ impl Row {
                 core_figure(numbers.cores.as_slice(), lasted, task, line)
             }
             Row::Machine(line) => {
-                let table = runs.tables.as_slice().get(column)?;
-                let cores = table.machine().cores();
+                let cores = runs.tables.as_slice().get(table)?.machine().cores();
                 machine_figure(&numbers.machine, numbers.turns, line, cores)
             }
         }
@@ -92,8 +92,10 @@ fn change_cell(alloc: Global, change: Change, unit: Unit) -> Result<String, Allo
 /// Which runs are shown, what made their tables, and how they are written.
 #[derive(Clone, Copy)]
 pub struct ShownComparison<'a> {
-    /// The runs.
-    pub runs: &'a Comparison<RunNumbers>,
+    /// The runs by each policy.
+    pub runs: &'a [Comparison<RunNumbers>],
+    /// The policies.
+    pub policies: &'a [Policy],
     /// What made the tables, where they are not those of the input.
     pub variation: Option<Variation<'a>>,
     /// How they are written.
@@ -101,14 +103,46 @@ pub struct ShownComparison<'a> {
 }
 
 impl ShownComparison<'_> {
-    /// What a column is of: the table of this number, or the value.
-    fn name_of(self, alloc: Global, column: usize) -> Result<String, AllocError> {
+    /// How many columns there are.
+    fn columns(self) -> usize {
+        match self.runs.first() {
+            Some(first) => first.runs.len().saturating_mul(self.runs.len()),
+            None => 0,
+        }
+    }
+
+    /// The places of a column's table and of its policy.
+    fn places(self, column: usize) -> (usize, usize) {
+        let policies = self.runs.len().max(1);
+        (column / policies, column % policies)
+    }
+
+    /// What a row says of the run of a column.
+    fn figure(self, row: Row, column: usize) -> Option<Figure> {
+        let (table, policy) = self.places(column);
+        row.figure_in(self.runs.get(policy)?, table)
+    }
+
+    /// What a table is called: by its number, or by its value.
+    fn table_name(self, alloc: Global, table: usize) -> Result<String, AllocError> {
         if let Some(variation) = self.variation {
-            if let Some(value) = variation.values.get(column) {
+            if let Some(value) = variation.values.get(table) {
                 return String::from_str(alloc, value);
             }
         }
-        format!(in alloc; "table {column}")
+        format!(in alloc; "table {table}")
+    }
+
+    /// What a column is of: its table, and its policy where there are several.
+    fn name_of(self, alloc: Global, column: usize) -> Result<String, AllocError> {
+        let (table, policy) = self.places(column);
+        let name = self.table_name(alloc, table)?;
+        match self.policies.get(policy) {
+            Some(policy) if self.policies.len() > 1 => {
+                format!(in alloc; "{} {}", name.as_str(), policy.name())
+            }
+            _ => Ok(name),
+        }
     }
 
     /// What stands over the rows' names.
@@ -124,7 +158,7 @@ impl ShownComparison<'_> {
         let form = self.style.form;
         let mut row = Vec::new(alloc);
         row.push(self.corner(alloc)?)?;
-        for column in 0..self.runs.runs.len() {
+        for column in 0..self.columns() {
             let name = self.name_of(alloc, column)?;
             if column > 0 {
                 let change = format!(in alloc; "change {}", name.as_str())?;
@@ -140,8 +174,8 @@ impl ShownComparison<'_> {
     /// The number that a row says of each run; where it says a bound, none.
     fn known_in(self, alloc: Global, row: Row) -> Result<Vec<Option<u64>>, AllocError> {
         let mut known = Vec::new(alloc);
-        for column in 0..self.runs.runs.len() {
-            let number = match row.figure_in(self.runs, column) {
+        for column in 0..self.columns() {
+            let number = match self.figure(row, column) {
                 Some(figure) => figure.known(),
                 None => None,
             };
@@ -158,7 +192,7 @@ impl ShownComparison<'_> {
         let mut cells = Vec::new(alloc);
         cells.push(row.label(alloc, labels)?)?;
         for column in 0..changes.len() {
-            let figure = row.figure_in(self.runs, column);
+            let figure = self.figure(row, column);
             form.put_figure(alloc, &mut cells, figure, row.unit())?;
             if column > 0 {
                 cells.push(change_cell(alloc, changes[column], row.unit())?)?;
@@ -167,11 +201,13 @@ impl ShownComparison<'_> {
         Ok(cells)
     }
 
-    /// The most tasks that one of the runs has.
+    /// The most tasks that one of the tables has.
     fn most_tasks(self) -> usize {
         let mut most = 0usize;
-        for numbers in self.runs.runs.as_slice() {
-            most = most.max(numbers.requests.len());
+        if let Some(first) = self.runs.first() {
+            for table in first.tables.as_slice() {
+                most = most.max(table.tasks());
+            }
         }
         most
     }

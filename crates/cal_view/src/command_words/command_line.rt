@@ -2,11 +2,13 @@
 
 use crate::command_words::arrival_words::{ArrivalWords, arrival_word, arrival_words};
 use crate::command_words::help_texts;
+use crate::command_words::policy_words::{policies_asked, policies_word, policy_word};
 use crate::command_words::sweep_words::{sweep_word, sweep_words};
 use crate::jobs::explaining::Asked;
 use crate::jobs::naming::LabelWords;
 use crate::jobs::telling::Facts;
 use cal_engine::{Front, VERSION};
+use cal_policy::Policy;
 use cal_sweep::SweepWords;
 use cal_tables::NumberForm;
 use clap::error::ErrorKind;
@@ -93,6 +95,8 @@ pub enum Form {
 pub struct Request<'a> {
     /// The job.
     pub job: Job<'a>,
+    /// The policies that it is to go by.
+    pub policies: Vec<Policy>,
     /// What tasks and clock ticks are to be called.
     pub labels: LabelWords<'a>,
     /// The files of task tables that stand in front of the input.
@@ -177,16 +181,15 @@ fn program<'a>(alloc: Global) -> Result<Command<'a>, AllocError> {
     let program = program.subcommand(history_word(alloc)?)?;
     let program = program.subcommand(timeline_word(alloc)?)?;
     let about = "Write who had which core from when to when, and the bans, as CSV";
-    let program = program.subcommand(plain_word(alloc, "spans", about, help_texts::SPANS)?)?;
+    let program = program.subcommand(facts_word(alloc, "spans", about, help_texts::SPANS)?)?;
     let about = "Write what each pass finds of each task and leaves it with, as CSV";
-    let program = program.subcommand(plain_word(alloc, "series", about, help_texts::SERIES)?)?;
+    let program = program.subcommand(facts_word(alloc, "series", about, help_texts::SERIES)?)?;
     let about = "Write what came of each request of a run, as CSV";
-    let program = program.subcommand(plain_word(alloc, "requests", about, help_texts::REQUESTS)?)?;
+    let program = program.subcommand(facts_word(alloc, "requests", about, help_texts::REQUESTS)?)?;
     let program = program.subcommand(measure_word(alloc)?)?;
     let program = program.subcommand(compare_word(alloc)?)?;
     let program = program.subcommand(explain_word(alloc)?)?;
-    let about = "Say what an input is, or why it is refused";
-    let program = program.subcommand(plain_word(alloc, "check", about, help_texts::CHECK)?)?;
+    let program = program.subcommand(check_word(alloc)?)?;
     let program = program.subcommand(arrival_word(alloc)?)?;
     program.subcommand(sweep_word(alloc)?)
 }
@@ -201,8 +204,8 @@ fn bare_program<'a>(alloc: Global) -> Result<Command<'a>, AllocError> {
         .bin_name("caladan_view")
 }
 
-/// A word that takes an input, and where its answer goes.
-fn plain_word<'a>(
+/// A word for facts.
+fn facts_word<'a>(
     alloc: Global,
     name: &'a str,
     about: &'a str,
@@ -211,6 +214,15 @@ fn plain_word<'a>(
     Command::new(alloc, name)
         .about(about)
         .after_long_help(help)
+        .arg(input_word(alloc))?
+        .arg(policy_word(alloc))?
+        .arg(output_word(alloc))
+}
+
+fn check_word<'a>(alloc: Global) -> Result<Command<'a>, AllocError> {
+    Command::new(alloc, "check")
+        .about("Say what an input is, or why it is refused")
+        .after_long_help(help_texts::CHECK)
         .arg(input_word(alloc))?
         .arg(output_word(alloc))
 }
@@ -221,6 +233,7 @@ fn history_word<'a>(alloc: Global) -> Result<Command<'a>, AllocError> {
         .after_long_help(help_texts::HISTORY)
         .arg(input_word(alloc))?
         .arg(table_word(alloc))?
+        .arg(policy_word(alloc))?
         .arg(output_word(alloc))
 }
 
@@ -229,6 +242,7 @@ fn timeline_word<'a>(alloc: Global) -> Result<Command<'a>, AllocError> {
         .about("Write a history or a run as trace events, for Perfetto")
         .after_long_help(help_texts::TIMELINE)
         .arg(input_word(alloc))?
+        .arg(policy_word(alloc))?
         .arg(names_word(alloc))?
         .arg(tick_word(alloc))?
         .arg(output_word(alloc))
@@ -239,6 +253,7 @@ fn measure_word<'a>(alloc: Global) -> Result<Command<'a>, AllocError> {
         .about("Write the numbers of a run on arrivals, or of a history")
         .after_long_help(help_texts::MEASURE)
         .arg(input_word(alloc))?
+        .arg(policy_word(alloc))?
         .arg(csv_word(alloc))?
         .arg(names_word(alloc))?
         .arg(tick_word(alloc))?
@@ -293,6 +308,7 @@ fn compare_word<'a>(alloc: Global) -> Result<Command<'a>, AllocError> {
         .after_long_help(help_texts::COMPARE)
         .arg(tables_word(alloc))?
         .arg(arrivals_word(alloc))?
+        .arg(policies_word(alloc))?
         .arg(vary_word(alloc))?
         .arg(csv_word(alloc))?
         .arg(names_word(alloc))?
@@ -376,6 +392,7 @@ fn request_of<'a>(alloc: Global, matches: &ArgMatches<'a>) -> Result<Request<'a>
     };
     Ok(Request {
         job,
+        policies: policies_asked(alloc, own)?,
         labels: LabelWords {
             names: own.get_str("names"),
             tick: own.get_str("tick"),
@@ -391,6 +408,7 @@ impl<'a> Request<'a> {
     fn help(alloc: Global) -> Request<'a> {
         Request {
             job: Job::Help,
+            policies: Vec::new(alloc),
             labels: LabelWords {
                 names: None,
                 tick: None,

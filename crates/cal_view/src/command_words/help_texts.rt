@@ -277,7 +277,7 @@ there is a column for each value: the table with that value at the key. Keys are
 cores, bandwidth_limit, and of task 1 task.1.kind, task.1.guaranteed,
 task.1.limit, task.1.delay and task.1.request. A value is written as in a table.
 To have the table as it is among the columns, name its own value, best as the
-first.
+first. With several policies each table has a column for each of them.
 The arrivals are given for the first table, or for the one that is varied. In
 each other table a request stays with its task, on the same one of its threads,
 or, where the task has fewer, on that one modulo its limit. --write-input N
@@ -462,7 +462,7 @@ cores held; and which part of the machine best-effort tasks held. Each run is on
 the arrivals that `arrivals` makes with these words, and its numbers are those
 of `measure`. One task has the loads; each other --task has one.
 With --vary a row for each value, as in `compare`, on arrivals made for the
-table that it gives.
+table that it gives; with several policies a row for each.
 --slo is an objective for a task: p50, p90, p99, p99.9 or max, in ticks.
 Exit status: 0 done, 1 a run of the last load misses the objective, or nothing
 is answered at its rank, 2 rejected input or a word that it refuses, which is

@@ -5,6 +5,7 @@ use crate::command_words::command_line::{
     csv_word, input_word, names_word, number_form_of, output_word, tick_word, value_word, vary_word,
 };
 use crate::command_words::help_texts;
+use crate::command_words::policy_words::policies_word;
 use cal_sweep::SweepWords;
 use clap::{Arg, ArgMatches, Command};
 use std::alloc::{AllocError, Global};
@@ -18,6 +19,7 @@ pub fn sweep_word<'a>(alloc: Global) -> Result<Command<'a>, AllocError> {
         .arg(task_word(alloc).default_value("0"))?
         .arg(load_word(alloc).help("Loads that rise, as 0.1,0.3,..,0.9"))?;
     with_run_words(alloc, command)?
+        .arg(policies_word(alloc))?
         .arg(vary_word(alloc))?
         .arg(slo_word(alloc))?
         .arg(csv_word(alloc))?

@@ -8,8 +8,8 @@ use cal_input::RunFault;
 use cal_tables::{ComparedInput, ComparisonFault, NumberStyle, Variation, compare, write_input};
 use std::io::Write;
 
-/// Compares the runs of an input, of its tables or, with a key and values, of those that its table
-/// gives with each of them, and answers the exit status: its faults name the table or the value
+/// Compares the runs of an input by its policies, of its tables or, with a key and values, of those
+/// that its table gives with each of them, and answers the exit status: its faults name the table or the value
 /// that has them, and why.
 pub fn answer_compare<'a, W: Write, E: Write>(
     input: &JobInput<'a>,
@@ -40,7 +40,12 @@ fn write_comparison<'a, W: Write>(
 ) -> Result<(), ComparisonFault> {
     let (alloc, labels) = (input.alloc, input.labels);
     let bytes = input.bytes();
-    let compared = ComparedInput { bytes, variation };
+    let policies = input.policies;
+    let compared = ComparedInput {
+        bytes,
+        variation,
+        policies,
+    };
     match form {
         Form::Numbers(form) => compare(alloc, compared, NumberStyle { labels, form }, output),
         Form::Input(table) => write_input(alloc, compared, table, output),

@@ -1,16 +1,20 @@
 //! What a job is done on.
 
+use cal_policy::Policy;
 use cal_tables::Labels;
 use cal_why::RefusedInput;
 use std::alloc::Global;
 
-/// An input that was read to its end, and what its tasks and clock ticks are called.
+/// An input that was read to its end, by which policies its runs are made, decided and audited, and
+/// what its tasks and clock ticks are called.
 #[derive(Clone, Copy)]
 pub struct JobInput<'a> {
     /// What a job takes memory from.
     pub alloc: Global,
     /// The input, as it is told of where it is refused.
     pub read: RefusedInput<'a>,
+    /// The policies.
+    pub policies: &'a [Policy],
     /// What its tasks and clock ticks are called.
     pub labels: Labels<'a>,
 }
@@ -19,5 +23,10 @@ impl<'a> JobInput<'a> {
     /// The bytes of the input.
     pub fn bytes(&self) -> &'a [u8] {
         self.read.input
+    }
+
+    /// The policy, where one is asked for.
+    pub fn policy(&self) -> Policy {
+        self.policies.first().copied().unwrap_or(Policy::Caladan)
     }
 }

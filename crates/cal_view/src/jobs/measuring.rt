@@ -18,7 +18,7 @@ pub fn answer_measure<W: Write, E: Write>(
         labels: input.labels,
         form,
     };
-    match measure(input.alloc, input.bytes(), style, output)? {
+    match measure(input.alloc, input.policy(), input.bytes(), style, output)? {
         Verdict::Legal => Ok(0),
         Verdict::Illegal { pass } => {
             let _ = writeln!(errors, "caladan_view: illegal pass {pass}");

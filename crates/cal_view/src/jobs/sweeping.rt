@@ -5,6 +5,7 @@ use crate::fault::RefusedRuns;
 use crate::jobs::naming::refuse_other_count;
 use crate::refusing::{refuse_word, table_alone};
 use cal_input::{RunFault, read_input};
+use cal_policy::Policy;
 use cal_sweep::{SweepFault, SweepJob, SweepNames, SweepWords, answer_sweep, asked_of};
 use cal_tables::{Labels, Variation};
 use std::alloc::Global;
@@ -18,6 +19,8 @@ pub struct Sweeping<'a> {
     pub alloc: Global,
     /// The words that ask for it.
     pub words: &'a SweepWords<'a>,
+    /// The policies by which its runs are made.
+    pub policies: &'a [Policy],
     /// What tasks and clock ticks are called.
     pub labels: Labels<'a>,
 }
@@ -47,6 +50,7 @@ impl Sweeping<'_> {
             asked: &asked,
             names: SweepNames {
                 variation,
+                policies: self.policies,
                 labels: self.labels,
             },
         };

@@ -2,6 +2,7 @@
 
 use cal_facts::{write_requests, write_series, write_spans};
 use cal_input::RunFault;
+use cal_policy::Policy;
 use std::alloc::Global;
 use std::io::Write;
 
@@ -31,16 +32,17 @@ impl Facts {
     }
 }
 
-/// Writes these facts of an input. The faults are those of the call for them.
+/// Writes these facts of an input, of whose arrivals this policy makes a run. The faults are those of the call for them.
 pub fn tell<W: Write>(
     alloc: Global,
+    policy: Policy,
     input: &[u8],
     facts: Facts,
     output: &mut W,
 ) -> Result<(), RunFault> {
     match facts {
-        Facts::Spans => write_spans(alloc, input, output),
-        Facts::Series => write_series(alloc, input, output),
-        Facts::Requests => write_requests(alloc, input, output),
+        Facts::Spans => write_spans(alloc, policy, input, output),
+        Facts::Series => write_series(alloc, policy, input, output),
+        Facts::Requests => write_requests(alloc, policy, input, output),
     }
 }

@@ -13,11 +13,11 @@ returns-in_err-asked-clause-exact g c =
 pub returns-in-Ok-clause-exact : goal.returns-in-Ok-clause-exact
 returns-in-Ok-clause-exact g c =
     let run = c.in_ok-asked.asked in
-    let told = served_asked (run_input_of c.args.input.now) run c.in_ok-asked.ensures.run in record {
+    let told = served_asked c.args.policy (run_input_of c.args.input.now) run c.in_ok-asked.ensures.run in record {
       written = text_of_requests run.config run.arrivals told.0;
       is_text = told.2;
       appended = c.in-Ok.ensures told.0 told.1;
     }
 
 pub returns-clause-exact : goal.returns-clause-exact
-returns-clause-exact g c = run_is_asked (run_input_of c.args.input.now) c.in_ok-asked.asked c.in_ok-asked.ensures.run
+returns-clause-exact g c = run_is_asked c.args.policy (run_input_of c.args.input.now) c.in_ok-asked.asked c.in_ok-asked.ensures.run

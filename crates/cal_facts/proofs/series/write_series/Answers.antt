@@ -22,4 +22,4 @@ returns-in-Ok-clause-exact g c = record {
 }
 
 pub returns-clause-exact : goal.returns-clause-exact
-returns-clause-exact g c = text_is_asked series_text (asked_of c.args.input.now) (text_of_series c.in_ok-config.config c.in_ok-config.points.items) c.in_ok-config.ensures.points
+returns-clause-exact g c = text_is_asked c.args.policy series_text (asked_of c.args.input.now) (text_of_series c.in_ok-config.config c.in_ok-config.points.items) c.in_ok-config.ensures.points

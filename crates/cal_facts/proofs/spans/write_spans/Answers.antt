@@ -18,4 +18,4 @@ returns-in-Ok-clause-exact g c = record {
 }
 
 pub returns-clause-exact : goal.returns-clause-exact
-returns-clause-exact g c = text_is_asked spans_text (asked_of c.args.input.now) (text_of_facts c.in_ok-config.config c.in_ok-config.facts) c.in_ok-config.ensures.facts
+returns-clause-exact g c = text_is_asked c.args.policy spans_text (asked_of c.args.input.now) (text_of_facts c.in_ok-config.config c.in_ok-config.facts) c.in_ok-config.ensures.facts

@@ -24,7 +24,7 @@ replay-requires-clause-looks c =
     let h = c.args.history.now in
     let p = c.loop-pass.pass in
     let entry = c.index-history-pass.result in
-    let orderly = c.legal_is_orderly.ensures c.args.config.now h c.limits.ensures c.requires.legal in
+    let orderly = c.requires.orderly in
     let fits = orderly.entries p entry (slice_get_read h (length h) p entry refl c.loop-pass-test.true c.index-history-pass.is) in
     omega (arith, fits.looks.looks, c.limits.ensures.threads)
 
@@ -34,7 +34,7 @@ replay-requires-clause-names c =
     let h = c.args.history.now in
     let p = c.loop-pass.pass in
     let entry = c.index-history-pass.result in
-    let orderly = c.legal_is_orderly.ensures table h c.limits.ensures c.requires.legal in
+    let orderly = c.requires.orderly in
     let fits = orderly.entries p entry (slice_get_read h (length h) p entry refl c.loop-pass-test.true c.index-history-pass.is) in
     names_of_fitting table (actions_of (take p h)) entry.actions c.limits.ensures fits.actions
 
@@ -44,7 +44,7 @@ pass-requires-clause-names c =
     let h = c.args.history.now in
     let p = c.loop-pass.pass in
     let entry = c.index-history-pass.result in
-    let orderly = c.legal_is_orderly.ensures table h c.limits.ensures c.requires.legal in
+    let orderly = c.requires.orderly in
     let fits = orderly.entries p entry (slice_get_read h (length h) p entry refl c.loop-pass-test.true c.index-history-pass.is) in
     subst (λ (l : List Action). All (NamesTable table) l) (sym c.as_slice.ensures)
     (names_of_fitting table (actions_of (take p h)) entry.actions c.limits.ensures fits.actions)
@@ -55,8 +55,7 @@ pass-requires-clause-few c =
     let p = c.loop-pass.pass in
     let entry = c.index-history-pass.result in
     let same = ap (λ (l : List Action). length l) c.as_slice.ensures in
-    let few = c.legal_is_short.ensures c.args.config.now h c.limits.ensures c.requires.legal p entry
-    (slice_get_read h (length h) p entry refl c.loop-pass-test.true c.index-history-pass.is) in
+    let few = c.requires.short p entry (slice_get_read h (length h) p entry refl c.loop-pass-test.true c.index-history-pass.is) in
     omega (arith, same, few)
 
 pub loop-pass-preserved : goal.loop-pass-preserved
@@ -66,7 +65,7 @@ loop-pass-preserved c =
     let p = c.loop-pass.pass in
     let entry = c.index-history-pass.result in
     let lt = c.loop-pass-test.true in
-    let orderly = c.legal_is_orderly.ensures table h c.limits.ensures c.requires.legal in
+    let orderly = c.requires.orderly in
     let here = orderly.entries p entry (slice_get_read h (length h) p entry refl lt c.index-history-pass.is) in
     let few : length h ≤ 1048576 = c.requires.few in
     let low : length (take p h) < 1048576 = omega (arith, few, lt, length-take-le p h (omega (arith, lt))) in

@@ -6,8 +6,8 @@ use Rattle.cal_tables.specs.Measured.{AreRunNumbers}
 use Rattle.cal_trace.specs.Arrivals.FitsTable.{FitsTable}
 use Rattle.cal_tables.proofs.measuring.measured_run.Goals as goal
 
-pub lockstep_collected-requires-clause-suits : goal.lockstep_collected-requires-clause-suits
-lockstep_collected-requires-clause-suits c = (c.in_ok-numbers.ensures.table, c.in_ok-numbers.ensures.open)
+pub lockstep_collected_by-requires-clause-suits : goal.lockstep_collected_by-requires-clause-suits
+lockstep_collected_by-requires-clause-suits c = (c.in_ok-numbers.ensures.table, c.in_ok-numbers.ensures.open)
 
 pub numbers_of_run-requires-clause-fits : goal.numbers_of_run-requires-clause-fits
 numbers_of_run-requires-clause-fits c =

@@ -9,4 +9,4 @@ returns-in_err-config-clause-fault c =
 
 pub returns-in-Ok-clause-verdict : goal.returns-in-Ok-clause-verdict
 returns-in-Ok-clause-verdict c =
-    verdict_run c.args.input.now c.in_ok-config.config c.in_ok-config.trace.now c.in-Ok.arrivals c.in_ok-config.ensures c.in-Ok.ensures.gives
+    verdict_run c.args.policy c.args.input.now c.in_ok-config.config c.in_ok-config.trace.now c.in-Ok.arrivals c.in_ok-config.ensures c.in-Ok.ensures.gives

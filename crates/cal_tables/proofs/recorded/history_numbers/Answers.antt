@@ -1,11 +1,27 @@
-use Rattle.std.proofs.Common.{◌∙◌, List, sym}
+use Rattle.std.proofs.Common.{◌∙◌, List, arith, sym}
 use Rattle.std.proofs.lemmas.Result.{IfOk-weaker}
 use Rattle.cal_machine.specs.Table.{Table}
+use Rattle.cal_laws.specs.Point.{Point}
 use Rattle.cal_measure.specs.Walk.{IsOpenFor, IsWalkOf}
 use Rattle.cal_policy.specs.declared.history.entry.PassEntry.{PassEntry}
 use Rattle.cal_tables.specs.Measured.{AreHistoryNumbers}
 use Rattle.cal_tables.specs.declared.recorded.HistoryNumbers.{HistoryNumbers}
 use Rattle.cal_tables.proofs.recorded.history_numbers.Goals as goal
+
+pub walked-requires-clause-orderly : goal.walked-requires-clause-orderly
+walked-requires-clause-orderly c =
+    let of = c.requires.legal in
+    c.permitted_is_orderly.ensures c.args.config.now c.args.history.now
+    (c.each_policy_is_permitted.ensures of.policy c.args.config.now c.args.history.now c.limits.ensures of.legal)
+
+pub walked-requires-clause-short : goal.walked-requires-clause-short
+walked-requires-clause-short c = λ p entry at.
+    let table = c.args.config.now in
+    let h = c.args.history.now in
+    let of = c.requires.legal in
+    let permitted = c.each_policy_is_permitted.ensures of.policy table h c.limits.ensures of.legal in
+    let here : Point = record { table = table; history = h; pass = p; entry = entry; made = 0 } in
+    c.passes_are_short.ensures here (record { permitted = permitted; entry = at; made = omega arith })
 
 pub numbers_of_walk-requires : goal.numbers_of_walk-requires
 numbers_of_walk-requires c = let ready = c.in_ok-walk.ensures.open in ready.times ∙ sym ready.actions

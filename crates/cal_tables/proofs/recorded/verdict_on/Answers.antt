@@ -1,7 +1,6 @@
 use Rattle.std.proofs.Common.{◌<◌, ◌≤◌, ◌^◌, ◌++◌, ◌∷◌, [], List, length, length-take-le, take, take_all, arith, subst}
 use Rattle.cal_measure.proofs.Steps.{grown}
-use Rattle.cal_policy.specs.Auditor.{IsAuditOf}
-use Rattle.cal_policy.specs.Verdict.{IsVerdict}
+use Rattle.cal_policy.specs.Policies.{IsAuditBy, IsVerdictBy}
 use Rattle.cal_policy.specs.declared.history.entry.PassEntry.{PassEntry}
 use Rattle.cal_tables.proofs.recorded.verdict_on.Goals as goal
 
@@ -13,9 +12,9 @@ loop-entry-preserved c =
     let few = c.requires in
     let short : length (take i xs) < 2 ^ 64 = omega (arith, within, few, length-take-le i xs (omega (arith, within))) in
     record {
-      audits = grown (λ (l : List PassEntry). IsAuditOf c.args.config.now l c.next.new.self) xs i _ within
-          (subst (λ (e : PassEntry). IsAuditOf c.args.config.now (take i xs ++ e ∷ []) c.next.new.self) c.entry-item.is
-          (c.next.ensures.audits (take i xs) short c.loop-entry.invariant.audits));
+      audits = grown (λ (l : List PassEntry). IsAuditBy c.args.policy c.args.config.now l c.next.new.self) xs i _ within
+          (subst (λ (e : PassEntry). IsAuditBy c.args.policy c.args.config.now (take i xs ++ e ∷ []) c.next.new.self) c.entry-item.is
+          (c.next.ensures.own c.args.policy (take i xs) short c.loop-entry.invariant.audits));
       of = c.next.ensures.of;
     }
 
@@ -25,5 +24,5 @@ returns c =
     let i = c.loop-entry.entry-index in
     let end = c.loop-entry-test.false in
     let all : length xs ≤ i = omega (arith, end) in
-    subst (λ (l : List PassEntry). IsVerdict c.args.config.now l c.verdict.result) (take_all i xs all)
-    (c.verdict.ensures.audits c.args.config.now (take i xs) c.loop-entry.invariant.audits)
+    subst (λ (l : List PassEntry). IsVerdictBy c.args.policy c.args.config.now l c.verdict.result) (take_all i xs all)
+    (c.verdict.ensures.own c.args.policy c.args.config.now (take i xs) c.loop-entry.invariant.audits)

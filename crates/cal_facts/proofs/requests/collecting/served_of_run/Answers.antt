@@ -6,7 +6,7 @@ use Rattle.cal_facts.proofs.requests.collecting.served_of_run.Goals as goal
 
 pub returns-clause-served : goal.returns-clause-served
 returns-clause-served c =
-    let run = c.in_ok-lockstep_collected.ensures.run in
+    let run = c.in_ok-lockstep_collected_by.ensures.run in
     let journals = run.outcome.journals in
     let last = run_end c.args.arrivals.now in
     let totals = subst (λ (n : ℕ). AreTotalsOfEach n journals c.in_ok-threads.threads.items) c.run_end.ensures (c.in_ok-threads.ensures journals run.collected) in record {

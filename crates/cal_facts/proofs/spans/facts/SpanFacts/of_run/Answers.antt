@@ -7,7 +7,7 @@ use Rattle.cal_facts.proofs.spans.facts.SpanFacts.of_run.Goals as goal
 
 pub returns-clause-facts : goal.returns-clause-facts
 returns-clause-facts c =
-    let run = c.in_ok-lockstep_collected.ensures.run in
+    let run = c.in_ok-lockstep_collected_by.ensures.run in
     let h = run.outcome.history in
     let cores = c.cores.ensures.value ∙ c.machine.ensures.machine in
     record {
