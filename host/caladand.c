@@ -39,6 +39,10 @@ static void take_signals(void) {
     sigaction(SIGPIPE, &ignored, NULL);
 }
 
+uint8_t open_table(scheduler *s) {
+    return caladan_open_policy((const uint8_t *)s->table, strlen(s->table), s->options.policy, &s->handle);
+}
+
 /* Only a best-effort thread gives way to all others. */
 static void check_under(scheduler *s) {
     char word[32];
@@ -62,16 +66,18 @@ static void warn_of_class(const scheduler *s) {
              "second: use the normal class");
 }
 
-/* The table as it is recorded: where tasks stand under, a comment says what the record means
- * then. */
+/* The table as it is recorded: comments say which policy made its passes, where that is not Caladan's, and
+ * what the record means where tasks stand under. */
 static char *recorded_table(const scheduler *s) {
     static const char meaning[] =
         "# No two threads of the normal class have one processor, and none of best effort has\n"
         "# one that is banned. A thread that stands under may be on one that a latency-critical\n"
         "# thread has; its rows are the scheduler's, and say where it is to be.\n";
-    size_t room = strlen(s->table) + sizeof meaning + HOST_TASKS * 32, at = 0;
+    size_t room = strlen(s->table) + sizeof meaning + 64 + HOST_TASKS * 32, at = 0;
     char *text = malloc(room);
     if (text == NULL) fail("-r", strerror(ENOMEM));
+    if (s->options.policy != CALADAN_POLICY_CALADAN)
+        at += (size_t)sprintf(text, "# Audit it with --policy %s.\n", caladan_policy_text(s->options.policy));
     for (unsigned t = 0; t < s->machine.tasks; t++)
         if (s->options.under >> t & 1)
             at += (size_t)sprintf(text + at, "# Task %u stands under.\n", t);
@@ -91,7 +97,7 @@ static void open_record(scheduler *s) {
 static void begin(scheduler *s) {
     s->epoch = host_clock();
     s->table = text_of(s->options.table);
-    uint8_t answer = caladan_open((const uint8_t *)s->table, strlen(s->table), &s->handle);
+    uint8_t answer = open_table(s);
     if (answer != CALADAN_DONE) fail(s->options.table, caladan_answer_text(answer));
     caladan_table(&s->handle, &s->machine);
     check_under(s);

@@ -14,7 +14,8 @@ typedef struct options {
     int own, mover;
     unsigned cpus;
     int cpu[HOST_CORES];
-    uint32_t under; /* the tasks that stand under, a bit each */
+    uint32_t under;  /* the tasks that stand under, a bit each */
+    uint32_t policy; /* by which passes are made, CALADAN_POLICY_.. */
     uint64_t seconds, gap, window, passes, bytes, patience, wait; /* times in nanoseconds, but for seconds */
 } options;
 
@@ -142,6 +143,7 @@ typedef struct scheduler {
 
 static inline uint64_t now_of(const scheduler *s) { return host_clock() - s->epoch; }
 void fail(const char *what, const char *why) __attribute__((noreturn));
+uint8_t open_table(scheduler *s); /* in its closed handle */
 unsigned stop_signals(void); /* how often it was told to end */
 
 /* clerks.c */

@@ -11,6 +11,7 @@
 #endif
 #define MILLISECOND ((uint64_t)1000000)
 enum { LEAST_PATIENCE = 20, MOST_PATIENCE = 2000, MOST_TABLE = 1 << 20 };
+enum { POLICY = 256 }; /* an option that has no letter */
 
 static const char USAGE[] =
     "usage: caladand -n NAME -t TABLE -c CPUS [OPTION ..]\n"
@@ -31,6 +32,8 @@ static const char USAGE[] =
     "  -r FOLDER   write the record there, in pieces, in a new folder of this run (needs -k)\n"
     "  -p PASSES   the most of a piece, 1 to 1000000; without it, 1000000\n"
     "  -b BYTES    about the most of a piece, 1 to 60000000; without it, 60000000\n"
+    "  --policy NAME\n"
+    "              the policy by which passes are made: caladan, which is the default, or assured\n"
     "  -h, --help; -V, --version\n"
     "It listens in CALADAN_FOLDER/NAME; without that, in /run/caladan/NAME of root, in XDG_RUNTIME_DIR/caladan/NAME of others.\n";
 
@@ -68,6 +71,12 @@ static void read_tasks(options *o, char *text) {
         o->under |= 1u << number(word, 0, HOST_TASKS - 1);
 }
 
+static uint32_t policy_named(const char *name) {
+    for (uint32_t policy = 0; policy <= CALADAN_POLICY_ASSURED; policy++)
+        if (strcmp(name, caladan_policy_text(policy)) == 0) return policy;
+    fail("--policy", "the policies are caladan and assured");
+}
+
 static void read_option(options *o, int option) {
     switch (option) {
     case 'n': o->name = optarg; break;
@@ -84,6 +93,7 @@ static void read_option(options *o, int option) {
     case 'r': o->folder = optarg; break;
     case 'p': o->passes = number(optarg, 1, 1000000); break;
     case 'b': o->bytes = number(optarg, 1, 60000000); break;
+    case POLICY: o->policy = policy_named(optarg); break;
     case 'h': say_and_end(USAGE); break;
     case 'V': say_and_end("caladand " HOST_RELEASE "\n"); break;
     default: exit(2); /* getopt has said why */
@@ -91,7 +101,8 @@ static void read_option(options *o, int option) {
 }
 
 options read_options(int count, char **words) {
-    static const struct option longer[] = {{"help", no_argument, NULL, 'h'}, {"version", no_argument, NULL, 'V'}, {0}};
+    static const struct option longer[] = {
+        {"policy", required_argument, NULL, POLICY}, {"help", no_argument, NULL, 'h'}, {"version", no_argument, NULL, 'V'}, {0}};
     options o = {.own = -1, .mover = -1, .passes = 1000000, .bytes = 60000000};
     static const char letters[] = "n:t:c:o:m:u:s:g:y:k:w:r:p:b:hV";
     for (int c; (c = getopt_long(count, words, letters, longer, NULL)) != -1;) read_option(&o, c);

@@ -43,7 +43,7 @@ static void begin_thread(scheduler *s, size_t k) {
 }
 
 void begin_piece(scheduler *s) {
-    if (!s->handle.open && caladan_open((const uint8_t *)s->table, strlen(s->table), &s->handle)) fail(s->options.table, "it cannot be opened again");
+    if (!s->handle.open && open_table(s)) fail(s->options.table, "it cannot be opened again");
     for (size_t k = 0; k < s->machine.threads; k++) begin_thread(s, k);
     latency_begin_piece(&s->latency);
     memset(s->on_core, 0, sizeof s->on_core);

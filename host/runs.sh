@@ -21,8 +21,8 @@ else
 fi
 needs_audit() { [ "${sim[0]}" = "$build/audit" ]; }
 
-# is_legal TABLE HISTORY
-is_legal() { [ "$({ cat "$1"; echo ---; cat "$2"; } | "${sim[@]}" 2> /dev/null | tail -n 1)" = legal ]; }
+# is_legal TABLE HISTORY: by the policy $policy, where that is set
+is_legal() { [ "$({ cat "$1"; echo ---; cat "$2"; } | "${sim[@]}" ${policy:+--policy "$policy"} 2> /dev/null | tail -n 1)" = legal ]; }
 
 # The schedulers of a run have their folders in one of the run's own, in memory, and so has a load its counter: a disk would
 # hold up whoever counts there.

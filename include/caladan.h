@@ -38,8 +38,8 @@
  * Since version 3: a handle may move from one thread to another, and one of another kind is taken for a closed
  * one. New are tables of rows (caladan_open_rows, and the same of a guard and an audit), what a policy of your
  * own chooses by (caladan_guard_judge, caladan_guard_kept, caladan_guard_ban, caladan_guard_last), caladan_kept,
- * caladan_next_clock, and policies by number (caladan_open_policy, caladan_audit_open_policy, the answer
- * CALADAN_NO_POLICY).
+ * caladan_next_clock, and policies by number (caladan_open_policy, caladan_audit_open_policy,
+ * CALADAN_POLICY_CALADAN and CALADAN_POLICY_ASSURED, the answer CALADAN_NO_POLICY).
  * Since version 2: no pass answers CALADAN_NO_MEMORY any more, and a core may be given as any number, also
  * one above 255. New are the words of a look as one run (CALADAN_WORDS, caladan_look_words,
  * caladan_look_set_words) and CALADAN_IS_THIS_VERSION.
@@ -111,7 +111,8 @@ enum {
 };
 
 /* The policies, by which passes are made and audited (docs/POLICY.md). The calls that name none go by
- * CALADAN_POLICY_CALADAN [opened]. */
+ * CALADAN_POLICY_CALADAN [opened]. By CALADAN_POLICY_ASSURED a latency-critical task that goes on waiting below
+ * its guarantee is granted a core (docs/POLICY.md says when). */
 enum { CALADAN_POLICY_CALADAN = 0, CALADAN_POLICY_ASSURED = 1 };
 
 /* A scheduler, or nothing. */
@@ -519,7 +520,8 @@ static inline uint8_t caladan_rows_answer(uint8_t answer, size_t cores, uint64_t
 /* Opens the table of these rows in a closed handle: what caladan_open answers to their text. Of the faults of
  * a table there remain OUT_OF_RANGE, BEST_EFFORT_GUARANTEE, GUARANTEES_EXCEED_CORES and TOO_MANY_THREADS; each
  * is said of the place at which the checks of docs/POLICY.md find it first, in *wrong, which no other answer
- * writes [tested]. wrong may be null. */
+ * writes [tested]. wrong may be null. By another policy: give what caladan_rows_text writes to
+ * caladan_open_policy. */
 static inline uint8_t caladan_open_rows(size_t cores, uint64_t bandwidth_limit, const caladan_table_row *rows, size_t count,
                                         caladan *handle, caladan_wrong *wrong) {
     char text[CALADAN_ROWS_ROOM];
@@ -793,7 +795,7 @@ static inline const char *caladan_answer_text(uint8_t answer) {
     return answer < sizeof texts / sizeof *texts ? texts[answer] : "no answer";
 }
 
-/* The name of a policy, as caladan_sim takes it after --policy. */
+/* The name of a policy, as caladan_sim and caladand take it after --policy. */
 static inline const char *caladan_policy_text(uint32_t policy) {
     static const char *const texts[] = {"caladan", "assured"};
     return policy < sizeof texts / sizeof *texts ? texts[policy] : "no policy";

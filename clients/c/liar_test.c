@@ -4,7 +4,9 @@
  * the same looks and actions lets each pass through and judges alike; the record is legal; and once the liar
  * is gone its page is buried and its honest successor gets a core.
  *
- *   liar_test PASSES thread|process [FILE]      FILE: the first 1000 passes, as a history behind its table
+ *   liar_test PASSES thread|process [FILE [assured]]
+ *     FILE       the first 1000 passes, as a history behind its table
+ *     assured    by that policy, in place of Caladan's
  */
 #define _GNU_SOURCE
 #include "caladan_history.h"
@@ -190,10 +192,11 @@ static int run(host *it, shared *all, uint64_t passes) {
     return 0;
 }
 
-static int open_all(host *it, shared *all) {
+static int open_all(host *it, shared *all, uint32_t policy) {
     const uint8_t *text = (const uint8_t *)TABLE;
     size_t length = strlen(TABLE);
-    if (caladan_open(text, length, &it->each) || caladan_open(text, length, &it->plain) || caladan_audit_open(text, length, &it->audit) || caladan_guard_open(text, length, &it->guard)) return 1;
+    if (caladan_open_policy(text, length, policy, &it->each) || caladan_open_policy(text, length, policy, &it->plain)) return 1;
+    if (caladan_audit_open_policy(text, length, policy, &it->audit) || caladan_guard_open(text, length, &it->guard)) return 1;
     for (size_t k = 0; k < THREADS; k++) {
         it->senders[k] = (caladan_sender){&all->ring[k], 0};
         if (k != LIAR) it->honest[k] = (honest){{&all->page[k], 0}, {0}, k * 7919 + 1, k};
@@ -204,9 +207,10 @@ static int open_all(host *it, shared *all) {
 int main(int argc, char **argv) {
     uint64_t passes = argc > 1 ? strtoull(argv[1], NULL, 10) : 1000000, first;
     bool in_thread = argc > 2 && !strcmp(argv[2], "thread");
+    uint32_t policy = argc > 4 && !strcmp(argv[4], "assured") ? CALADAN_POLICY_ASSURED : CALADAN_POLICY_CALADAN;
     shared *all = mmap(NULL, sizeof *all, PROT_READ | PROT_WRITE, MAP_SHARED | MAP_ANONYMOUS, -1, 0);
     static host it = {.each = {false, NULL}};
-    if (all == MAP_FAILED || open_all(&it, all)) return 2;
+    if (all == MAP_FAILED || open_all(&it, all, policy)) return 2;
     if (argc > 3 && (it.out = fopen(argv[3], "w"))) {
         fprintf(it.out, "%s---\n", TABLE);
         caladan_history_begin(it.out);

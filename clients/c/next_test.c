@@ -3,6 +3,7 @@
  *     next_test < INPUT     the passes of a file of signals, as clients/c/decide.c makes them: behind each that made no
  *                           action some are made at clocks before the next one, on a second handle that made the same
  *     next_test made        tables and looks of its own, of which it is known what comes when; and 20,000 made passes
+ *     next_test --policy NAME ..      the same by that policy
  *
  * Prints 'next_test: ok', and before it how many clocks it tried and at how many of the next ones a pass acted. */
 #define _GNU_SOURCE
@@ -11,7 +12,17 @@
 #include "trace.h"
 
 enum { MOST_REPLAYED = 300 };
+static uint32_t policy;
 static unsigned long tried, reached, acted;
+
+static uint8_t open_table(const void *table, size_t length, caladan *handle) {
+    return caladan_open_policy(table, length, policy, handle);
+}
+
+static uint8_t open_table_of_rows(size_t cores, const caladan_table_row *rows, size_t count, caladan *handle) {
+    char text[CALADAN_ROWS_ROOM];
+    return open_table(text, caladan_rows_text(cores, 1000, rows, count, text), handle);
+}
 
 /* How many actions a pass makes on these looks; -1 where it is refused. */
 static int made_at(caladan *handle, uint64_t now, const recorded *pass) {
@@ -41,7 +52,7 @@ static void try_clocks(caladan *handle, uint64_t now, const recorded *pass) {
 static void try_after(const input *in, const recorded *passes, size_t count) {
     caladan handle = CALADAN_CLOSED;
     int made = -1;
-    CHECK(caladan_open((const uint8_t *)in->text, in->table_length, &handle) == CALADAN_DONE);
+    CHECK(open_table(in->text, in->table_length, &handle) == CALADAN_DONE);
     for (size_t k = 0; k < count; k++) made = made_at(&handle, passes[k].now, &passes[k]);
     if (made == 0) try_clocks(&handle, passes[count - 1].now, &passes[count - 1]);
     CHECK(made >= 0 && caladan_close(&handle) == CALADAN_DONE);
@@ -52,7 +63,7 @@ static void try_input(const input *in) {
     caladan handle = CALADAN_CLOSED;
     caladan_machine machine;
     trace from;
-    CHECK(caladan_open((const uint8_t *)in->text, in->table_length, &handle) == CALADAN_DONE);
+    CHECK(open_table(in->text, in->table_length, &handle) == CALADAN_DONE);
     CHECK(caladan_table(&handle, &machine) == CALADAN_DONE && begin_trace(&from, in, false, machine));
     for (size_t k = 0; k < MOST_REPLAYED && next_pass(&from, &passes[k]) == 1; k++) try_after(in, passes, k + 1);
     CHECK(caladan_close(&handle) == CALADAN_DONE);
@@ -64,7 +75,7 @@ static void try_one(int line, caladan_table_row row, uint64_t now, caladan_look 
     recorded pass = {.count = row.limit, .looks = {look}};
     uint64_t next = 0;
     for (size_t k = 0; k < pass.count; k++) pass.looks[k].room = 1;
-    CHECK(caladan_open_rows(2, 1000, &row, 1, &handle, NULL) == CALADAN_DONE);
+    CHECK(open_table_of_rows(2, &row, 1, &handle) == CALADAN_DONE);
     if (look.running) { /* it is on a core by a grant that it was sent */
         recorded asks = {.count = row.limit, .looks = {{.room = 1, .number = 1, .queued = 1, .oldest = 1}}};
         CHECK(made_at(&handle, row.delay + 2, &asks) == 1);
@@ -119,7 +130,7 @@ static void try_made(void) {
     caladan handle = CALADAN_CLOSED;
     recorded pass = {.count = 8};
     uint64_t now = 1000;
-    CHECK(caladan_open_rows(4, 1000, rows, 3, &handle, NULL) == CALADAN_DONE);
+    CHECK(open_table_of_rows(4, rows, 3, &handle) == CALADAN_DONE);
     for (int k = 0; k < 20000; k++, now += chance(30)) {
         for (size_t thread = 0; thread < pass.count; thread++)
             if (chance(4) == 0) change(&handle, thread, now, &pass.looks[thread]);
@@ -134,7 +145,8 @@ static void try_made(void) {
 
 int main(int count, char **words) {
     input in = {0};
-    if (count == 2 && !strcmp(words[1], "made")) {
+    policy = policy_asked(count, words);
+    if (!strcmp(words[count - 1], "made")) {
         try_known();
         try_made();
     } else if (read_input(stdin, &in)) {

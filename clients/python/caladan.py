@@ -7,6 +7,7 @@
 A handle is closed at the end of `with`, by close(), or when nothing refers to it any more (a ResourceWarning says so then). It
 may move between threads, and is used by one at a time. A table is bytes, or a str, which is read as UTF-8; of rows text_of_rows
 makes one. A number that does not fit its field or argument is a ValueError, before anything is called.
+`Scheduler(library, table, ASSURED)`, or Audit, goes by another policy than Caladan's.
 
 As a program it reads a task table, a line ---, and a file on standard input (docs/FORMATS.md).
 
@@ -18,7 +19,8 @@ As a program it reads a task table, a line ---, and a file on standard input (do
     caladan.py LIBRARY guard < INPUT    a history: hands its actions to a guard, and prints 'permitted', or
                                         the first pass and action that are not, and why; then it exits with 1
 
-LIBRARY is libcaladan_c as a shared object. Exits with 2 where the input is refused."""
+LIBRARY is libcaladan_c as a shared object. With `--policy NAME` passes are made and audited by that policy, caladan or
+assured. Exits with 2 where the words or the input are refused."""
 import csv
 import ctypes
 import io
@@ -31,7 +33,9 @@ __version__ = "4"
 MOST_ACTIONS = 338
 MOST_CORES = 128
 MOST_PASSES, MOST_TEXT = 1 << 20, 1 << 26
-U8, U64, SIZE = ctypes.c_uint8, ctypes.c_uint64, ctypes.c_size_t
+U8, U32, U64, SIZE = ctypes.c_uint8, ctypes.c_uint32, ctypes.c_uint64, ctypes.c_size_t
+POLICY_TEXTS = ("caladan", "assured")
+CALADAN, ASSURED = range(len(POLICY_TEXTS))
 WORDS = ("taken", "running", "queued", "oldest", "started", "misses", "stamp", "paused", "since")
 JUDGED = {2: "busy", 3: "ahead", 4: "foreign"}
 ACTIONS = {1: "free core {core}", 2: "unban core {core}", 3: "ban core {core} for thread {thread} started {started}",
@@ -154,10 +158,11 @@ class Kept:
     """What a handle keeps; CallRefused, with the answer, where a call is refused."""
     prefix = "caladan_"
 
-    def __init__(self, library, table):
+    def __init__(self, library, table, policy=None):
         self.library, self.handle = library, Handle()
         text = table.encode() if isinstance(table, str) else bytes(memoryview(table))
-        self.answered(self.call("open", text, SIZE(len(text)), where=2))
+        name, number_of_it = ("open", []) if policy is None else ("open_policy", [U32(fitting(policy, U32))])
+        self.answered(self.call(name, text, SIZE(len(text)), *number_of_it, where=2 + len(number_of_it)))
 
     def __enter__(self):
         return self
@@ -247,10 +252,10 @@ class Counted(Kept):
 
 
 class Scheduler(Counted):
-    """A task table and its passes."""
+    """A task table and its passes, by the policy of this number."""
 
-    def __init__(self, library, table):
-        super().__init__(library, table)
+    def __init__(self, library, table, policy=CALADAN):
+        super().__init__(library, table, policy)
         self.threads = self.call("threads", answers=SIZE)
 
     def bandwidth_limit(self):
@@ -293,8 +298,11 @@ class Scheduler(Counted):
 
 
 class Audit(Kept):
-    """Recorded passes, one after the other, and whether all of them are legal."""
+    """Recorded passes, one after the other, and whether all of them are legal by the policy of this number."""
     prefix = "caladan_audit_"
+
+    def __init__(self, library, table, policy=CALADAN):
+        super().__init__(library, table, policy)
 
     def take(self, now, bandwidth, looks, judged, actions):
         """Takes the next recorded pass, legal or not."""
@@ -311,8 +319,11 @@ class Audit(Kept):
 
 
 class Guard(Counted):
-    """Passes whose actions somebody else chose."""
+    """Passes whose actions somebody else chose, by whatever policy."""
     prefix = "caladan_guard_"
+
+    def __init__(self, library, table):
+        super().__init__(library, table)
 
     def run(self, now, bandwidth, looks, actions):
         """The next pass, where its actions are permitted: what was judged of each look, and None; else
@@ -504,16 +515,16 @@ def machine_of(library, table):
         return scheduler.machine()
 
 
-def audited(library, table, trace):
+def audited(library, policy, table, trace):
     machine = machine_of(library, table)
-    with Audit(library, table) as audit:
+    with Audit(library, table, policy) as audit:
         for each in recorded(trace, machine):
             audit.take(*each)
         first = audit.verdict()
     return "legal" if first is None else f"illegal pass {first}", first is not None
 
 
-def guarded(library, table, trace):
+def guarded(library, _, table, trace):
     with Guard(library, table) as guard:
         for number_of_pass, (now, bandwidth, looks, judged, actions) in enumerate(recorded(trace, guard.machine())):
             said, refused = guard.run(now, bandwidth, looks, actions)
@@ -524,28 +535,40 @@ def guarded(library, table, trace):
     return "permitted", False
 
 
-def decided(library, table, trace):
-    with Scheduler(library, table) as scheduler:
+def decided(library, policy, table, trace):
+    with Scheduler(library, table, policy) as scheduler:
         return "\n".join(report(scheduler, passes_of(trace, scheduler.machine(), False))), False
 
 
-def answer_of(call, library, text):
+def answer_of(call, library, policy, text):
     """What is said of an input, and the status."""
     try:
-        said, refused = call(library, *parts(text))
+        said, refused = call(library, policy, *parts(text))
         return said, int(refused)
     except ValueError as why:
         print(f"caladan.py: refused: {why}", file=sys.stderr)
         return "refused", 2
 
 
+def policy_asked(words):
+    """The policy that `--policy NAME` among the words asks for, and the other words."""
+    if "--policy" not in words:
+        return CALADAN, words
+    at = words.index("--policy")
+    named = words[at + 1:at + 2]
+    if not set(named) <= set(POLICY_TEXTS) or not named:
+        print(f"caladan.py: --policy wants one of {', '.join(POLICY_TEXTS)}", file=sys.stderr)
+        sys.exit(2)
+    return POLICY_TEXTS.index(named[0]), words[:at] + words[at + 2:]
+
+
 def main():
-    library, words = ctypes.CDLL(sys.argv[1]), sys.argv[2:]
+    library, (policy, words) = ctypes.CDLL(sys.argv[1]), policy_asked(sys.argv[2:])
     call = {"decide": decided, "audit": audited, "guard": guarded}[words[0] if words else "decide"]
     statuses = []
     for file in words[1:] or [sys.stdin.fileno()]:
         with open(file, "rb", closefd=isinstance(file, str)) as it:
-            said, status = answer_of(call, library, it.read())
+            said, status = answer_of(call, library, policy, it.read())
         if status < 2 or words[1:]:
             print(said)
         statuses.append(status)

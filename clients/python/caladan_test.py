@@ -87,6 +87,30 @@ def guarded(library):
     it.close()
 
 
+def by_policy(library):
+    """A ban that only Caladan's policy makes: the free core beside a long request is the one that a short task waits for."""
+    table = caladan.text_of_rows(2, 1000, [caladan.TableTask(kind=1, guaranteed=1, limit=1, delay=10, request=100)] * 2)
+    runs = Look(room=1, number=2, taken=1, running=1, started=250, stamp=380)
+    passes = [(200, [Look(room=1, number=1, queued=1, oldest=100, stamp=190), Look(room=1)]),
+              (400, [runs, Look(room=1, number=1, queued=1, oldest=300, stamp=310)])]
+    history = {}
+    for policy, kind in ((caladan.CALADAN, 3), (caladan.ASSURED, 6)):
+        with Scheduler(library, table, policy) as it:
+            history[policy] = [(now, looks, *it.run_each(now, 0, looks)) for now, looks in passes]
+        want([action.kind for action in history[policy][1][3]], [kind])
+    for policy, made in history.items():
+        for other in history:
+            with Audit(library, table, other) as audit:
+                for now, looks, judged, actions in made:
+                    audit.take(now, 0, looks, judged, actions)
+                want(audit.verdict(), None if other == policy else 1)
+    want((caladan.POLICY_TEXTS[caladan.CALADAN], caladan.POLICY_TEXTS[caladan.ASSURED]), ("caladan", "assured"))
+    for kind in (Scheduler, Audit):
+        want(raised(CallRefused, kind, library, table, 77).answer, 22)
+        raised(ValueError, kind, library, table, 1 << 32)
+        raised(ValueError, kind, library, table, -1)
+
+
 def chosen_by(library):
     """What a policy chooses by: core 0 is granted to the thread, and then banned for it and revoked."""
     it = Guard(library, TABLE)
@@ -232,6 +256,7 @@ def main():
     library = ctypes.CDLL(sys.argv[1])
     scheduled(library)
     guarded(library)
+    by_policy(library)
     chosen_by(library)
     rows(library)
     written(library)

@@ -1,6 +1,9 @@
 /* A scheduler over two processes with shared memory: each is a kernel thread, which publishes its record
  * on a page and takes its commands from a ring; the scheduler, in a third, looks at the pages, makes
- * passes through caladan.h and sends what they decide. Prints the grants and revocations. */
+ * passes through caladan.h and sends what they decide. Prints the grants and revocations.
+ *
+ *     scheduler_loop [assured]      by the policy assured, in place of Caladan's
+ */
 #define _GNU_SOURCE
 #include "caladan_pages.h"
 #include <stdio.h>
@@ -113,7 +116,8 @@ static uint64_t schedule(shared *all, caladan *handle) {
     return is_done(all) ? pass : 0;
 }
 
-int main(void) {
+int main(int argc, char **argv) {
+    uint32_t policy = argc > 1 && !strcmp(argv[1], "assured") ? CALADAN_POLICY_ASSURED : CALADAN_POLICY_CALADAN;
     shared *all = mmap(NULL, sizeof *all, PROT_READ | PROT_WRITE, MAP_SHARED | MAP_ANONYMOUS, -1, 0);
     if (all == MAP_FAILED) return 2;
     for (int k = 0; k < THREADS; k++)
@@ -122,7 +126,7 @@ int main(void) {
             _exit(0);
         }
     caladan handle = CALADAN_CLOSED;
-    if (caladan_open((const uint8_t *)TABLE, strlen(TABLE), &handle)) return 2;
+    if (caladan_open_policy((const uint8_t *)TABLE, strlen(TABLE), policy, &handle)) return 2;
     uint64_t passes = schedule(all, &handle);
     atomic_store(&all->stop, 1);
     for (int k = 0; k < THREADS; k++) wait(NULL);

@@ -55,7 +55,7 @@ void latency_begin_piece(latency *l) { (void)l; }
 bool record_is_full(const record *r) { (void)r; return false; }
 bool record_begin_piece(record *r, uint64_t number) { (void)r, (void)number; return true; }
 bool record_end_piece(record *r, uint64_t passes) { (void)r, (void)passes; return true; }
-uint8_t caladan_open(const uint8_t *toml, size_t length, caladan *handle) { (void)toml, (void)length, (void)handle; return 2; }
+uint8_t open_table(scheduler *s) { (void)s; return 2; }
 uint8_t caladan_close(caladan *handle) { (void)handle; return CALADAN_DONE; }
 
 /* An end with a patience of a second; how long it took. */

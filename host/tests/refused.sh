@@ -15,6 +15,10 @@ words() {
     refuses "it is no number in range" $(daemon 0,,1)
     refuses "it is no number in range" $(daemon 1-0)
     refuses "it is no option" $(daemon 0,1) word
+    refuses "--policy: the policies are caladan and assured" $(daemon "$managed") --policy fifo
+    refuses "--policy: the policies are caladan and assured" $(daemon "$managed") --policy ""
+    refuses "--policy: the policies are caladan and assured" $(daemon "$managed") --policy=Assured
+    refuses "option '--policy' requires an argument" $(daemon "$managed") --policy
     refuses "task 0: it is not best-effort, and only such a task can stand under" $(daemon "$managed") -u 0
     refuses "task 0: it is not best-effort" $(daemon "$managed") -u 1,0
     refuses "task 2: the table has no such task" $(daemon "$managed") -u 1,2

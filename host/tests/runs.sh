@@ -12,6 +12,22 @@ long_run() { # long_run PASSES: pieces of so many, until there are four
     above 2 attached
 }
 
+by_assured() { # by the other policy: legal by that one, and not by Caladan's
+    local policy=assured each others=0
+    what="a run by the assured policy, $main"
+    begin -k 2000 -g 10000 -p 20000 --policy $policy
+    go 90 "$bin/load" be -n "$name" -u 1 -k 200 -s 80
+    go 90 "$bin/load" lc -n "$name" -u 0 -k 200 -q 2000 -s 80
+    wait_for 80 has_pieces 4; note $? "$what: there are no four pieces"
+    end
+    above 1 revoke
+    grep -qx "# Audit it with --policy assured." "$record/table.toml" && is_legal "$record/table.toml" "$record/piece-000001.history"
+    note $? "$what: its table does not say who made it"
+    policy=caladan
+    for each in "$record"/piece*.history; do is_legal "$table" "$each" || others=$((others + 1)); done
+    [ $others -ge 1 ]; note $? "$what: each piece is legal by Caladan's policy too"
+}
+
 deaths() { # 20 times: a process attaches, and is killed at any moment
     what="20 deaths on $main"
     begin -k 2000 -g 100000

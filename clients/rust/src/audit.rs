@@ -2,22 +2,23 @@
 //! the other, and prints 'legal', or 'illegal pass' and the first that is not, as caladan_sim audit does.
 //! Given the word guard it hands their actions to a guard, and prints 'permitted', or the first pass and
 //! action that are not. Exits with 1 where one is not, with 2 where the input is refused. Given files it reads each
-//! as such an input for the audit, and prints its line; of one that is refused 'refused'.
+//! as such an input for the audit, and prints its line; of one that is refused 'refused'. With the words --policy NAME
+//! before these it audits by that policy.
 
 mod trace;
 
-use caladan::{Audit, Guard, NotThrough, Verdict};
+use caladan::{Audit, Guard, NotThrough, Policy, Verdict};
 use std::io::Read;
 use std::process::exit;
-use trace::{machine_of, parts, Trace, Why};
+use trace::{machine_of, parts, policy_asked, Trace, Why};
 
 /// What is said of an input, and whether all is legal or permitted.
 type Said = Result<(String, bool), Why>;
 
-fn audited(text: &[u8]) -> Said {
+fn audited(policy: Policy, text: &[u8]) -> Said {
     let (table, history) = parts(text)?;
     let (table, machine) = machine_of(table)?;
-    let mut audit = Audit::open(table).map_err(|_| "the table")?;
+    let mut audit = Audit::open_by(table, policy).map_err(|_| "the table")?;
     let mut trace = Trace::begin(history, machine, true)?;
     while let Some(it) = trace.next_pass()? {
         audit.pass(it.now, it.bandwidth, &it.looks, &it.judged, &it.actions).map_err(|_| "a pass")?;
@@ -54,25 +55,30 @@ fn status_of(said: &Said) -> i32 {
 }
 
 /// Prints the line of each file; the greatest status of one.
-fn audit_each(files: &[String]) -> i32 {
+fn audit_each(policy: Policy, files: &[String]) -> i32 {
     let mut greatest = 0;
     for file in files {
-        let said = std::fs::read(file).map_err(|_| "no text").and_then(|text| audited(&text));
+        let said = std::fs::read(file).map_err(|_| "no text").and_then(|text| audited(policy, &text));
         greatest = greatest.max(status_of(&said));
         println!("{}", said.map_or("refused".to_string(), |(line, _)| line));
     }
     greatest
 }
 
+/// What is said of standard input.
+fn said_of_input(policy: Policy, guards: bool) -> Said {
+    let mut text = Vec::new();
+    std::io::stdin().read_to_end(&mut text).map_err(|_| "no text")?;
+    if guards { guarded(&text) } else { audited(policy, &text) }
+}
+
 fn main() {
     let words: Vec<String> = std::env::args().skip(1).collect();
-    let guards = words == ["guard"];
-    if !guards && !words.is_empty() {
-        exit(audit_each(&words));
-    }
-    let mut text = Vec::new();
-    let is_read = std::io::stdin().read_to_end(&mut text).map(|_| ()).map_err(|_| "no text");
-    let said = is_read.and_then(|()| if guards { guarded(&text) } else { audited(&text) });
+    let said = match policy_asked(&words) {
+        Ok((policy, files)) if files != ["guard"] && !files.is_empty() => exit(audit_each(policy, files)),
+        Ok((policy, rest)) => said_of_input(policy, !rest.is_empty()),
+        Err(why) => Err(why),
+    };
     match &said {
         Ok((line, _)) => println!("{line}"),
         Err(why) => eprintln!("audit: {why}"),

@@ -1,13 +1,14 @@
 //! Reads a task table, a line ---, and a file of signals on standard input, makes the passes, and prints
-//! the report of caladan_sim. Exits with 2 where the input is refused.
+//! the report of caladan_sim. With the words --policy NAME it does so by that policy. Exits with 2 where the words or the
+//! input are refused.
 
 mod trace;
 
-use caladan::{Action, Scheduler};
+use caladan::{Action, Policy, Scheduler};
 use std::fmt::Write;
 use std::io::Read;
 use std::process::exit;
-use trace::{machine_of, parts, Trace, Why};
+use trace::{machine_of, parts, policy_asked, Trace, Why};
 
 fn told(it: &Action) -> String {
     match (it.kind, it.cause) {
@@ -47,10 +48,10 @@ fn end_of(scheduler: &mut Scheduler, passes: usize) -> String {
 }
 
 /// The report of an input, kept until all of it was accepted.
-fn report(text: &[u8]) -> Result<String, Why> {
+fn report(policy: Policy, text: &[u8]) -> Result<String, Why> {
     let (table, signals) = parts(text)?;
     let (table, machine) = machine_of(table)?;
-    let mut scheduler = Scheduler::open(table).map_err(|_| "the table")?;
+    let mut scheduler = Scheduler::open_by(table, policy).map_err(|_| "the table")?;
     let mut trace = Trace::begin(signals, machine, false)?;
     let (mut report, mut passes) = (String::new(), 0);
     while let Some(it) = trace.next_pass()? {
@@ -61,10 +62,20 @@ fn report(text: &[u8]) -> Result<String, Why> {
     Ok(report + &end_of(&mut scheduler, passes))
 }
 
-fn main() {
+/// What these words and standard input ask for.
+fn decided(words: &[String]) -> Result<String, Why> {
+    let (policy, rest) = policy_asked(words)?;
     let mut text = Vec::new();
-    let is_read = std::io::stdin().read_to_end(&mut text).map(|_| ()).map_err(|_| "no text");
-    match is_read.and_then(|()| report(&text)) {
+    if !rest.is_empty() {
+        return Err("the words");
+    }
+    std::io::stdin().read_to_end(&mut text).map_err(|_| "no text")?;
+    report(policy, &text)
+}
+
+fn main() {
+    let words: Vec<String> = std::env::args().skip(1).collect();
+    match decided(&words) {
         Ok(report) => print!("{report}"),
         Err(why) => {
             eprintln!("decide: {why}");

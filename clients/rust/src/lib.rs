@@ -348,7 +348,7 @@ extern "C" {
     fn caladan_gone(handle: *mut Handle, thread: usize, look: *mut Look) -> u8;
     fn caladan_kept(handle: *mut Handle, thread: usize, look: *mut Look) -> u8;
     fn caladan_holder(handle: *mut Handle, core: u8, holder: *mut Holder) -> u8;
-    fn caladan_open(table: *const u8, length: usize, handle: *mut Handle) -> u8;
+    fn caladan_open_policy(table: *const u8, length: usize, policy: u32, handle: *mut Handle) -> u8;
     fn caladan_threads(handle: *mut Handle) -> usize;
     fn caladan_bandwidth_limit(handle: *mut Handle) -> u64;
     #[allow(clippy::too_many_arguments)]
@@ -366,7 +366,7 @@ extern "C" {
     ) -> u8;
     fn caladan_task(handle: *mut Handle, task: usize, counts: *mut Counts) -> u8;
     fn caladan_close(handle: *mut Handle) -> u8;
-    fn caladan_audit_open(table: *const u8, length: usize, handle: *mut Handle) -> u8;
+    fn caladan_audit_open_policy(table: *const u8, length: usize, policy: u32, handle: *mut Handle) -> u8;
     #[allow(clippy::too_many_arguments)]
     fn caladan_audit_pass(
         handle: *mut Handle,
@@ -428,6 +428,31 @@ fn answered(answer: u8) -> Result<(), Refused> {
     if answer == 0 { Ok(()) } else { Err(Refused(answer)) }
 }
 
+/// The policies, by which passes are made and audited (docs/POLICY.md).
+#[derive(Clone, Copy, Debug, PartialEq, Eq)]
+pub enum Policy {
+    Caladan = 0,
+    Assured = 1,
+}
+
+impl Policy {
+    /// All of them, by their numbers.
+    pub const ALL: [Policy; 2] = [Policy::Caladan, Policy::Assured];
+
+    /// Its name, as `caladan_sim` takes it after `--policy`.
+    pub fn name(self) -> &'static str {
+        match self {
+            Policy::Caladan => "caladan",
+            Policy::Assured => "assured",
+        }
+    }
+
+    /// The policy of this name, if there is one.
+    pub fn named(name: &str) -> Option<Policy> {
+        Policy::ALL.into_iter().find(|it| it.name() == name)
+    }
+}
+
 /// A task table and its passes. After a refusal nothing has changed.
 pub struct Scheduler {
     handle: Handle,
@@ -437,10 +462,15 @@ pub struct Scheduler {
 }
 
 impl Scheduler {
-    /// Opens the task table that a text spells. Its error is the table's first fault.
+    /// Opens the task table that a text spells, for passes by Caladan's policy. Its error is the table's first fault.
     pub fn open(table: &str) -> Result<Scheduler, Refused> {
+        Scheduler::open_by(table, Policy::Caladan)
+    }
+
+    /// The same for passes by this policy.
+    pub fn open_by(table: &str, policy: Policy) -> Result<Scheduler, Refused> {
         let mut handle = CLOSED;
-        answered(unsafe { caladan_open(table.as_ptr(), table.len(), &mut handle) })?;
+        answered(unsafe { caladan_open_policy(table.as_ptr(), table.len(), policy as u32, &mut handle) })?;
         let threads = unsafe { caladan_threads(&mut handle) };
         Ok(Scheduler {
             handle,
@@ -545,10 +575,15 @@ pub struct Audit {
 }
 
 impl Audit {
-    /// Opens an audit of the task table that a text spells. Its error is the table's first fault.
+    /// Opens an audit of the task table that a text spells, by Caladan's policy. Its error is the table's first fault.
     pub fn open(table: &str) -> Result<Audit, Refused> {
+        Audit::open_by(table, Policy::Caladan)
+    }
+
+    /// The same by this policy.
+    pub fn open_by(table: &str, policy: Policy) -> Result<Audit, Refused> {
         let mut handle = CLOSED;
-        answered(unsafe { caladan_audit_open(table.as_ptr(), table.len(), &mut handle) })?;
+        answered(unsafe { caladan_audit_open_policy(table.as_ptr(), table.len(), policy as u32, &mut handle) })?;
         Ok(Audit { handle })
     }
 

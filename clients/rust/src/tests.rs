@@ -1,7 +1,7 @@
 //! The calls of the wrapper, once each.
 
 use super::{text_of_rows, Ban, Counts, Holder, Last, TableTask, CLOSED};
-use super::{history_of_each, Action, Audit, Command, Guard, Judged, Look, Machine, NotThrough, Refused, Scheduler, Stopped, Thread, Verdict, WORDS};
+use super::{history_of_each, Action, Audit, Command, Guard, Judged, Look, Machine, NotThrough, Policy, Refused, Scheduler, Stopped, Thread, Verdict, WORDS};
 
 const TABLE: &str = "cores = 2\nbandwidth_limit = 1000\n\n[[task]]\nkind = \"lc\"\nguaranteed = 1\nlimit = 1\ndelay = 10\nrequest = 50\n";
 
@@ -58,6 +58,31 @@ fn audit_names_the_pass() {
     assert_eq!(audit.verdict(), Verdict::Legal);
     audit.pass(112, 0, &[waits()], &[1], &[grant(3)]).unwrap();
     assert_eq!(audit.verdict(), Verdict::Illegal { pass: 1 });
+}
+
+/// A ban that only Caladan's policy makes: the free core beside a long request is the one that a short task waits for.
+#[test]
+fn each_policy_makes_its_own() {
+    let row = TableTask { kind: 1, guaranteed: 1, limit: 1, delay: 10, request: 100, ..TableTask::default() };
+    let table = text_of_rows(2, 1000, &[row, row]);
+    let look = |number, named: &[(&str, u64)]| Look { room: 1, number, words: words(named), ..Look::default() };
+    let first = [look(1, &[("queued", 1), ("oldest", 100), ("stamp", 190)]), look(0, &[])];
+    let runs = look(2, &[("taken", 1), ("running", 1), ("started", 250), ("stamp", 380)]);
+    let second = [runs, look(1, &[("queued", 1), ("oldest", 300), ("stamp", 310)])];
+    for (policy, kind) in [(Policy::Caladan, 3), (Policy::Assured, 6)] {
+        let mut scheduler = Scheduler::open_by(&table, policy).unwrap();
+        let made = [(200, first), (400, second)].map(|(now, looks)| (now, looks, scheduler.pass(now, 0, &looks).unwrap().0.to_vec()));
+        assert_eq!(made[1].2.iter().map(|it| it.kind).collect::<Vec<_>>(), [kind]);
+        for other in Policy::ALL {
+            let mut audit = Audit::open_by(&table, other).unwrap();
+            for (now, looks, actions) in &made {
+                audit.pass(*now, 0, looks, &[1, 1], actions).unwrap();
+            }
+            assert_eq!(audit.verdict(), if other == policy { Verdict::Legal } else { Verdict::Illegal { pass: 1 } });
+        }
+    }
+    assert_eq!((Policy::named("assured"), Policy::named("caladan"), Policy::named("fifo")), (Some(Policy::Assured), Some(Policy::Caladan), None));
+    assert_eq!(Scheduler::open_by("cores = 3\n", Policy::Assured).err(), Some(Refused(3)));
 }
 
 #[test]

@@ -1,7 +1,7 @@
 //! Reads what caladan_sim reads (docs/FORMATS.md): a task table, a line `---`, and signals or a history. What it refuses is
 //! what caladan_sim refuses, by tools/audits. The programs `decide` and `audit` use it.
 
-use caladan::{Action, Look, Machine, Scheduler, MOST_ACTIONS, WORDS};
+use caladan::{Action, Look, Machine, Policy, Scheduler, MOST_ACTIONS, WORDS};
 
 const MOST_TEXT: usize = 1 << 26;
 const MOST_PASSES: u64 = 1 << 20;
@@ -13,6 +13,14 @@ pub type Why = &'static str;
 
 fn must(is_so: bool, why: Why) -> Result<(), Why> {
     if is_so { Ok(()) } else { Err(why) }
+}
+
+/// The policy that `--policy NAME` at the front of the words asks for, Caladan's without it; and the words behind.
+pub fn policy_asked(words: &[String]) -> Result<(Policy, &[String]), Why> {
+    match words {
+        [flag, name, rest @ ..] if flag == "--policy" => Ok((Policy::named(name).ok_or("no such policy")?, rest)),
+        _ => Ok((Policy::Caladan, words)),
+    }
 }
 
 /// The table and the trace of an input: the first line that is exactly `---` is between them.
