@@ -90,11 +90,11 @@ def table_of(given):
     return re.match(rb".*?^---\r?\n", given, re.S | re.M)[0]
 
 
-def audit(sim, given, history):
-    """The audit of a history under the table of an input."""
-    return run(sim, ["audit"], table_of(given) + history)
+def audit(sim, given, history, *words):
+    """The audit of a history under the table of an input, with these words besides."""
+    return run(sim, ["audit", *words], table_of(given) + history)
 
 
-def is_legal(sim, given, history):
-    audited = audit(sim, given, history)
+def is_legal(sim, given, history, *words):
+    audited = audit(sim, given, history, *words)
     return audited.returncode == 0 and audited.stdout.endswith(b"\nlegal\n")
