@@ -6,8 +6,10 @@ pub mod Fits
 pub mod FreesFirst
 pub mod FromParts
 pub mod Keeping
+pub mod LastHeld
 pub mod LegalOrderly
 pub mod Legality
+pub mod NoneToTake
 pub mod Numbering
 pub mod Pairs
 pub mod Sent

@@ -23,7 +23,7 @@ one_sent before core thread class =
     let same : eqb thread thread ≡ true = eq-eqb thread thread refl in
     sent_push before (Grant core thread class) thread ∙ rw same refl
 
-left_not_held : (o : Option placements.Placement) (cause : Cause) (p : placements.Placement) → left_by o cause ≡ holders.Held p → ⊥
+pub left_not_held : (o : Option placements.Placement) (cause : Cause) (p : placements.Placement) → left_by o cause ≡ holders.Held p → ⊥
 left_not_held None cause p e = cc
 left_not_held (Some q) cause p e = cc
 
@@ -56,7 +56,7 @@ last_sent c before [] p e = cc
 last_sent c before (a ∷ xs) p e =
     last_step c before xs a p (last_after (holder_made c) (before ++ a ∷ []) xs) (λ is. rw (append_assoc before (a ∷ []) xs) at (last_sent c (before ++ a ∷ []) xs p is)) e
 
-held_is : (o : Option Holder) (p : placements.Placement) → unwrap_or o holders.Free ≡ holders.Held p → o ≡ Some (holders.Held p)
+pub held_is : (o : Option Holder) (p : placements.Placement) → unwrap_or o holders.Free ≡ holders.Held p → o ≡ Some (holders.Held p)
 held_is None p e = cc
 held_is (Some h) p e = ap (λ (x : Holder). Some x) e
 

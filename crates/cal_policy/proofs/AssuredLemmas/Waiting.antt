@@ -2,6 +2,7 @@
 use Rattle.std.proofs.Common.{◌≡◌, ℕ, ◌+◌, ◌<◌, ◌≤◌, Bool, true, false, not, ◌&&◌, cond, eqb, nat_lt, List, [], length, Option, Some, None, refl, sym, ap, ◌∙◌, arith, ⊎_elim}
 use Rattle.std.specs.Option.{is_some}
 use Rattle.std.proofs.lemmas.Bool.Decides.{nat_tests}
+use Rattle.std.proofs.Math.Bool.{and-false}
 use Rattle.cal_machine.specs.Tasks.{first_thread}
 use Rattle.cal_machine.specs.TableTasks.{owner_of, thread_of, delay_of, limit_of}
 use Rattle.cal_machine.specs.ThreadSet.{has_thread}
@@ -11,18 +12,23 @@ use Rattle.cal_policy.specs.Assured.AtTurn.{IsCalm, IsPlaced}
 use Rattle.cal_policy.specs.Assured.Grants.{grant_in_place}
 use Rattle.cal_policy.specs.Assured.InFlight.{is_in_flight, is_late, presses, pressing}
 use Rattle.cal_policy.specs.Assured.Order.{place_of, task_in_place}
-use Rattle.cal_policy.specs.Assured.Short.{surplus, waits}
+use Rattle.cal_policy.specs.Assured.Short.{is_short, surplus, waits, waits_short, some_waits_short}
 use Rattle.cal_policy.specs.Board.KeepingSets.{KeepsSets}
 use Rattle.cal_policy.specs.Pass.Choice.{count_below}
 use Rattle.cal_policy.specs.Pass.Grants.{may_book, thread_choice}
 use Rattle.cal_policy.specs.Setting.{Setting, so_far}
 use Rattle.cal_policy.specs.State.{Stands}
-use Rattle.cal_policy.proofs.AssuredLemmas.Counting.{count_skip, below_nothing}
+use Rattle.cal_policy.proofs.AssuredLemmas.Counting.{count_skip, below_nothing, none_passes}
 use Rattle.cal_policy.proofs.ListLemmas.Counted.{lowest_passes}
 use Rattle.cal_policy.proofs.PassLemmas.NothingDue.{no_delay}
 
 never_below : (n : ℕ) (b : Bool) → (nat_lt n 0 && b) ≡ false
 never_below n b = let e : nat_lt n 0 ≡ false = grind (arith, nat_tests) in rw e refl
+
+-- where no task waits no short one does
+pub none_short : (s : Setting) (x : List Action) → ((t : ℕ) → t < length s.table.tasks → waits s x t ≡ false) → some_waits_short s x ≡ false
+none_short s x none = sym (none_passes (waits_short s x) (length s.table.tasks) (length s.table.tasks) refl
+    (sym (count_skip (waits_short s x) 0 (length s.table.tasks) (omega arith) (λ t a b. ap (λ w. is_short s.table x t && w) (none t b) ∙ and-false (is_short s.table x t)))))
 
 -- a thread that does not wait does not press
 no_press : (b : Board) (s : Setting) (acts : List Action) → Stands b s acts → KeepsSets b.keeping → (k : ℕ) → k < 128 →

@@ -196,7 +196,7 @@ choice_joins b s acts t n few st sorts =
     j.first
 
 -- the same ranks give the same best
-best_same : {R : Type 0} (beats : R → R → Bool) (f g : ℕ → Option R) (n : ℕ) → ((c : ℕ) → c < n → f c ≡ g c) → best_below beats f n ≡ best_below beats g n
+pub best_same : {R : Type 0} (beats : R → R → Bool) (f g : ℕ → Option R) (n : ℕ) → ((c : ℕ) → c < n → f c ≡ g c) → best_below beats f n ≡ best_below beats g n
 best_same beats f g zero e = refl
 best_same beats f g (suc n) e = rw (best_same beats f g n (λ c lt. e c (omega (arith, lt))), e n (omega arith)) refl
 

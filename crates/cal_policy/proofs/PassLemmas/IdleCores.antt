@@ -139,7 +139,7 @@ idle_class_by s acts t c Free false e f = rw (← e) refl
 idle_class_by s acts t c (Held p) banned e f = cc
 idle_class_by s acts t c (Leaving p cause) banned e f = cc
 
-by_member : (b : Board) (s : Setting) (acts : List Action) (t c : ℕ) → c < 128 → Stands b s acts → Opens (holder_in b.holding) b.sets.banned b.open_cores →
+pub by_member : (b : Board) (s : Setting) (acts : List Action) (t c : ℕ) → c < 128 → Stands b s acts → Opens (holder_in b.holding) b.sets.banned b.open_cores →
     (w : Bool) → has b.open_cores.idle c ≡ w →
     cond w (class_of s acts t c) None
     ≡ class_by_tests w (is_held_for s.table t (holder_of (so_far s acts) (sibling_of c))) (is_thread_for s.table t (last_thread (so_far s acts) c))

@@ -43,7 +43,7 @@ by_kind true held guaranteed short another le =
     (last_false short another (nat_lt guaranteed held) (not_more held guaranteed le)) ∙ and_none (nat_lt 0 held)
 by_kind false held guaranteed short another le = ap (λ w. w && true) (not_more held 0 le)
 
-secure_keeps : (table : Table) (x : List Action) (t other : ℕ) → held_by table x other ≤ secure_of table other →
+pub secure_keeps : (table : Table) (x : List Action) (t other : ℕ) → held_by table x other ≤ secure_of table other →
     (nat_lt 0 (held_by table x other) && is_some (preempt_class table x t other)) ≡ false
 secure_keeps table x t other le = by_kind (is_latency_critical table other) (held_by table x other) (guaranteed_of table other)
     (nat_lt (booked_by table x t) (guaranteed_of table t)) (not (eqb other t)) le

@@ -40,7 +40,7 @@ either true class = refl
 either false class = refl
 
 -- a task that holds a core has no class for task t
-none_held : (table : Table) (x : List Action) (t core other : ℕ) → NoneMayBePreempted table x t → core < table.cores → other < length table.tasks →
+pub none_held : (table : Table) (x : List Action) (t core other : ℕ) → NoneMayBePreempted table x t → core < table.cores → other < length table.tasks →
     is_held_for table other (holder_of x core) ≡ true → preempt_class table x t other ≡ None
 none_held table x t core other none low few held = none_there _ _ (none other few)
     (some_below _ (some_counted (λ c. is_held_for table other (holder_of x c)) table.cores core low held))

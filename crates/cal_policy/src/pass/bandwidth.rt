@@ -222,7 +222,8 @@ impl Pass<'_> {
         None
     }
 
-    /// What is due for the bandwidth.
+    /// What is due for the bandwidth. (Inlined, since mostly nothing is.)
+    #[inline(always)]
     pub fn bandwidth_due(&self, board: &Board) -> Coupled
         requires at_hand { IsOfTable self.now.config.now board.now }
         ensures due { Within self.now board.now (λ s acts. both_of result ≡ rules.bandwidth_part s acts) }
@@ -239,6 +240,8 @@ impl Pass<'_> {
     }
 
     /// Takes a core from the victim where the bandwidth is over its limit, else lets one cap rise.
+    /// (Inlined into a pass of each policy.)
+    #[inline(always)]
     pub fn keep_bandwidth(&self, board: &mut Board, out: &mut Actions)
         requires of_table { IsOfTable self.now.config.now board.old }
         requires room { length out.old + 2 ≤ MOST_ACTIONS }

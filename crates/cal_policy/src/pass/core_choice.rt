@@ -256,7 +256,7 @@ impl Pass<'_> {
     /// The core of the least class for the task among the idle ones, of those with that class the
     /// lowest. Each class is looked for by itself, the least first: one beside a core that the task
     /// holds, then one that the task had last, then any.
-    fn choose_idle(&self, board: &Board, task: usize) -> Option<Candidate<CoreClass>>
+    pub fn choose_idle(&self, board: &Board, task: usize) -> Option<Candidate<CoreClass>>
         requires at_hand { IsOfTable self.now.config.now board.now }
         requires task { task < length self.now.config.now.tasks }
         ensures choice { Within self.now board.now (λ s acts. result ≡ best_below comes_before
@@ -300,7 +300,7 @@ impl Pass<'_> {
     }
 
     /// Whether some task may be preempted for this one.
-    fn some_may_be_preempted(&self, board: &Board, task: usize) -> bool
+    pub fn some_may_be_preempted(&self, board: &Board, task: usize) -> bool
         requires at_hand { IsOfTable self.now.config.now board.now }
         requires task { task < length self.now.config.now.tasks }
         ensures none { result ≡ false → (x : List Action) → Agrees board.now x →

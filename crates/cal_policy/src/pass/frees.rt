@@ -64,7 +64,8 @@ impl Pass<'_> {
     }
 
     /// Frees each core whose thread has left it, upwards. Only those that may have been left are
-    /// gone over.
+    /// gone over. (Inlined into a pass of each policy.)
+    #[inline(always)]
     pub fn free_left(&self, board: &mut Board, out: &mut Actions)
         requires of_table { IsOfTable self.now.config.now board.old }
         requires room { length out.old + self.now.config.now.cores ≤ MOST_ACTIONS }

@@ -14,6 +14,7 @@ ghost use Rattle.cal_policy.specs.State.{IsOfTable, Agrees};
 ghost use Rattle.cal_policy.specs.declared.history.action.Action.{Action};
 
 use crate::board::Board;
+use crate::board::core_sets::next_core;
 use crate::board::holders::Holder;
 use crate::board::survey::survey_of;
 use crate::pass::Pass;
@@ -81,23 +82,29 @@ impl Pass<'_> {
     }
 
     /// Whether a thread is in flight: it holds a core by a Run that its kept record has not taken.
-    /// The cores are gone over only where it has one, and has not taken all that was sent to it.
+    /// The cores that its task had last are gone over, and only where it has one, and has not taken
+    /// all that was sent to it.
     pub fn is_in_flight(&self, board: &Board, thread: usize) -> bool
         requires at_hand { IsOfTable self.now.config.now board.now }
-        requires thread { thread < MOST_THREADS }
+        requires thread { thread < threads_of_table self.now.config.now }
         ensures { Within self.now board.now (λ s acts. result
             ≡ rules.is_in_flight s (so_far s acts) thread) }
     {
+        self.config.limits();
         if self.has_no_core(board, thread) {
             return false;
         }
         if self.has_taken_all(board, thread) {
             return false;
         }
-        for core in 0..self.config.machine().cores() {
+        let task = self.config.task_of(thread);
+        let had = board.recent.of(task);
+        let mut first = 0;
+        while let Some(core) = next_core(self.config, &had, first) {
             if self.is_untaken_on(board, thread, core) {
                 return true;
             }
+            first = core + 1;
         }
         false
     }

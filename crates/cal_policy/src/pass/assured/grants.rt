@@ -18,7 +18,8 @@ use crate::history::action_list::Actions;
 use crate::pass::Pass;
 
 impl Pass<'_> {
-    /// What a task that waits gets.
+    /// What a task that waits gets. What is asked of it is asked once, and no core is looked for
+    /// where it does not wait.
     fn turn_due(&self, board: &Board, task: usize) -> Option<Action>
         requires at_hand { IsOfTable self.now.config.now board.now }
         requires task { task < length self.now.config.now.tasks }
@@ -26,13 +27,17 @@ impl Pass<'_> {
             ≡ rules.grant_at s acts task) }
         ensures names { IfSome result (NamesTable self.now.config.now) }
     {
-        if !self.waits(board, task) {
+        if !self.may_book(board, task) {
+            return None;
+        }
+        let unhelped = self.unhelped(board, task);
+        if unhelped == 0 {
             return None;
         }
         let Some(thread) = self.choose_thread(board, task) else {
             return None;
         };
-        let core = self.choose_for(board, task);
+        let core = self.choose_for(board, task, unhelped);
         self.chosen(task, thread, core)
     }
 
@@ -50,12 +55,15 @@ impl Pass<'_> {
         let Some(task) = task else {
             return;
         };
+        if self.none_may_take(board) {
+            return;
+        }
         let action = self.turn_due(board, task as usize);
         self.make(board, out, action);
     }
 
     /// Whether no thread shows a request that waits: then no task waits.
-    fn none_waits(&self, board: &Board) -> bool
+    pub fn none_waits(&self, board: &Board) -> bool
         requires at_hand { IsOfTable self.now.config.now board.now }
         ensures { result ≡ true → Within self.now board.now (λ s acts. (t : ℕ) →
             t < length self.now.config.now.tasks → waits s (so_far s acts) t ≡ false) }
@@ -75,6 +83,9 @@ impl Pass<'_> {
         ensures ready { IsReady self.now.config.now board.new }
     {
         if self.none_waits(board) {
+            return;
+        }
+        if self.none_may_take(board) {
             return;
         }
         let places = self.places(board);

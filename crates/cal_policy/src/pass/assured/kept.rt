@@ -1,6 +1,8 @@
 //! Which open cores are kept from a task.
 
-ghost use Rattle.std.specs.Prelude.{◌≡◌, ◌<◌, ◌≤◌, true, false, List, length, Some};
+ghost use Rattle.std.specs.Prelude.{◌≡◌, ◌<◌, ◌≤◌, true, false, List, length, Some, None};
+ghost use Rattle.std.specs.Prelude.{slice_index_or};
+ghost use Rattle.std.specs.Option.{is_some};
 ghost use Rattle.cal_machine.specs.declared.machine.TheConstants.{MOST_CORES};
 ghost use Rattle.cal_policy.specs.declared.history.action.Action.{Action};
 ghost use Rattle.cal_policy.specs.Assured.AtTurn.{is_lacked_by_others};
@@ -33,6 +35,17 @@ pub fn is_owed_to(board: &Board, task: usize, core: u8) -> bool
     match board.debts.owed[core as usize] {
         None => false,
         Some(owed) => owed as usize == task,
+    }
+}
+
+/// Whether a core is owed to some task.
+pub fn is_owed(board: &Board, core: u8) -> bool
+    requires { core < MOST_CORES }
+    ensures { result ≡ is_some (slice_index_or board.now.debts.owed core None) }
+{
+    match board.debts.owed[core as usize] {
+        None => false,
+        Some(_) => true,
     }
 }
 

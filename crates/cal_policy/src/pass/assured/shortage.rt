@@ -1,6 +1,6 @@
 //! Tasks that book less than they are guaranteed, what they lack, and which tasks wait.
 
-ghost use Rattle.std.specs.Prelude.{◌≡◌, ◌<◌, ◌≤◌, nat_lt, List, length};
+ghost use Rattle.std.specs.Prelude.{◌≡◌, ◌-◌, ◌<◌, ◌≤◌, nat_lt, List, length};
 ghost use Rattle.cal_machine.specs.declared.numbering.TheConstants.{MOST_THREADS};
 ghost use Rattle.cal_policy.specs.declared.history.action.Action.{Action};
 ghost use Rattle.cal_policy.specs.Assured.InFlight.{pressing};
@@ -86,20 +86,23 @@ impl Pass<'_> {
         }
     }
 
-    /// Whether more threads of a task press than have a helper on its way. Helpers are counted only
-    /// where some press.
-    fn more_press(&self, board: &Board, task: usize) -> bool
+    /// How many threads of a task press beyond those that have a helper on its way. Helpers are
+    /// counted only where some press.
+    pub fn unhelped(&self, board: &Board, task: usize) -> usize
         requires at_hand { IsOfTable self.now.config.now board.now }
         requires task { task < length self.now.config.now.tasks }
-        ensures { Within self.now board.now (λ s acts. result
+        ensures count { Within self.now board.now (λ s acts. result
+            ≡ pressing s (so_far s acts) task - rules.surplus s (so_far s acts) task) }
+        ensures some { Within self.now board.now (λ s acts. nat_lt 0 result
             ≡ nat_lt (rules.surplus s (so_far s acts) task)
             (pressing s (so_far s acts) task)) }
     {
         let pressing = self.pressing(board, task);
         if pressing == 0 {
-            return false;
+            return 0;
         }
-        self.surplus(board, task) < pressing
+        let surplus = self.surplus(board, task);
+        pressing.saturating_sub(surplus)
     }
 
     /// Whether a task waits: more of its threads press than have a helper, it may book one more
@@ -110,7 +113,7 @@ impl Pass<'_> {
         ensures { Within self.now board.now (λ s acts. result
             ≡ rules.waits s (so_far s acts) task) }
     {
-        self.more_press(board, task)
+        self.unhelped(board, task) > 0
             && self.may_book(board, task)
             && self.choose_thread(board, task).is_some()
     }
@@ -140,13 +143,21 @@ impl Pass<'_> {
     }
 
     /// Whether open cores are lacked: some short task waits, and no more cores are open than are
-    /// lacking.
+    /// lacking. The tasks are asked last.
     pub fn are_lacked(&self, board: &Board) -> bool
         requires at_hand { IsOfTable self.now.config.now board.now }
         ensures { Within self.now board.now (λ s acts. result
             ≡ rules.are_lacked s (so_far s acts)) }
     {
-        self.some_waits_short(board) && self.open_cores(board) <= self.lacking(board)
+        if self.none_waits(board) {
+            return false;
+        }
+        let lacking = self.lacking(board);
+        let open_now = self.open_cores(board);
+        if lacking < open_now {
+            return false;
+        }
+        self.some_waits_short(board)
     }
 
     /// Whether open cores are wanted: some short task waits, and fewer cores are open than are
@@ -156,6 +167,14 @@ impl Pass<'_> {
         ensures { Within self.now board.now (λ s acts. result
             ≡ rules.are_wanted s (so_far s acts)) }
     {
-        self.some_waits_short(board) && self.open_cores(board) < self.lacking(board)
+        if self.none_waits(board) {
+            return false;
+        }
+        let lacking = self.lacking(board);
+        let open_now = self.open_cores(board);
+        if lacking <= open_now {
+            return false;
+        }
+        self.some_waits_short(board)
     }
 }

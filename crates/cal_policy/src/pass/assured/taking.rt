@@ -1,9 +1,13 @@
 //! Which core a task takes: an open one that is not kept from it, else one that another holds.
 
-ghost use Rattle.std.specs.Prelude.{◌≡◌, ◌<◌, ◌&&◌, not, length};
+ghost use Rattle.std.specs.Prelude.{◌≡◌, ℕ, ◌-◌, ◌<◌, ◌&&◌, true, false, not, length};
+ghost use Rattle.std.specs.Prelude.{None, slice_index_or};
 ghost use Rattle.std.specs.Option.{IfSome};
+ghost use Rattle.cal_machine.specs.CoreSet.{has};
 ghost use Rattle.cal_machine.specs.TableTasks.{threads_of_table};
 ghost use Rattle.cal_policy.specs.Assured.AtTurn.{is_lacked_by_others};
+ghost use Rattle.cal_policy.specs.Assured.InFlight.{pressing};
+ghost use Rattle.cal_policy.specs.Assured.Short.{surplus};
 ghost use Rattle.cal_policy.specs.Assured.Taking as rules;
 ghost use Rattle.cal_policy.specs.Board.{placement_of};
 ghost use Rattle.cal_policy.specs.History.CoreClasses.{comes_before};
@@ -16,10 +20,11 @@ ghost use Rattle.cal_policy.specs.State.{IsOfTable};
 
 use crate::board::Board;
 use crate::board::core_sets::next_core;
+use crate::board::counts::some_is_over;
 use crate::board::holders::Holder;
 use crate::history::core_class::CoreClass;
 use crate::pass::Pass;
-use crate::pass::assured::kept::is_owed_to;
+use crate::pass::assured::kept::{is_owed, is_owed_to};
 use crate::pass::choice::{Candidate, first_class};
 
 impl Pass<'_> {
@@ -98,7 +103,47 @@ impl Pass<'_> {
         best
     }
 
-    /// The open core that the task takes: those that are owed to it come first.
+    /// Whether no core is open.
+    fn none_is_open(&self, board: &Board) -> bool
+        requires at_hand { IsOfTable self.now.config.now board.now }
+        ensures { result ≡ true → (core : ℕ) → core < self.now.config.now.cores →
+            has board.now.open_cores.idle core ≡ false }
+    {
+        match next_core(self.config, &board.open_cores.idle, 0) {
+            Some(_) => false,
+            None => true,
+        }
+    }
+
+    /// Whether no task may take a core: none is open, and none may lose one.
+    pub fn none_may_take(&self, board: &Board) -> bool
+        requires at_hand { IsOfTable self.now.config.now board.now }
+        ensures { result ≡ true → Within self.now board.now (λ s acts. (task : ℕ) →
+            rules.choice_for s acts task ≡ None) }
+    {
+        self.none_is_open(board) && !some_is_over(self.config, board)
+    }
+
+    /// Whether some open core is owed to a task.
+    fn some_is_owed(&self, board: &Board) -> bool
+        requires at_hand { IsOfTable self.now.config.now board.now }
+        ensures { result ≡ false → (core : ℕ) → core < self.now.config.now.cores →
+            has board.now.open_cores.idle core ≡ true →
+            slice_index_or board.now.debts.owed core None ≡ None }
+    {
+        self.config.limits();
+        let mut first = 0;
+        while let Some(core) = next_core(self.config, &board.open_cores.idle, first) {
+            if is_owed(board, core) {
+                return true;
+            }
+            first = core + 1;
+        }
+        false
+    }
+
+    /// The open core that the task takes: those that are owed to it come first. Where none is owed
+    /// to any task, it is chosen as under the other policy.
     pub fn choose_open(&self, board: &Board, task: usize) -> Option<Candidate<CoreClass>>
         requires at_hand { IsOfTable self.now.config.now board.now }
         requires task { task < length self.now.config.now.tasks }
@@ -106,7 +151,16 @@ impl Pass<'_> {
             ≡ rules.open_choice s (so_far s acts) task) }
         ensures below { IfSome result (λ best. best.number < self.now.config.now.cores) }
     {
+        if self.none_is_open(board) {
+            return None;
+        }
         let lacked = self.is_lacked_by_others(board, task);
+        if lacked {
+            return None;
+        }
+        if !self.some_is_owed(board) {
+            return self.choose_idle(board, task);
+        }
         match self.choose_owed(board, task, lacked) {
             Some(owed) => Some(owed),
             None => self.choose_any(board, task, lacked),
@@ -185,30 +239,41 @@ impl Pass<'_> {
     }
 
     /// Whether a core may be revoked for the task: it is latency-critical, and more of its threads
-    /// press than cores are coming to it and helpers on their way.
-    fn may_revoke_for(&self, board: &Board, task: usize) -> bool
+    /// press than cores are coming to it and helpers on their way; `unhelped` says how many press
+    /// beyond those that have a helper.
+    fn may_revoke_for(&self, board: &Board, task: usize, unhelped: usize) -> bool
         requires at_hand { IsOfTable self.now.config.now board.now }
         requires task { task < length self.now.config.now.tasks }
-        ensures { Within self.now board.now (λ s acts. result
-            ≡ rules.may_preempt s (so_far s acts) task) }
+        ensures { Within self.now board.now (λ s acts.
+            unhelped ≡ pressing s (so_far s acts) task - surplus s (so_far s acts) task →
+            result ≡ rules.may_preempt s (so_far s acts) task) }
     {
-        let on_their_way = self.coming(board, task) + self.surplus(board, task);
-        self.config.is_latency_critical(task) && on_their_way < self.pressing(board, task)
+        self.config.is_latency_critical(task) && self.coming(board, task) < unhelped
     }
 
     /// The core that the task takes: an open one; where there is none, and one may be revoked for
-    /// it, one that another holds.
-    pub fn choose_for(&self, board: &Board, task: usize) -> Option<Candidate<CoreClass>>
+    /// it, one that another holds. `unhelped` says how many of its threads press beyond those that
+    /// have a helper.
+    pub fn choose_for(
+        &self,
+        board: &Board,
+        task: usize,
+        unhelped: usize,
+    ) -> Option<Candidate<CoreClass>>
         requires at_hand { IsOfTable self.now.config.now board.now }
         requires task { task < length self.now.config.now.tasks }
-        ensures choice { Within self.now board.now (λ s acts. result
-            ≡ rules.choice_for s acts task) }
+        ensures choice { Within self.now board.now (λ s acts.
+            unhelped ≡ pressing s (so_far s acts) task - surplus s (so_far s acts) task →
+            result ≡ rules.choice_for s acts task) }
         ensures below { IfSome result (λ best. best.number < self.now.config.now.cores) }
     {
         if let Some(open) = self.choose_open(board, task) {
             return Some(open);
         }
-        if self.may_revoke_for(board, task) {
+        if !self.may_revoke_for(board, task, unhelped) {
+            return None;
+        }
+        if self.some_may_be_preempted(board, task) {
             self.choose_held(board, task)
         } else {
             None

@@ -7,6 +7,7 @@ use Rattle.cal_policy.specs.Assured.Order.{task_in_place}
 use Rattle.cal_policy.specs.History.Lists.{in_turn}
 use Rattle.cal_policy.specs.Pass.AtHand.{setting_in}
 use Rattle.cal_policy.specs.Setting.{so_far}
+use Rattle.cal_policy.proofs.AssuredLemmas.NoneToTake.{none_in_place}
 use Rattle.cal_policy.proofs.AssuredLemmas.Waiting.{nothing_in_place, placed_gives}
 use Rattle.cal_policy.proofs.PassLemmas.PartSoFar.{Reached_one, Reached_skip}
 use Rattle.cal_policy.proofs.pass.Pass.grant_in_turn.Goals as goal
@@ -34,6 +35,16 @@ returns-then-none_waits-clause-acts c = λ h st.
     let f : List Action → ℕ → List Action = λ made place. grant_in_place s made (task_in_place s (so_far s out) place) in
     Reached_skip f s out out c.args.board.now 0 (length s.table.tasks) (omega arith)
     (λ place a b. nothing_in_place s out (so_far s out) place (task_in_place s (so_far s out) place) refl (c.if-none_waits.ensures refl h out st))
+    (sym (append-nil out), st)
+
+-- where none may take a core none is given one
+pub returns-then-none_may_take-clause-acts : goal.returns-then-none_may_take-clause-acts
+returns-then-none_may_take-clause-acts c = λ h st.
+    let s = setting_in c.args.self.now h in
+    let out = c.args.out.now in
+    let f : List Action → ℕ → List Action = λ made place. grant_in_place s made (task_in_place s (so_far s out) place) in
+    Reached_skip f s out out c.args.board.now 0 (length s.table.tasks) (omega arith)
+    (λ place a b. none_in_place s out (task_in_place s (so_far s out) place) (c.if-none_may_take.ensures refl h out st))
     (sym (append-nil out), st)
 
 pub returns-clause-acts : goal.returns-clause-acts

@@ -1,12 +1,22 @@
--- A core that the thread holds by an untaken Run is counted.
-use Rattle.std.proofs.Common.{◌≡◌, ℕ, ◌<◌, Bool, refl, sym, ◌∙◌, arith}
+-- A core that the thread holds by an untaken Run is counted, and is one of those that its task had last.
+use Rattle.std.proofs.Common.{◌≡◌, ℕ, ◌<◌, ◌≤◌, Bool, false, List, refl, sym, subst, ◌∙◌, arith}
+use Rattle.cal_machine.specs.Table.{Table}
+use Rattle.cal_machine.specs.TableTasks.{owner_of}
+use Rattle.cal_machine.specs.declared.task_table.TheConstants.{MOST_TASKS}
+use Rattle.cal_signal.specs.declared.record.Record.{Record}
+use Rattle.cal_policy.specs.declared.board.Board.{Board}
+use Rattle.cal_policy.specs.declared.history.action.Action.{Action}
 use Rattle.cal_policy.specs.Assured.InFlight.{is_untaken}
 use Rattle.cal_policy.specs.History.{holder_of}
 use Rattle.cal_policy.specs.Pass.AtHand.{setting_in}
+use Rattle.cal_policy.specs.Board.RecentCores.{had_by}
+use Rattle.cal_policy.specs.Pass.Choice.{count_below}
 use Rattle.cal_policy.specs.Setting.{so_far, kept_now}
+use Rattle.cal_policy.specs.State.{Agrees, IsReady}
 use Rattle.cal_policy.proofs.AssuredLemmas.AsKept.{none_untaken}
 use Rattle.cal_policy.proofs.AssuredLemmas.Sent.{all_taken}
-use Rattle.cal_policy.proofs.AssuredLemmas.Counting.{some_passes, none_passes}
+use Rattle.cal_policy.proofs.AssuredLemmas.Counting.{count_skip, some_passes, none_passes}
+use Rattle.cal_policy.proofs.AssuredLemmas.LastHeld.{untaken_elsewhere}
 use Rattle.cal_policy.proofs.BoardLemmas.StateKept.{none_more}
 use Rattle.cal_policy.proofs.pass.Pass.is_in_flight.Goals as goal
 
@@ -24,22 +34,46 @@ returns-then-has_taken_all c = λ h acts st.
     let p : ℕ → Bool = λ i. is_untaken (kept_now s c.args.thread) c.args.thread (holder_of x i) in
     none_passes p s.table.cores s.table.cores refl (all_taken (kept_now s c.args.thread) x c.args.thread s.table.cores (c.if-has_taken_all.ensures refl h acts st))
 
+-- none among the cores between those that the task had last
+between : (rec : Record) (table : Table) (b : Board) (x : List Action) (k task first next : ℕ) → task ≡ owner_of table k → task < MOST_TASKS → next ≤ 128 → first ≤ next →
+    Agrees b x → IsReady table b → ((c : ℕ) → first ≤ c → c < next → had_by b.recent task c ≡ false) →
+    count_below (λ c. is_untaken rec k (holder_of x c)) first ≡ 0 → count_below (λ c. is_untaken rec k (holder_of x c)) next ≡ 0
+between rec table b x k task first next own few high le a ready none e =
+    sym (count_skip (λ c. is_untaken rec k (holder_of x c)) first next le
+    (λ c from to.
+    let P : ℕ → Type 0 = λ t. had_by b.recent t c ≡ false in
+    untaken_elsewhere rec table b x k c (omega (arith, own, few)) (omega (arith, to, high)) a ready.recent (subst P own (none c from to))))
+    ∙ e
+
 pub loop-core-preserved : goal.loop-core-preserved
-loop-core-preserved c = λ h acts st.
-    let s = setting_in c.args.self.now h in
-    let p : ℕ → Bool = λ i. is_untaken (kept_now s c.args.thread) c.args.thread (holder_of (so_far s acts) i) in
-    none_more p c.loop-core.core (c.loop-core.invariant h acts st) (sym (c.is_untaken_on.ensures h acts st) ∙ c.if-is_untaken_on.false)
+loop-core-preserved c = record {
+  none = λ h acts st.
+      let s = setting_in c.args.self.now h in
+      let core = c.in-Some.core in
+      let p = c.requires.at_hand in
+      let rec = kept_now s c.args.thread in
+      let high : core ≤ 128 = omega (arith, c.in-Some.ensures.next.1, p.accepted.machine.most) in
+      let few : c.task_of-task.result < MOST_TASKS = omega (arith, c.task_of-task.ensures.is_task, p.accepted.tasks) in
+      none_more (λ i. is_untaken rec c.args.thread (holder_of (so_far s acts) i)) core
+      (between rec s.table c.args.board.now (so_far s acts) c.args.thread c.task_of-task.result c.loop-core.first core c.task_of-task.ensures.task few high c.in-Some.ensures.next.0
+      st.agrees p.ready (λ k from to. sym (c.of-had.ensures k) ∙ c.in-Some.ensures.between k from to) (c.loop-core.invariant.none h acts st))
+      (sym (c.is_untaken_on.ensures h acts st) ∙ c.if-is_untaken_on.false);
+  first = omega (arith, c.in-Some.ensures.next.1);
+}
 
 pub returns-then-is_untaken_on : goal.returns-then-is_untaken_on
 returns-then-is_untaken_on c = λ h acts st.
     let s = setting_in c.args.self.now h in
     let p : ℕ → Bool = λ i. is_untaken (kept_now s c.args.thread) c.args.thread (holder_of (so_far s acts) i) in
-    let within : c.loop-core.core < c.args.self.now.config.now.cores = omega arith in
-    some_passes p c.args.self.now.config.now.cores c.loop-core.core within (sym (c.is_untaken_on.ensures h acts st) ∙ c.if-is_untaken_on.true)
+    some_passes p c.args.self.now.config.now.cores c.in-Some.core c.in-Some.ensures.next.1 (sym (c.is_untaken_on.ensures h acts st) ∙ c.if-is_untaken_on.true)
 
 pub returns : goal.returns
 returns c = λ h acts st.
     let s = setting_in c.args.self.now h in
-    let p : ℕ → Bool = λ i. is_untaken (kept_now s c.args.thread) c.args.thread (holder_of (so_far s acts) i) in
-    let all : c.loop-core.core ≡ c.args.self.now.config.now.cores = omega arith in
-    none_passes p _ _ all (c.loop-core.invariant h acts st)
+    let p = c.requires.at_hand in
+    let rec = kept_now s c.args.thread in
+    let high : s.table.cores ≤ 128 = p.accepted.machine.most in
+    let few : c.task_of-task.result < MOST_TASKS = omega (arith, c.task_of-task.ensures.is_task, p.accepted.tasks) in
+    none_passes (λ i. is_untaken rec c.args.thread (holder_of (so_far s acts) i)) s.table.cores s.table.cores refl
+    (between rec s.table c.args.board.now (so_far s acts) c.args.thread c.task_of-task.result c.loop-core.first s.table.cores c.task_of-task.ensures.task few high c.loop-core.invariant.first
+    st.agrees p.ready (λ k from to. sym (c.of-had.ensures k) ∙ c.in_default.ensures.none k from to) (c.loop-core.invariant.none h acts st))
