@@ -5,7 +5,8 @@
  * A thread has its turn in one pass of EACH; on a core it yields in one turn of YIELDS, begins another request in one
  * of FRESH, and has one more request waiting in one of MORE (0: never); off a core it asks for one in one of ASKS.
  * As many cores as threads, and a latency-critical task for each eight of them. Compiled with -DGUARD it times
- * caladan_guard_pass on the same looks and the actions that caladan_pass chose, in place of caladan_pass. */
+ * caladan_guard_pass on the same looks and the actions that caladan_pass chose, in place of caladan_pass; with
+ * -DPOLICY=CALADAN_POLICY_ASSURED passes are by that policy. */
 #define _GNU_SOURCE
 #include "caladan.h"
 #include "chance.h"
@@ -122,7 +123,11 @@ static int open_all(void) {
     int n = sprintf(text, "cores = %d\nbandwidth_limit = 1000\n", THREADS);
     for (int t = 0; t < THREADS / 8; t++)
         n += sprintf(text + n, "[[task]]\nkind = \"lc\"\nguaranteed = 8\nlimit = 8\ndelay = 10\nrequest = 50\n");
+#ifdef POLICY
+    int said = caladan_open_policy((const uint8_t *)text, (size_t)n, POLICY, &scheduler);
+#else
     int said = caladan_open((const uint8_t *)text, (size_t)n, &scheduler);
+#endif
 #ifdef GUARD
     if (!said) said = caladan_guard_open((const uint8_t *)text, (size_t)n, &guard);
 #endif
