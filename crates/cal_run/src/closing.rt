@@ -31,11 +31,11 @@ use std::alloc::{AllocError, Global};
 
 /// What was left of a run and what its watch found: what its parts themselves keep of it.
 #[derive(Drop)]
-pub(crate) struct RunRest {
+pub struct RunRest {
     /// The requests that were left with each kernel thread, in thread order.
-    pub(crate) left: Listed<RequestList>,
+    pub left: Listed<RequestList>,
     /// What the watch found on each thread's page, round by round.
-    pub(crate) watched: Listed<Round>,
+    pub watched: Listed<Round>,
 }
 
 /// The outcome of a run, whose passes, turns and rounds were all made, and of which this was
@@ -94,8 +94,8 @@ pub fn end_parts(
 /// than the outcome of a run has. Ends the threads, gathers what was left with them, and closes their
 /// pages and rings. With the history of its scheduler and the journals of its threads, whatever
 /// became of them, it is the end of a run, in which a round whose looks read no record stands in the
-/// place of each that the watch did not make.
-pub(crate) fn end_run(
+/// place of each that the watch did not make. Fails only when out of memory.
+pub fn end_run(
     alloc: Global,
     config: &Config,
     arrivals: &Arrivals,

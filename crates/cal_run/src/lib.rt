@@ -17,9 +17,9 @@ mod parts;
 mod rounds;
 mod workers;
 
-pub use closing::{close_parts, end_parts, end_told};
+pub use closing::{RunRest, close_parts, end_parts, end_run, end_told};
 pub use collector::Collector;
-pub use collector::collected::Collected;
+pub use collector::collected::{Collected, OpenCollection};
 pub use collector::scheduler::CollectingScheduler;
 pub use collector::worker::{CollectingWorker, split_workers};
 pub use fault::SimFault;

@@ -15,7 +15,7 @@ use std::alloc::{AllocError, Global};
 
 /// The history and the journals of a run while it is made.
 #[derive(Drop)]
-pub(crate) struct OpenCollection {
+pub struct OpenCollection {
     pub(crate) history: Vec<PassEntry>,
     pub(crate) journals: Vec<OpenJournal>,
 }
@@ -30,8 +30,8 @@ pub struct Collected {
 }
 
 impl OpenCollection {
-    /// Nothing so far, of so many threads.
-    pub(crate) fn new(alloc: Global, threads: usize) -> Result<OpenCollection, AllocError>
+    /// Nothing so far, of so many threads. Fails only when out of memory.
+    pub fn new(alloc: Global, threads: usize) -> Result<OpenCollection, AllocError>
         ensures history { IfOk result (λ collection. collection.history.items ≡ []) }
         ensures count { IfOk result (λ collection. length collection.journals.items ≡ threads) }
         ensures empty { IfOk result (λ collection. AreEmpty collection.journals.items) }
@@ -47,7 +47,7 @@ impl OpenCollection {
     }
 
     /// What was collected. Fails only when out of memory.
-    pub(crate) fn close(self, alloc: Global) -> Result<Collected, AllocError>
+    pub fn close(self, alloc: Global) -> Result<Collected, AllocError>
         ensures history { IfOk result (λ collected. collected.history.items ≡ self.history.items) }
         ensures journals { IfOk result (λ collected.
             collected.journals.items ≡ self.journals.items) }

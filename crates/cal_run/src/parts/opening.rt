@@ -33,6 +33,8 @@ pub fn open_parts_by(
 ) -> Result<Parts, SimFault>
     requires fits { FitsTable config.now arrivals.now }
     ensures parts { IfOk result (λ parts. AreParts config.now arrivals.now 0 0 0 parts) }
+    ensures fresh { IfOk result (λ parts.
+        HaveMadeNoTurn (map (λ (w : Worker). w.thread) parts.workers.items)) }
     ensures policy { IfOk result (λ parts. parts.scheduler.policy ≡ policy) }
     ensures most { IfOk result (λ parts. parts.watch.most ≡ rounds_of arrivals.now) }
     ensures memory { IfErr result (λ fault. fault ≡ Memory) }
@@ -63,6 +65,8 @@ pub fn open_unwatched_by(
 ) -> Result<Parts, SimFault>
     requires fits { FitsTable config.now arrivals.now }
     ensures parts { IfOk result (λ parts. AreParts config.now arrivals.now 0 0 0 parts) }
+    ensures fresh { IfOk result (λ parts.
+        HaveMadeNoTurn (map (λ (w : Worker). w.thread) parts.workers.items)) }
     ensures policy { IfOk result (λ parts. parts.scheduler.policy ≡ policy) }
     ensures most { IfOk result (λ parts. parts.watch.most ≡ 0) }
     ensures memory { IfErr result (λ fault. fault ≡ Memory) }
@@ -95,6 +99,8 @@ fn open_parts_for(
 ) -> Result<Parts, SimFault>
     requires fits { FitsTable config.now arrivals.now }
     ensures parts { IfOk result (λ parts. AreParts config.now arrivals.now 0 0 0 parts) }
+    ensures fresh { IfOk result (λ parts.
+        HaveMadeNoTurn (map (λ (w : Worker). w.thread) parts.workers.items)) }
     ensures policy { IfOk result (λ parts. parts.scheduler.policy ≡ policy) }
     ensures most { IfOk result (λ parts. parts.watch.most ≡ rounds) }
     ensures memory { IfErr result (λ fault. fault ≡ Memory) }

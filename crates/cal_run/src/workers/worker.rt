@@ -1,8 +1,13 @@
 //! A kernel thread with the turns that it is given.
 
 ghost use Rattle.std.specs.Prelude.{◌≡◌, ◌+◌, ◌<◌, ◌≤◌, ◌++◌, length, IfOk, IfSome};
-ghost use Rattle.std.specs.Prelude.{nat_lt};
-ghost use Rattle.cal_kthread.specs.Turn.Entries.{entries_of};
+ghost use Rattle.std.specs.Prelude.{nat_lt, slice_index};
+ghost use Rattle.cal_machine.specs.CoreSet.{has};
+ghost use Rattle.cal_kthread.specs.Turn.OnCores.{turned_on, work_in_turn};
+ghost use Rattle.cal_kthread.specs.Turn.{Answers, AreAnswers};
+ghost use Rattle.cal_signal.specs.Pages.{last_published};
+ghost use Rattle.cal_signal.specs.Records.{IsShaped};
+ghost use Rattle.cal_kthread.specs.Turn.Entries.{entries_of, work};
 ghost use Rattle.cal_trace.specs.Arrivals.FitsTable.{ComesBefore, EachLater};
 ghost use Rattle.cal_trace.specs.History.Ranges.{Each};
 ghost use Rattle.cal_run.specs.Workers.GivenTurns.{request_at};
@@ -11,6 +16,7 @@ ghost use Rattle.cal_run.specs.Workers.{FitSomeTable, HasMade, IsNext, MadeNoTur
 
 use cal_kthread::laws::{one_turn_more, turns_add_up};
 use cal_kthread::{BareThread, Request, TurnEntries};
+use cal_machine::CoreSet;
 use cal_trace::{Arrival, Arrivals};
 use std::alloc::AllocError;
 
@@ -61,6 +67,41 @@ impl Worker {
         let requests = arrivals.requests.as_slice();
         let (request, next) = coming(requests, self.number, j, self.next);
         let entries = self.thread.turn(now, request)?;
+        self.next = next;
+        Ok(entries)
+    }
+
+    /// Its turn `j`, as `turn`, of a thread that works on these cores only: where it is on another
+    /// one after its command is taken, it is a turn without work.
+    #[inline(always)]
+    pub fn turn_on(
+        &mut self,
+        arrivals: &Arrivals,
+        j: usize,
+        works: CoreSet,
+    ) -> Result<TurnEntries, AllocError>
+        requires fits { FitSomeTable arrivals.now }
+        requires given { j < length arrivals.now.turns }
+        requires made { HasMade arrivals.now self.old.number j self.old }
+        ensures made { IfOk result (λ _. HasMade arrivals.now self.old.number (j + 1) self.new) }
+        ensures turned { IfOk result (λ entries. let now = slice_index arrivals.now.turns j in
+            let request = request_at arrivals.now.requests self.old.number j in
+            (answers : Answers) × AreAnswers answers self.old.thread
+            × (self.new.thread ≡ turned_on (has works) now request answers self.old.thread)
+            × (work entries ≡ work_in_turn (has works) now request answers self.old.thread)) }
+        ensures shows { IfOk result (λ entries. entries.published.shown
+            ≡ last_published self.new.thread.thread.publisher.published) }
+        ensures shaped { IfOk result (λ entries. IsShaped entries.published.shown) }
+        ensures handed { IfOk result (λ entries.
+            self.new.thread.journal ≡ self.old.thread.journal ++ entries_of entries) }
+        ensures seat { seat_of self.new.thread ≡ seat_of self.old.thread }
+    {
+        one_turn_more();
+        turns_add_up();
+        let now = arrivals.turns.as_slice()[j];
+        let requests = arrivals.requests.as_slice();
+        let (request, next) = coming(requests, self.number, j, self.next);
+        let entries = self.thread.turn_on(now, request, works)?;
         self.next = next;
         Ok(entries)
     }

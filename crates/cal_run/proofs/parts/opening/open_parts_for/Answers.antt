@@ -1,6 +1,8 @@
-use Rattle.std.proofs.Common.{[], ap, ◌∙◌}
+use Rattle.std.proofs.Common.{List, [], ap, subst, sym, ◌∙◌}
+use Rattle.cal_kthread.specs.Turn.Thread.{KernelView}
 use Rattle.cal_machine.specs.Table.{Table}
 use Rattle.cal_sched.specs.Scheduler.{SchedulerView}
+use Rattle.cal_run.specs.Workers.{HaveMadeNoTurn}
 use Rattle.cal_run.proofs.PartsLemmas.Opened.{are_opened, opened_are_fresh, saw_nothing, sent_nothing}
 use Rattle.cal_run.proofs.parts.opening.open_parts_for.Goals as goal
 
@@ -25,3 +27,9 @@ returns-clause-parts c =
     c.in_ok-threads.ensures.count c.in_ok-threads.ensures.opened c.in_ok-threads.ensures.team c.in_ok-workers.ensures.threads c.in_ok-workers.ensures.made
     (c.in-Ok.ensures.made ∙ ap fresh c.in_ok-config.ensures)
     c.in-Ok-new.ensures.made
+
+-- its workers are of the threads that were opened
+pub returns-clause-fresh : goal.returns-clause-fresh
+returns-clause-fresh c =
+    let P : List KernelView → Type 0 = λ l. HaveMadeNoTurn l in
+    subst P (sym c.in_ok-workers.ensures.threads) (open_workers-requires-clause-fresh c)
