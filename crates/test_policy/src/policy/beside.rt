@@ -1,10 +1,11 @@
-//! Made histories: in each pass the Book takes the inputs that may be given, and does what the
-//! plain pass does, on an input and on looks that come in one by one; and the guard lets each pass
-//! through. Looks are drawn by chance from fixed seeds: as before, newer, busy, refused by the
-//! commands sent or by what was shown; and clocks fall.
+//! Made histories, by each policy: in each pass the Book takes the inputs that may be given, and
+//! does what the plain pass does, on an input and on looks that come in one by one; the guard lets
+//! each pass through, and the audit finds each legal. Looks are drawn by chance from fixed seeds: as
+//! before, newer, busy, refused by the commands sent or by what was shown; and clocks fall.
 
 ghost use Rattle.std.specs.Prelude.{◌≡◌, ◌<◌, IfOk};
 ghost use Rattle.cal_machine.specs.declared.numbering.TheConstants.{MOST_THREADS};
+ghost use Rattle.cal_policy.specs.Auditor.{IsAuditorOf};
 ghost use Rattle.cal_policy.specs.Board.{HasSizes};
 ghost use Rattle.cal_policy.specs.Book.{board_in};
 ghost use Rattle.cal_policy.specs.State.{IsReady};
@@ -15,8 +16,8 @@ use cal_guard::Guard;
 use cal_machine::{Config, MOST_THREADS};
 use cal_policy::state::Board;
 use cal_policy::{
-    Actions, Book, FoundLook, Input, Look, OpenPass, PassEntry, Record, is_input, orderly,
-    plain_pass,
+    Actions, Auditor, Book, FoundLook, Input, Look, OpenPass, PassEntry, Policy, Record, Verdict,
+    is_input, orderly, plain_pass_by,
 };
 use std::alloc::Global;
 use std::test::Fail;
@@ -143,11 +144,11 @@ struct Walked {
 
 impl Walked {
     /// After no pass.
-    fn open(alloc: Global, config: &Config) -> Result<Walked, Fail>
+    fn open(alloc: Global, config: &Config, policy: Policy) -> Result<Walked, Fail>
         ensures { IfOk result (λ walked. IsReady config.now (board_in walked.book)) }
     {
         Ok(Walked {
-            book: Book::open(alloc, config)?,
+            book: Book::open_by(alloc, config, policy)?,
             came: Box::new(alloc, OpenPass::new())?,
         })
     }
@@ -196,20 +197,45 @@ fn stepped(alloc: Global, config: &Config, book: &mut Book, input: Input) -> Res
     Ok(PassEntry { input, actions })
 }
 
-/// Whether the guard lets the pass through.
-fn is_let_through(config: &Config, guard: &mut Guard, entry: &PassEntry) -> bool
-    requires of { IsReady config.now (guards.board_in guard.old) }
-    requires sizes { HasSizes config.now entry.now.input }
-    ensures { IsReady config.now (guards.board_in guard.new) }
-{
-    guard
-        .step(config, &entry.input, entry.actions.as_slice())
-        .is_ok()
+/// A guard and an audit of the same passes.
+#[derive(Drop)]
+struct Judges {
+    guard: Guard,
+    auditor: Auditor,
+}
+
+impl Judges {
+    /// Of no pass.
+    fn open(alloc: Global, config: &Config, policy: Policy) -> Result<Judges, Fail>
+        ensures guard { IfOk result (λ judges. IsReady config.now (guards.board_in judges.guard)) }
+        ensures auditor { IfOk result (λ judges. IsAuditorOf config.now judges.auditor) }
+    {
+        Ok(Judges {
+            guard: Guard::open(alloc, config)?,
+            auditor: Auditor::open_by(alloc, config, policy)?,
+        })
+    }
+
+    /// Whether the guard lets the pass through, and all passes are legal up to it.
+    fn let_through(&mut self, config: &Config, entry: &PassEntry) -> bool
+        requires guard { IsReady config.now (guards.board_in self.old.guard) }
+        requires auditor { IsAuditorOf config.now self.old.auditor }
+        requires sizes { HasSizes config.now entry.now.input }
+        ensures guard { IsReady config.now (guards.board_in self.new.guard) }
+        ensures auditor { IsAuditorOf config.now self.new.auditor }
+    {
+        let step = self
+            .guard
+            .step(config, &entry.input, entry.actions.as_slice());
+        self.auditor.next(config, entry);
+        step.is_ok() && self.auditor.verdict() == Verdict::Legal
+    }
 }
 
 /// Whether the plain pass on the input of this entry, after these, makes its actions.
 fn is_made(
     alloc: Global,
+    policy: Policy,
     config: &Config,
     before: &[PassEntry],
     entry: &PassEntry,
@@ -218,7 +244,7 @@ fn is_made(
         return Ok(false);
     }
     let mut made = Actions::reserved(alloc)?;
-    plain_pass(config, before, &entry.input, &mut made);
+    plain_pass_by(policy, config, before, &entry.input, &mut made);
     Ok(made.as_slice() == entry.actions.as_slice())
 }
 
@@ -227,26 +253,28 @@ fn is_refused(config: &Config, before: &[PassEntry], input: &Input) -> bool {
     orderly(config, before) && !is_input(config, before, input)
 }
 
-/// Two books and a guard after the same passes.
+/// Two books, a guard and an audit after the same passes.
 #[derive(Drop)]
 struct Together {
     stepped: Book,
     walked: Walked,
-    guard: Guard,
+    judges: Judges,
     history: Vec<PassEntry>,
 }
 
 impl Together {
     /// After no pass.
-    fn open(alloc: Global, config: &Config) -> Result<Together, Fail>
+    fn open(alloc: Global, config: &Config, policy: Policy) -> Result<Together, Fail>
         ensures stepped { IfOk result (λ all. IsReady config.now (board_in all.stepped)) }
         ensures walked { IfOk result (λ all. IsReady config.now (board_in all.walked.book)) }
-        ensures guard { IfOk result (λ all. IsReady config.now (guards.board_in all.guard)) }
+        ensures guard { IfOk result (λ all. IsReady config.now
+            (guards.board_in all.judges.guard)) }
+        ensures auditor { IfOk result (λ all. IsAuditorOf config.now all.judges.auditor) }
     {
         Ok(Together {
-            stepped: Book::open(alloc, config)?,
-            walked: Walked::open(alloc, config)?,
-            guard: Guard::open(alloc, config)?,
+            stepped: Book::open_by(alloc, config, policy)?,
+            walked: Walked::open(alloc, config, policy)?,
+            judges: Judges::open(alloc, config, policy)?,
             history: Vec::new(alloc),
         })
     }
@@ -255,41 +283,55 @@ impl Together {
     fn agree(&mut self, alloc: Global, config: &Config, drawn: &Drawn) -> Result<bool, Fail>
         requires stepped { IsReady config.now (board_in self.old.stepped) }
         requires walked { IsReady config.now (board_in self.old.walked.book) }
-        requires guard { IsReady config.now (guards.board_in self.old.guard) }
+        requires guard { IsReady config.now (guards.board_in self.old.judges.guard) }
+        requires auditor { IsAuditorOf config.now self.old.judges.auditor }
         ensures stepped { IfOk result (λ _. IsReady config.now (board_in self.new.stepped)) }
         ensures walked { IfOk result (λ _. IsReady config.now (board_in self.new.walked.book)) }
-        ensures guard { IfOk result (λ _. IsReady config.now (guards.board_in self.new.guard)) }
+        ensures guard { IfOk result (λ _. IsReady config.now
+            (guards.board_in self.new.judges.guard)) }
+        ensures auditor { IfOk result (λ _. IsAuditorOf config.now self.new.judges.auditor) }
     {
         let looks = drawn.looks.as_slice();
         if looks.len() != config.threads() {
             return Ok(false);
         }
-        let (clock, bandwidth) = (drawn.clock, drawn.bandwidth);
-        let input = self.stepped.input(alloc, config, clock, bandwidth, looks)?;
+        let input = self
+            .stepped
+            .input(alloc, config, drawn.clock, drawn.bandwidth, looks)?;
         if !self.stepped.fits(config, &input) {
             let fit = self.walked.takes_in(config, looks);
             return Ok(!fit && is_refused(config, self.history.as_slice(), &input));
         }
         let entry = stepped(alloc, config, &mut self.stepped, input)?;
-        if !is_made(alloc, config, self.history.as_slice(), &entry)? {
+        let policy = self.stepped.policy();
+        if !is_made(alloc, policy, config, self.history.as_slice(), &entry)? {
             return Ok(false);
         }
         if !self.walked.makes(alloc, config, looks, &entry)? {
             return Ok(false);
         }
-        let through = is_let_through(config, &mut self.guard, &entry);
+        let through = self.judges.let_through(config, &entry);
         self.history.push(entry)?;
         Ok(through)
     }
 }
 
-/// Whether all do the same in each pass of a drawn history.
-fn are_alike(alloc: Global, config: &Config, seed: u64) -> Result<bool, Fail> {
+/// Whether all do the same in each pass of a history of so many that is drawn.
+fn are_alike(
+    alloc: Global,
+    config: &Config,
+    policy: Policy,
+    passes: u64,
+    seed: u64,
+) -> Result<bool, Fail> {
     let mut draw = Draw { seed, clock: 0 };
-    let mut all = Together::open(alloc, config)?;
-    for pass in 0..30u64 {
+    let mut all = Together::open(alloc, config, policy)?;
+    for pass in 0..passes {
         let back = if draw.below(16) == 0 { 100 } else { 0 };
-        draw.clock = (1000 + 20 * pass).saturating_sub(back);
+        draw.clock = pass
+            .saturating_mul(20)
+            .saturating_add(1000)
+            .saturating_sub(back);
         let drawn = draw_pass(alloc, config, &all.stepped, &mut draw)?;
         if !all.agree(alloc, config, &drawn)? {
             return Ok(false);
@@ -303,14 +345,33 @@ fn books_and_guard_are_as_the_plain_pass(rt: HostRuntime) -> Result<(), Fail> {
     let small = Config::read(rt.alloc(), SIXTEEN_THREADS.as_bytes())?;
     for seed in 0..980u64 {
         assert!(rt;
-            are_alike(rt.alloc(), &small, seed)?,
+            are_alike(rt.alloc(), &small, Policy::Caladan, 30, seed)?,
             "16 threads, seed {seed}"
         );
     }
     let large = Config::read(rt.alloc(), MANY_THREADS.as_bytes())?;
     for seed in 980..1000u64 {
         assert!(rt;
-            are_alike(rt.alloc(), &large, seed)?,
+            are_alike(rt.alloc(), &large, Policy::Caladan, 30, seed)?,
+            "128 threads, seed {seed}"
+        );
+    }
+    Ok(())
+}
+
+#[test]
+fn assured_books_and_guard_are_as_the_plain_pass(rt: HostRuntime) -> Result<(), Fail> {
+    let small = Config::read(rt.alloc(), SIXTEEN_THREADS.as_bytes())?;
+    for seed in 1000..2980u64 {
+        assert!(rt;
+            are_alike(rt.alloc(), &small, Policy::Assured, 12, seed)?,
+            "16 threads, seed {seed}"
+        );
+    }
+    let large = Config::read(rt.alloc(), MANY_THREADS.as_bytes())?;
+    for seed in 2980..3000u64 {
+        assert!(rt;
+            are_alike(rt.alloc(), &large, Policy::Assured, 12, seed)?,
             "128 threads, seed {seed}"
         );
     }
