@@ -31,5 +31,7 @@ returns-clause-parts c =
 -- its workers are of the threads that were opened
 pub returns-clause-fresh : goal.returns-clause-fresh
 returns-clause-fresh c =
+    let team = c.in_ok-threads.field-0 in
     let P : List KernelView → Type 0 = λ l. HaveMadeNoTurn l in
-    subst P (sym c.in_ok-workers.ensures.threads) (open_workers-requires-clause-fresh c)
+    subst P (sym c.in_ok-workers.ensures.threads)
+    (opened_are_fresh team.threads.items team.observers.items team.senders.items team.watchers.items c.in_ok-threads.ensures.opened)
