@@ -39,8 +39,8 @@ record IsGiven (s : Setting) (acts : List Action) (core thread : ℕ) : Type 0 w
   own : owner_of s.table thread < length s.table.tasks
   unkept : is_kept s (so_far s acts) (owner_of s.table thread) core ≡ false
 
-given : (s : Setting) (acts : List Action) (core thread : ℕ) → IsGranted s acts core thread → IsGiven s acts core thread
-given s acts core thread m =
+given : (s : Setting) (acts : List Action) (core thread class : ℕ) → IsGranted s acts core thread class → IsGiven s acts core thread
+given s acts core thread class m =
     let x : List Action = so_far s acts in
     let facts = thread_facts s x m.task m.chosen_thread m.own m.longest in
     let owner : m.task ≡ owner_of s.table thread = sym (ap (owner_of s.table) m.thread_chosen ∙ facts.owner) in
@@ -67,7 +67,7 @@ kept_from_short s x t core short e =
 pub others_take : OthersTakeWhatIsNotLacked
 others_take s acts core thread class comes other =
     let x : List Action = so_far s acts in
-    let is = given s acts core thread (comes_done s acts (Grant core thread class) comes) in
+    let is = given s acts core thread class (comes_done s acts (Grant core thread class) comes) in
     not_lacked s x (kept_from_other s x (owner_of s.table thread) core other is.unkept).0
 
 -- what is owed to a task that is another one
@@ -92,7 +92,7 @@ pub owed_kept : OwedCoresAreKept
 owed_kept s acts core thread class u comes owed off =
     let x : List Action = so_far s acts in
     let t : ℕ = owner_of s.table thread in
-    let is = given s acts core thread (comes_done s acts (Grant core thread class) comes) in
+    let is = given s acts core thread class (comes_done s acts (Grant core thread class) comes) in
     owed_other s x t u core off owed is.unkept (is_short s.table x t) refl
 
 pub have_cause : RevocationsHaveCause

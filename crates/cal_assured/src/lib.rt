@@ -1,8 +1,8 @@
 //! Laws of the second policy, `assured`, over its definitions, which are cal_policy's.
 //!
-//! Under it a latency-critical task that goes on waiting below its guarantee is given a core as
-//! soon as one can have been left. It differs from the other policy in which bans end, which are
-//! made, and in its grants; all of it is Doranjei's own.
+//! Under it a latency-critical task that goes on waiting below its guarantee is granted a core at the
+//! latest as many passes later as threads take to leave, if no ring is full. It differs from the
+//! other policy in which bans end, which are made, and in its grants; all of it is Doranjei's own.
 //!
 //! Each law is the contract of a function that does nothing, its statement a definition in specs/;
 //! to cite a law, call its function.

@@ -1,5 +1,4 @@
 -- Every pass of the second policy is permitted.
 pub mod Between
-pub mod Lengths
 pub mod Permitting
 pub mod Standing

@@ -9,6 +9,7 @@ pub mod Keeping
 pub mod LastHeld
 pub mod LegalOrderly
 pub mod Legality
+pub mod Lengths
 pub mod NoneToTake
 pub mod Numbering
 pub mod Pairs

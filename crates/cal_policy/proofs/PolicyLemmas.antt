@@ -1,29 +1,39 @@
 -- What is so of each policy, whatever it makes of a pass. All that looks into the definitions of a
 -- policy is here.
-use Rattle.std.proofs.Common.{◌≡◌, ◌<◌, ◌≤◌, ℕ, List, [], ◌∷◌, ◌++◌, length, take, Some, slice_get, refl, sym, subst}
+use Rattle.std.proofs.Common.{◌≡◌, ◌<◌, ◌≤◌, ℕ, List, [], ◌∷◌, ◌++◌, length, take, Some, slice_get, refl, sym, subst, arith}
 use Rattle.std.proofs.Math.Seq.{take-append_seam}
 use Rattle.cal_machine.proofs.Last.{slice_get-last}
 use Rattle.cal_machine.specs.Table.{Table, IsTable}
 use Rattle.cal_policy.specs.declared.auditor.Auditor.{Auditor}
+use Rattle.cal_policy.specs.declared.history.action.Action.{Action}
+use Rattle.cal_policy.specs.declared.history.action.Action.TheVariants.{Grant}
+use Rattle.cal_policy.specs.declared.history.core_class.CoreClass.{CoreClass}
+use Rattle.cal_policy.specs.declared.history.core_class.CoreClass.TheVariants as classes
 use Rattle.cal_policy.specs.declared.history.entry.PassEntry.{PassEntry}
 use Rattle.cal_policy.specs.declared.policy.Policy.{Policy}
 use Rattle.cal_policy.specs.declared.policy.Policy.TheVariants.{Caladan, Assured}
 use Rattle.cal_policy.specs.declared.verdict.Verdict.TheVariants.{Legal, Illegal}
 use Rattle.cal_policy.specs.Assured.Pass as definitions
 use Rattle.cal_policy.specs.History.{actions_of}
+use Rattle.cal_policy.specs.History.CoreClasses.{class_number}
 use Rattle.cal_policy.specs.Judgement.Judging.{IsInput}
 use Rattle.cal_policy.specs.Judgement.Orderly.{IsOrderly}
 use Rattle.cal_policy.specs.Pass.{pass_of}
+use Rattle.cal_policy.specs.Pass.Made.{EachAfter}
 use Rattle.cal_policy.specs.Pass.Steady.{IsSteady}
 use Rattle.cal_policy.specs.Auditor.{KeepsUp}
 use Rattle.cal_policy.specs.Policies.{pass_by, IsPassBy, IsLegalBy, IsVerdictBy, IsAuditBy}
 use Rattle.cal_policy.specs.Setting.{Setting, setting_of}
+use Rattle.cal_policy.proofs.AssuredLemmas.Done.{IsDone, pass_done}
 use Rattle.cal_policy.proofs.AssuredLemmas.FreesFirst as second
 use Rattle.cal_policy.proofs.AssuredLemmas.LegalOrderly as assured
 use Rattle.cal_policy.proofs.AssuredLemmas.Legality as own
+use Rattle.cal_policy.proofs.AssuredLemmas.Lengths as lengths
+use Rattle.cal_policy.proofs.ListLemmas.EachAfter.{each_at}
 use Rattle.cal_policy.proofs.PassLemmas.Commands.{IsFitPass}
-use Rattle.cal_policy.proofs.PassLemmas.LegalOrderly.{legal_orderly, legal_sound, legal_steady, sound_fits}
+use Rattle.cal_policy.proofs.PassLemmas.LegalOrderly.{legal_orderly, legal_made, legal_sound, legal_steady, sound_fits}
 use Rattle.cal_policy.proofs.PassLemmas.Legality.{legal_upto, legal_none, legal_more, illegal_stays, illegal_here, never_illegal}
+use Rattle.cal_policy.proofs.PassLemmas.Length.{legal_short}
 use Rattle.cal_policy.proofs.PassLemmas.RevokedStay.{FreesFirst, pass_frees_first}
 
 -- of Caladan's policy
@@ -90,6 +100,43 @@ pub last_fits : (policy : Policy) (table : Table) (h : List PassEntry) (entry : 
 last_fits policy table h entry ok legal =
     subst (λ (before : List PassEntry). IsFitPass table before entry) (take-append_seam h (entry ∷ []))
     (fit_pass_at policy table (h ++ entry ∷ []) (length h) entry ok legal (slice_get-last h entry))
+
+-- each of its passes has at most 338 actions
+pub short_by : (policy : Policy) (table : Table) (h : List PassEntry) → IsTable table → IsLegalBy policy table h → (p : ℕ) (entry : PassEntry) → slice_get h p ≡ Some entry → length entry.actions ≤ 338
+short_by Caladan table h ok legal p entry at = legal_short table h ok legal p entry at
+short_by Assured table h ok legal p entry at = lengths.legal_short table h ok legal p entry at
+
+-- each of its grants names a class by its number
+record IsOfClass (number : ℕ) : Type 0 where
+  class : CoreClass
+  named : number ≡ class_number class
+
+granted_class : (policy : Policy) (table : Table) (h : List PassEntry) → IsTable table → IsLegalBy policy table h → (p : ℕ) (entry : PassEntry) → slice_get h p ≡ Some entry →
+    (i core thread class : ℕ) → slice_get entry.actions i ≡ Some (Grant core thread class) → IsOfClass class
+granted_class Caladan table h ok legal p entry at i core thread class is =
+    let made = (legal_made table h ok legal p entry at i (Grant core thread class) is).made in
+    record { class = made.choice.rank; named = made.class_chosen }
+granted_class Assured table h ok legal p entry at i core thread class is =
+    let s : Setting = setting_of table (take p h) entry in
+    let P : List Action → Type 0 = λ acts. EachAfter (IsDone s) [] acts in
+    let done = each_at (IsDone s) [] entry.actions i (Grant core thread class) (subst P (sym (legal.passes p entry at).actions) (pass_done s)) is in
+    record { class = done.choice.rank; named = done.class_chosen }
+
+number_range : (class : CoreClass) → (1 ≤ class_number class) × (class_number class ≤ 5)
+number_range classes.Sibling = (omega arith, omega arith)
+number_range classes.RecentlyUsed = (omega arith, omega arith)
+number_range classes.OtherIdle = (omega arith, omega arith)
+number_range classes.BestEffortBurstable = (omega arith, omega arith)
+number_range classes.LatencyCriticalBurstable = (omega arith, omega arith)
+
+-- so it is of 1 to 5
+pub class_by : (policy : Policy) (table : Table) (h : List PassEntry) → IsTable table → IsLegalBy policy table h → (p : ℕ) (entry : PassEntry) → slice_get h p ≡ Some entry →
+    (i core thread class : ℕ) → slice_get entry.actions i ≡ Some (Grant core thread class) → (1 ≤ class) × (class ≤ 5)
+class_by policy table h ok legal p entry at i core thread class is =
+    let of_class = granted_class policy table h ok legal p entry at i core thread class is in
+    let range = number_range of_class.class in
+    let same = of_class.named in
+    (omega (arith, range.0, same), omega (arith, range.1, same))
 
 -- what an audit says
 pub verdict_legal : (policy : Policy) (table : Table) (h : List PassEntry) → IsLegalBy policy table h → IsVerdictBy policy table h Legal

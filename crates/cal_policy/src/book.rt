@@ -150,12 +150,12 @@ impl Book {
               input = input.entry.now;
               actions = out.new;
             } ∷ [])) }
-        // The misses of the records kept before this pass's looks are kept too.
-        ensures before { AfterLegalOn config.now self.old input.entry.now (λ h.
-            KeepsBefore self.new.board.value.keeping (looks_of h)) }
         // The same by the book's own policy.
         ensures own { AfterOwnOn config.now self.old input.entry.now (λ h.
             IsNextBy config.now self.old self.new h input.entry.now out.new) }
+        // The misses of the records kept before this pass's looks are kept too.
+        ensures before { AfterOwnOn config.now self.old input.entry.now (λ h.
+            KeepsBefore self.new.board.value.keeping (looks_of h)) }
         ensures policy { self.new.policy ≡ self.old.policy }
         ensures of { IsReady config.now (board_in self.new) }
     {
@@ -187,12 +187,12 @@ impl Book {
               input = input;
               actions = out.new;
             } ∷ [])) }
-        // The misses of the records kept before this pass's looks are kept too.
-        ensures before { AfterLegalOpen config.now self.old now bandwidth looks.entry.now
-            (λ h input. KeepsBefore self.new.board.value.keeping (looks_of h)) }
         // The same by the book's own policy.
         ensures own { AfterOwnOpen config.now self.old now bandwidth looks.entry.now (λ h input.
             IsNextBy config.now self.old self.new h input out.new) }
+        // The misses of the records kept before this pass's looks are kept too.
+        ensures before { AfterOwnOpen config.now self.old now bandwidth looks.entry.now (λ h input.
+            KeepsBefore self.new.board.value.keeping (looks_of h)) }
         ensures policy { self.new.policy ≡ self.old.policy }
         ensures of { IsReady config.now (board_in self.new) }
     {

@@ -9,7 +9,8 @@ pub enum Policy {
     /// After Caladan's core allocator and its controllers.
     Caladan,
     /// The same with a guarantee that is given: a latency-critical task that goes on waiting below
-    /// its guarantee is granted a core as soon as one can have been left.
+    /// its guarantee is granted a core at the latest as many passes later as threads take to leave,
+    /// if no ring is full.
     Assured,
 }
 

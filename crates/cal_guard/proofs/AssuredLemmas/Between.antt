@@ -17,7 +17,7 @@ use Rattle.cal_laws.specs.Exclusion.{HaveOneCore}
 use Rattle.cal_laws.proofs.PointLemmas.EachAction.{actions_more}
 use Rattle.cal_guard.specs.Permitted.{NoneOverCap, IsPermitted, ArePermitted, IsPermittedHistory}
 use Rattle.cal_policy.specs.Assured.Pass.{pass_of, IsPass, IsLegal}
-use Rattle.cal_guard.proofs.AssuredLemmas.Lengths.{pass_short}
+use Rattle.cal_policy.proofs.AssuredLemmas.Lengths.{pass_short}
 use Rattle.cal_guard.proofs.AssuredLemmas.Permitting.{Laws, First, IsPermittedWhole, pass_permitted}
 
 -- what stands between two passes

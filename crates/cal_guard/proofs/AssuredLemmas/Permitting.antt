@@ -432,7 +432,7 @@ preempt_leads laws s ok acts core t m stage =
     let base = base_revoked laws s acts core cause stage.base fits take.fresh take.is in
     (permitted s acts (Revoke core cause) stage fits may, stage_more laws s acts (Revoke core cause) stage base tt tt)
 
-grant_leads : Laws → (s : Setting) → (acts : List Action) (core thread class : ℕ) → IsGranted s acts core thread → Stage s acts → IsPermitted s acts (Grant core thread class) × Stage s (acts ++ Grant core thread class ∷ [])
+grant_leads : Laws → (s : Setting) → (acts : List Action) (core thread class : ℕ) → IsGranted s acts core thread class → Stage s acts → IsPermitted s acts (Grant core thread class) × Stage s (acts ++ Grant core thread class ∷ [])
 grant_leads laws s acts core thread class m stage =
     let x : List Action = so_far s acts in
     let facts = thread_facts s x m.task m.chosen_thread m.own m.longest in

@@ -52,7 +52,7 @@ pub record IsBanned (s : Setting) (acts : List Action) (core thread started : �
   pub due : due_for s (so_far s acts) by ≡ Some thread
 
 -- a core was chosen for a task that waits, at the task's turn
-pub record IsGranted (s : Setting) (acts : List Action) (core thread : ℕ) : Type 0 where
+pub record IsGranted (s : Setting) (acts : List Action) (core thread class : ℕ) : Type 0 where
   pub task : ℕ
   pub own : task < length s.table.tasks
   pub waiting : waits s (so_far s acts) task ≡ true
@@ -62,6 +62,7 @@ pub record IsGranted (s : Setting) (acts : List Action) (core thread : ℕ) : Ty
   pub choice : Candidate CoreClass
   pub least : open_choice s (so_far s acts) task ≡ Some choice
   pub core_chosen : core ≡ choice.number
+  pub class_chosen : class ≡ class_number choice.rank
   pub place : ℕ
   pub turn : task_in_place s (so_far s (bounded_of s)) place ≡ Some task
   pub before : acts ≡ followed (bounded_of s) (grants_of_first place s)
@@ -91,7 +92,7 @@ IsServing s acts (Revoke core (causes.Preempt task)) = IsForTask s acts core tas
 IsServing s acts (Revoke core (causes.Ban by)) = ⊥
 IsServing s acts (Revoke core causes.Bandwidth) = ⊥
 IsServing s acts (Cap task cap) = ⊥
-IsServing s acts (Grant core thread class) = IsGranted s acts core thread
+IsServing s acts (Grant core thread class) = IsGranted s acts core thread class
 
 -- an action that the policy makes at this place
 abbrev pub IsDone : Setting → List Action → Action → Type 0
@@ -100,7 +101,7 @@ IsDone s acts (Unban core) = IsUnbanned s acts core
 IsDone s acts (Ban core thread started) = IsBanned s acts core thread started
 IsDone s acts (Revoke core cause) = HasCause s acts core cause
 IsDone s acts (Cap task cap) = IsCapCut s acts task cap ⊎ IsCapRise s acts task cap
-IsDone s acts (Grant core thread class) = IsGranted s acts core thread
+IsDone s acts (Grant core thread class) = IsGranted s acts core thread class
 
 freeing_done : (s : Setting) (acts : List Action) (a : Action) → IsFreeing s acts a → IsDone s acts a
 freeing_done s acts (Free core) m = m
@@ -255,6 +256,7 @@ granted_made s acts t thread core turn longest least true is = (
     choice = core;
     least = least;
     core_chosen = refl;
+    class_chosen = refl;
     place = turn.place;
     turn = turn.turn;
     before = turn.before;

@@ -60,7 +60,7 @@ task_fits s acts core t m =
     revoke_fits s.table (so_far s acts) core (causes.Preempt t) taken.low (lt-ltb t (length s.table.tasks) m.own)
     (classed_held s acts t core m.class (holder_of (so_far s acts) core) taken.classed)
 
-grant_fits : (s : Setting) (acts : List Action) (core thread class : ℕ) → IsGranted s acts core thread → fits_state s.table (so_far s acts) (Grant core thread class) ≡ true
+grant_fits : (s : Setting) (acts : List Action) (core thread class : ℕ) → IsGranted s acts core thread class → fits_state s.table (so_far s acts) (Grant core thread class) ≡ true
 grant_fits s acts core thread class m =
     let x : List Action = so_far s acts in
     let taken = open_taken s x m.task m.choice m.least in
@@ -76,7 +76,7 @@ grant_fits s acts core thread class m =
     (and_from (ltb core s.table.cores) (ltb thread (threads_of_table s.table)) (lt-ltb core s.table.cores low) (lt-ltb thread (threads_of_table s.table) lowk)) free)
     none
 
-grant_steady : (s : Setting) (acts : List Action) (core thread class : ℕ) → IsSteady s.table (so_far s acts) → IsGranted s acts core thread →
+grant_steady : (s : Setting) (acts : List Action) (core thread class : ℕ) → IsSteady s.table (so_far s acts) → IsGranted s acts core thread class →
     IsSteady s.table (so_far s acts ++ Grant core thread class ∷ [])
 grant_steady s acts core thread class steady m =
     let x : List Action = so_far s acts in

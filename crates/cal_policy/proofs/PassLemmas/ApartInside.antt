@@ -15,7 +15,7 @@ use Rattle.cal_policy.proofs.PassLemmas.Legality.{legal_upto}
 use Rattle.cal_policy.proofs.PassLemmas.LegalOrderly.{legal_orderly}
 
 -- after the first i of actions that fit in turn no pair is banned, where none was before
-apart_at : (table : Table) (x acts : List Action) → FitInTurn table x acts → NoPairBanned x → (i : ℕ) → NoPairBanned (x ++ take i acts)
+pub apart_at : (table : Table) (x acts : List Action) → FitInTurn table x acts → NoPairBanned x → (i : ℕ) → NoPairBanned (x ++ take i acts)
 apart_at table x acts fits h zero = rw append-nil h
 apart_at table x [] fits h (suc i) = rw append-nil h
 apart_at table x (a ∷ acts) fits h (suc i) =

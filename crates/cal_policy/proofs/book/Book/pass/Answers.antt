@@ -17,13 +17,13 @@ returns-clause-agrees c = λ h found legal agrees looks.
     (c.decide_noted.ensures.acts h found (orderly_apart c.args.config.now h (legal_orderly c.args.config.now h c.limits.ensures legal))
     (rw c.deref_mut.ensures.value agrees.actions) (rw c.deref_mut.ensures.value agrees.looks) looks).1
 
-pub returns-clause-before : goal.returns-clause-before
-returns-clause-before c = λ h found legal agrees looks.
-    (c.decide_noted.ensures.acts h found (orderly_apart c.args.config.now h (legal_orderly c.args.config.now h c.limits.ensures legal))
-    (rw c.deref_mut.ensures.value agrees.actions) (rw c.deref_mut.ensures.value agrees.looks) looks).2
-
 pub returns-clause-own : goal.returns-clause-own
 returns-clause-own c = λ h found legal agrees looks.
     let made = c.decide_noted.ensures.acts h found (orderly_apart c.args.config.now h (orderly_by c.args.self.now.policy c.args.config.now h c.limits.ensures legal))
     (rw c.deref_mut.ensures.value agrees.actions) (rw c.deref_mut.ensures.value agrees.looks) looks in
     record { acts = made.0; agrees = made.1 }
+
+pub returns-clause-before : goal.returns-clause-before
+returns-clause-before c = λ h found legal agrees looks.
+    (c.decide_noted.ensures.acts h found (orderly_apart c.args.config.now h (orderly_by c.args.self.now.policy c.args.config.now h c.limits.ensures legal))
+    (rw c.deref_mut.ensures.value agrees.actions) (rw c.deref_mut.ensures.value agrees.looks) looks).2

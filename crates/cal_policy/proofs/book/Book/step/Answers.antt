@@ -16,13 +16,13 @@ returns-clause-agrees c = λ h legal agrees input.
     (c.decide.ensures.acts h (orderly_apart c.args.config.now h (legal_orderly c.args.config.now h c.limits.ensures legal))
     (rw c.deref_mut.ensures.value agrees.actions) (rw c.deref_mut.ensures.value agrees.looks) input.looks.fit).1
 
-pub returns-clause-before : goal.returns-clause-before
-returns-clause-before c = λ h legal agrees input.
-    (c.decide.ensures.acts h (orderly_apart c.args.config.now h (legal_orderly c.args.config.now h c.limits.ensures legal))
-    (rw c.deref_mut.ensures.value agrees.actions) (rw c.deref_mut.ensures.value agrees.looks) input.looks.fit).2
-
 pub returns-clause-own : goal.returns-clause-own
 returns-clause-own c = λ h legal agrees input.
     let made = c.decide.ensures.acts h (orderly_apart c.args.config.now h (orderly_by c.args.self.now.policy c.args.config.now h c.limits.ensures legal))
     (rw c.deref_mut.ensures.value agrees.actions) (rw c.deref_mut.ensures.value agrees.looks) input.looks.fit in
     record { acts = made.0; agrees = made.1 }
+
+pub returns-clause-before : goal.returns-clause-before
+returns-clause-before c = λ h legal agrees input.
+    (c.decide.ensures.acts h (orderly_apart c.args.config.now h (orderly_by c.args.self.now.policy c.args.config.now h c.limits.ensures legal))
+    (rw c.deref_mut.ensures.value agrees.actions) (rw c.deref_mut.ensures.value agrees.looks) input.looks.fit).2

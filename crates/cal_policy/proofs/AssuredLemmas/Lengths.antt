@@ -1,7 +1,9 @@
 -- How many actions a pass has at most.
-use Rattle.std.proofs.Common.{◌≡◌, ℕ, ◌+◌, ◌*◌, ◌/◌, ◌<◌, ◌≤◌, zero, suc, Bool, true, false, ◌&&◌, cond, eqb, List, [], ◌∷◌, ◌++◌, length, Option, Some, None, refl, sym, ap, ◌∙◌, arith, subst, append_assoc, append-nil, length-append}
+use Rattle.std.proofs.Common.{◌≡◌, ℕ, ◌+◌, ◌*◌, ◌/◌, ◌<◌, ◌≤◌, zero, suc, Bool, true, false, ◌&&◌, cond, eqb, List, [], ◌∷◌, ◌++◌, length, take, Option, Some, None, slice_get, refl, sym, ap, ◌∙◌, arith, subst, append_assoc, append-nil, length-append}
 use Rattle.std.specs.Option.{is_some, unwrap_or}
 use Rattle.std.proofs.lemmas.Bool.{eq-eqb}
+use Rattle.std.proofs.lemmas.Option.{slice_get_within}
+use Rattle.std.proofs.Math.Seq.{take-append_seam}
 use Rattle.cal_machine.specs.Machine.{sibling_of}
 use Rattle.cal_machine.specs.Table.{Table, IsTable}
 use Rattle.cal_machine.proofs.Booleans.{some_else}
@@ -11,7 +13,8 @@ use Rattle.cal_policy.specs.declared.history.action.Action.TheVariants.{Free, Un
 use Rattle.cal_policy.specs.declared.history.action.Cause.{Cause}
 use Rattle.cal_policy.specs.declared.history.action.Cause.TheVariants as causes
 use Rattle.cal_policy.specs.declared.board.bans.BannedFor.{BannedFor}
-use Rattle.cal_policy.specs.History.{holder_of, ban_of, is_banned}
+use Rattle.cal_policy.specs.declared.history.entry.PassEntry.{PassEntry}
+use Rattle.cal_policy.specs.History.{actions_of, holder_of, ban_of, is_banned}
 use Rattle.cal_policy.specs.History.Lists.{in_turn}
 use Rattle.cal_policy.specs.Board.Counts.{is_free, is_held}
 use Rattle.cal_policy.specs.Pass.Choice.{count_below}
@@ -21,8 +24,10 @@ use Rattle.cal_policy.specs.Pass.Bandwidth.{bandwidth_part}
 use Rattle.cal_policy.specs.Pass.Grants.{grant_of, thread_choice}
 use Rattle.cal_policy.specs.Pass.Made.{EachAfter}
 use Rattle.cal_policy.specs.Pass.{followed}
-use Rattle.cal_policy.specs.Setting.{Setting, so_far, kept_now}
+use Rattle.cal_policy.specs.Setting.{Setting, setting_of, so_far, kept_now}
 use Rattle.cal_policy.proofs.HistoryLemmas.OneMore.{ban_push}
+use Rattle.cal_policy.proofs.PassLemmas.Apart.{orderly_apart, frees_apart}
+use Rattle.cal_policy.proofs.PassLemmas.ApartInside.{apart_at}
 use Rattle.cal_policy.proofs.PassLemmas.Fits.{so_far_push, ban_facts}
 use Rattle.cal_policy.proofs.PassLemmas.Length.{turns_most, frees_most, two_with, bandwidth_most, one_when, chosen_one}
 use Rattle.cal_policy.proofs.PassLemmas.Pairs.{beside_lower, after_ban, so_far_more}
@@ -30,10 +35,12 @@ use Rattle.cal_policy.proofs.ListLemmas.Counted.{count_less}
 use Rattle.cal_policy.specs.Assured.Grants.{grant_in_place, grants}
 use Rattle.cal_policy.specs.Assured.Hyperthreads.{unbans, due_for, bans_at, bans}
 use Rattle.cal_policy.specs.Assured.Order.{task_in_place}
-use Rattle.cal_policy.specs.Assured.Pass.{unbanned_of, bounded_of, pass_of}
+use Rattle.cal_policy.specs.Assured.Pass.{unbanned_of, bounded_of, pass_of, IsLegal}
 use Rattle.cal_policy.specs.Assured.Short.{are_lacked, waits}
 use Rattle.cal_policy.specs.Assured.Taking.{choice_for}
 use Rattle.cal_policy.proofs.AssuredLemmas.Done.{IsUnbanned, IsUnbanning, unbans_made}
+use Rattle.cal_policy.proofs.AssuredLemmas.LegalOrderly.{legal_orderly}
+use Rattle.cal_policy.proofs.AssuredLemmas.Legality.{legal_upto}
 use Rattle.cal_policy.proofs.AssuredLemmas.Pairs.{unbanned_at}
 
 -- how many cores are banned
@@ -171,3 +178,28 @@ pass_short s ok apart1 apart2 =
       length-append banned (bandwidth_part s banned),
       length-append bounded (grants s bounded),
     )
+
+-- after any number of the actions of a pass of a legal history no pair is banned
+inside_apart : (table : Table) (history : List PassEntry) → IsTable table → IsLegal table history → (p : ℕ) (entry : PassEntry) → slice_get history p ≡ Some entry →
+    (i : ℕ) → NoPairBanned (so_far (setting_of table (take p history) entry) (take i entry.actions))
+inside_apart table history ok legal p entry e i =
+    let lt = slice_get_within history p entry e in
+    let before = legal_upto table history p (omega (arith, lt)) (λ q low earlier is. legal.passes q earlier is) in
+    apart_at table (actions_of (take p history)) entry.actions ((legal_orderly table history ok legal).entries p entry e).actions
+    (orderly_apart table (take p history) (legal_orderly table (take p history) ok before)) i
+
+-- a pass of a legal history has at most 338 actions
+pub legal_short : (table : Table) (history : List PassEntry) → IsTable table → IsLegal table history → (p : ℕ) (entry : PassEntry) → slice_get history p ≡ Some entry
+    → length entry.actions ≤ 338
+legal_short table history ok legal p entry e =
+    let s : Setting = setting_of table (take p history) entry in
+    let pass = legal.passes p entry e in
+    let inside = inside_apart table history ok legal p entry e in
+    let freed : List Action = followed [] (frees s) in
+    let banned : List Action = followed (unbanned_of s) (bans s) in
+    let rest : List Action = bandwidth_part s banned ++ grants s (bounded_of s) in
+    let first : take (length banned) entry.actions ≡ banned =
+    ap (take (length banned)) (pass.actions ∙ append_assoc banned (bandwidth_part s banned) (grants s (bounded_of s))) ∙ take-append_seam banned rest in
+    let P : List Action → Type 0 = λ l. NoPairBanned (so_far s l) in
+    let Q : List Action → Type 0 = λ l. length l ≤ 338 in
+    subst Q (sym pass.actions) (pass_short s ok (frees_apart s [] s.table.cores (inside 0)) (subst P first (inside (length banned))))
