@@ -2,7 +2,7 @@
 
 use crate::naming::SweepNames;
 use crate::objective::rank_word;
-use crate::runs::{Sweep, SweptLoad, SweptRun};
+use crate::runs::{Sweep, SweptRun};
 use crate::shares::best_effort_share;
 use cal_load::Count;
 use cal_machine::Config;
@@ -107,12 +107,13 @@ fn figure_of(table: &Config, run: &SweptRun, task: usize, column: Column) -> Opt
     }
 }
 
-/// A run, and by the tables and policies which it is.
+/// The run of a row: its load, in thousandths, and the places of its table and of its policy.
 #[derive(Clone, Copy)]
 struct RunAt<'a> {
-    place: usize,
+    load: u64,
+    table: usize,
     policy: usize,
-    table: &'a Config,
+    config: &'a Config,
     run: &'a SweptRun,
 }
 
@@ -189,66 +190,48 @@ impl<'a> ShownSweep<'a> {
     }
 
     /// The row of a run: the load, what the run is called, and what each column says.
-    fn row(self, alloc: Global, load: u64, at: RunAt<'_>) -> Result<Vec<String>, AllocError> {
+    fn row(self, alloc: Global, at: RunAt<'_>) -> Result<Vec<String>, AllocError> {
         let mut row = Vec::new(alloc);
-        row.push(number(alloc, load, Unit::Thousandth)?)?;
-        let (value, policy) = (self.names.value(at.place), self.names.policy(at.policy));
+        row.push(number(alloc, at.load, Unit::Thousandth)?)?;
+        let (value, policy) = (self.names.value(at.table), self.names.policy(at.policy));
         if let Some(name) = joined(alloc, value, policy)? {
             row.push(name)?;
         }
         for column in COLUMNS {
-            let figure = figure_of(at.table, at.run, self.task, column);
+            let figure = figure_of(at.config, at.run, self.task, column);
             let form = self.form_of(column);
             form.put_figure(alloc, &mut row, figure, unit_of(column))?;
         }
         Ok(row)
     }
 
-    /// The run by the policy at a place of the table at another, with the load at a third.
-    fn run_at(self, load: usize, place: usize, policy: usize) -> Option<RunAt<'a>> {
+    /// How many tables each sweep has.
+    fn tables(self) -> usize {
+        self.sweeps.first().map_or(0, |first| first.tables.len())
+    }
+
+    /// How many rows there are.
+    fn rows(self) -> usize {
+        let loads = self.sweeps.first().map_or(0, |first| first.loads.len());
+        let of_load = self.tables().saturating_mul(self.sweeps.len());
+        loads.saturating_mul(of_load)
+    }
+
+    /// The run of a row, below the heading.
+    fn run_at(self, row: usize) -> Option<RunAt<'a>> {
+        let policies = self.sweeps.len().max(1);
+        let tables = self.tables().max(1);
+        let (place, policy) = (row / policies, row % policies);
+        let (load, table) = (place / tables, place % tables);
         let sweep = self.sweeps.get(policy)?;
+        let load = sweep.loads.as_slice().get(load)?;
         Some(RunAt {
-            place,
+            load: load.load,
+            table,
             policy,
-            table: sweep.tables.as_slice().get(place)?,
-            run: sweep
-                .loads
-                .as_slice()
-                .get(load)?
-                .runs
-                .as_slice()
-                .get(place)?,
+            config: sweep.tables.as_slice().get(table)?,
+            run: load.runs.as_slice().get(table)?,
         })
-    }
-
-    /// Puts the rows of a load and a table, one for each policy.
-    fn put_table(
-        self,
-        alloc: Global,
-        load: &SweptLoad,
-        places: (usize, usize),
-        sheet: &mut Sheet,
-    ) -> Result<(), AllocError> {
-        for policy in 0..self.sweeps.len() {
-            if let Some(run) = self.run_at(places.0, places.1, policy) {
-                sheet.put(self.row(alloc, load.load, run)?)?;
-            }
-        }
-        Ok(())
-    }
-
-    /// Puts the rows of the load at a place.
-    fn put_load(
-        self,
-        alloc: Global,
-        load: &SweptLoad,
-        place: usize,
-        sheet: &mut Sheet,
-    ) -> Result<(), AllocError> {
-        for table in 0..load.runs.len() {
-            self.put_table(alloc, load, (place, table), sheet)?;
-        }
-        Ok(())
     }
 
     /// The runs of the sweeps, a row for each: what came of the task in it. Fails only when out of
@@ -256,12 +239,10 @@ impl<'a> ShownSweep<'a> {
     pub fn sheet(self, alloc: Global) -> Result<Sheet, AllocError> {
         let mut sheet = Sheet::new(alloc);
         sheet.put(self.heading(alloc)?)?;
-        let Some(first) = self.sweeps.first() else {
-            return Ok(sheet);
-        };
-        let loads = first.loads.as_slice();
-        for place in 0..loads.len() {
-            self.put_load(alloc, &loads[place], place, &mut sheet)?;
+        for row in 0..self.rows() {
+            if let Some(run) = self.run_at(row) {
+                sheet.put(self.row(alloc, run)?)?;
+            }
         }
         Ok(sheet)
     }

@@ -189,7 +189,12 @@ fn program<'a>(alloc: Global) -> Result<Command<'a>, AllocError> {
     let program = program.subcommand(measure_word(alloc)?)?;
     let program = program.subcommand(compare_word(alloc)?)?;
     let program = program.subcommand(explain_word(alloc)?)?;
-    let program = program.subcommand(check_word(alloc)?)?;
+    let check = Command::new(alloc, "check")
+        .about("Say what an input is, or why it is refused")
+        .after_long_help(help_texts::CHECK)
+        .arg(input_word(alloc))?
+        .arg(output_word(alloc))?;
+    let program = program.subcommand(check)?;
     let program = program.subcommand(arrival_word(alloc)?)?;
     program.subcommand(sweep_word(alloc)?)
 }
@@ -216,14 +221,6 @@ fn facts_word<'a>(
         .after_long_help(help)
         .arg(input_word(alloc))?
         .arg(policy_word(alloc))?
-        .arg(output_word(alloc))
-}
-
-fn check_word<'a>(alloc: Global) -> Result<Command<'a>, AllocError> {
-    Command::new(alloc, "check")
-        .about("Say what an input is, or why it is refused")
-        .after_long_help(help_texts::CHECK)
-        .arg(input_word(alloc))?
         .arg(output_word(alloc))
 }
 

@@ -5,6 +5,6 @@ use Rattle.cal_tables.proofs.recorded.verdict_on.Given as goal
 
 abbrev pub invariant-loop-entry : goal.invariant-loop-entry
 invariant-loop-entry l = record {
-  audits : IsAuditBy l.policy l.config (take l.entry-index l.history) l.auditor;
+  audits : IsAuditBy l.fn.policy l.config (take l.entry-index l.history) l.auditor;
   of : IsAuditorOf l.config l.auditor;
 }
