@@ -3,7 +3,9 @@ use Rattle.std.specs.Prelude.{◌≡◌, ℕ, List, Ok}
 use Rattle.cal_machine.specs.Table.{Table, IsTable}
 use Rattle.cal_machine.specs.Tasks.{threads_in}
 use Rattle.cal_policy.specs.Pass.{IsLegal}
+use Rattle.cal_policy.specs.Policies.{IsLegalBy}
 use Rattle.cal_policy.specs.declared.history.entry.PassEntry.{PassEntry}
+use Rattle.cal_policy.specs.declared.policy.Policy.{Policy}
 use Rattle.cal_trace.specs.Arrivals.{arrivals_of}
 use Rattle.cal_trace.specs.Arrivals.FitsTable.{FitsTable}
 use Rattle.cal_trace.specs.Arrivals.Text.{arrivals_text, AreSpelled}
@@ -34,7 +36,14 @@ ReadIsReadBack =
     history_of (extent_of table) (rows_of text) ≡ Ok history
     → history_of (extent_of table) (rows_of (history_text history)) ≡ Ok history
 
--- the text of a legal history that a file can hold is read, for its table, as that history
+-- the text of a history of the policy that a file can hold is read, for its table, as that history
+abbrev pub LegalIsReadBackBy : Type 0
+LegalIsReadBackBy =
+    (policy : Policy) (table : Table) (history : List PassEntry) → IsTable table →
+    IsLegalBy policy table history → IsSized history
+    → history_of (extent_of table) (rows_of (history_text history)) ≡ Ok history
+
+-- the same of Policy::Caladan
 abbrev pub LegalIsReadBack : Type 0
 LegalIsReadBack =
     (table : Table) (history : List PassEntry) → IsTable table → IsLegal table history →

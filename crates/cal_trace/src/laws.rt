@@ -1,10 +1,8 @@
 //! Laws over the definitions alone, each the contract of a function that does nothing.
 
 ghost use Rattle.cal_trace.specs.Laws.{TextIsItsRows, TextIsReadBack, ReadIsReadBack};
-ghost use Rattle.cal_trace.specs.Laws.{LegalIsReadBack};
+ghost use Rattle.cal_trace.specs.Laws.{LegalIsReadBack, LegalIsReadBackBy};
 ghost use Rattle.cal_trace.specs.Laws.{ArrivalsAreReadBack, ReadArrivalsAreReadBack};
-
-use cal_policy::laws::{legal_is_short, legal_is_sound};
 
 /// The rows of the text of a history that is in range are the rows that it was written as.
 pub fn text_is_its_rows()
@@ -23,13 +21,17 @@ pub fn read_is_read_back()
     ensures { ReadIsReadBack }
 {}
 
-/// The text of a legal history is read, for its table, as that history, where a file can hold it:
-/// it has at most 1,048,576 passes, and its numbers are below 2 to the 64.
+/// The text of a history of any policy is read, for its table, as that history, where a file can
+/// hold it: it has at most 1,048,576 passes, and its numbers are below 2 to the 64.
+pub fn legal_is_read_back_by()
+    ensures { LegalIsReadBackBy }
+{}
+
+/// `legal_is_read_back_by` of `Policy::Caladan`.
 pub fn legal_is_read_back()
     ensures { LegalIsReadBack }
 {
-    legal_is_sound();
-    legal_is_short();
+    legal_is_read_back_by();
 }
 
 /// The text of arrivals that fit a table is read, for that table, as these arrivals, where a file
