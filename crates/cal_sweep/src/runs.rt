@@ -18,7 +18,7 @@ use cal_load::{ArrivalPlan, Count, Made, are_known, made_arrivals};
 use cal_machine::Config;
 use cal_policy::Policy;
 use cal_tables::{
-    ComparisonFault, Reason, RunNumbers, Variation, measured_run, table_at, table_part,
+    ComparisonFault, Reason, RunNumbers, Variation, measured_run, policy_at, table_at, table_part,
     varied_tables,
 };
 use rayon::prelude::*;
@@ -245,8 +245,9 @@ pub fn swept_by_each<'a>(
         job.now.asked.now.tasks.items fault)) }
 {
     let mut sweeps = Vec::new(job.alloc);
-    for policy in job.names.policies {
-        let sweep = swept(rt, job, *policy)?;
+    for place in 0..job.names.policies.len() {
+        let policy = policy_at(job.names.policies, place);
+        let sweep = swept(rt, job, policy)?;
         sweeps.push(sweep)?;
     }
     Ok(sweeps)

@@ -15,7 +15,7 @@ ghost use Rattle.cal_tables.specs.Varied.{IsComparisonOf, IsVariation};
 
 use crate::comparing::fault::ComparisonFault;
 use crate::comparing::input_text::input_text;
-use crate::comparing::runs::{OfRun, runs_of};
+use crate::comparing::runs::{OfRun, policy_at, runs_of};
 use crate::comparing::sheet::ShownComparison;
 use crate::comparing::tables::{GivenTables, given_tables};
 use crate::comparing::varying::varied_given;
@@ -130,8 +130,9 @@ pub fn comparisons_of<R: OfRun>(
         input.entry.policies.now comparisons.items) }
 {
     let mut comparisons = Vec::new(alloc);
-    for policy in input.policies {
-        let runs = comparison_of(alloc, *policy, input.bytes, input.variation)?;
+    for place in 0..input.policies.len() {
+        let policy = policy_at(input.policies, place);
+        let runs = comparison_of(alloc, policy, input.bytes, input.variation)?;
         comparisons.push(runs)?;
     }
     Ok(comparisons)

@@ -19,7 +19,7 @@ mod writing;
 
 pub use comparing::fault::{ComparisonFault, Misfit, Reason};
 pub use comparing::moving::moved_arrivals;
-pub use comparing::runs::{OfRun, table_at};
+pub use comparing::runs::{OfRun, policy_at, table_at};
 pub use comparing::tables::read_tables;
 pub use comparing::varying::varied_tables;
 pub use comparing::{

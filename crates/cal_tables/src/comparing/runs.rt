@@ -49,6 +49,14 @@ fn of_moved<R: OfRun>(
     Ok(R::of_run(alloc, table, policy, &moved)?)
 }
 
+/// The policy at a place.
+pub fn policy_at(policies: &[Policy], place: usize) -> Policy
+    requires { place < length policies.now }
+    ensures { slice_get policies.now place ≡ Some result }
+{
+    policies[place]
+}
+
 /// The table at a place.
 pub fn table_at(tables: &[Config], place: usize) -> &Config
     requires { place < length tables.now }
@@ -57,7 +65,8 @@ pub fn table_at(tables: &[Config], place: usize) -> &Config
     &tables[place]
 }
 
-/// The same; a fault is that of the table at this place. `Memory` may come at any place.
+/// What is kept of a table's run so; a fault is that of the table at this place. `Memory` may come
+/// at any place.
 fn of_placed<R: OfRun>(
     alloc: Global,
     policy: Policy,
