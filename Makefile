@@ -8,6 +8,7 @@
 # make promises        docs/CLAUSES.md, a list of every public function with its clauses
 # make wrong_bodies    docs/WRONG_BODIES.md, a list of every wrong body with the clause that refuses it
 # make examples        docs/EXAMPLES.md, a list of every example with what it shows
+# make rows            docs/ROWS.md, a list of every worked row with what it shows and where the gate runs it
 # make install PREFIX=/usr/local      programs, caladan_draw, C library, headers, pkg-config, manual pages, completions
 # make install_library PREFIX=..      the C library, its headers and the files for pkg-config and CMake alone
 # make dist            a release in out/release: packages, a prefix, the sources, and PROOF of what the gate keeps
@@ -52,6 +53,10 @@ wrong_bodies:
 .PHONY: examples
 examples:
 	tools/docs --examples > docs/EXAMPLES.md
+
+.PHONY: rows
+rows:
+	tools/rows --page > docs/ROWS.md
 
 dist: $(programs) caladan_c
 	tools/make_release

@@ -1,19 +1,20 @@
 """The public functions of the library crates, with what each says of itself and its clauses.
 
 A function is public where its crate's lib.rt hands it out, or the type or trait that has it; a function of caladan_c
-where C calls it. tools/clauses prints them; tools/docs sees that each says what it is for, and that docs/PROMISES.md
-names no clause that is not there."""
+where C calls it. tools/clauses prints them; tools/docs sees that each says what it is for, that the list of laws shows
+each law with its doc, and that docs/PROMISES.md names no law or clause that is not there."""
 import collections
 import functools
 import os
 import re
 
 import edits
-from crates import TOP, crates, text_of
+from crates import TOP, crates, files_of, text_of
 
-# A public function: its crate, its path as a caller writes it (`Book::open`), its file and line, the first sentence of
-# its doc, its head, and its clauses as (requires or ensures, name or '', text), each text on lines of its own.
-Contract = collections.namedtuple("Contract", "crate path file line doc head clauses")
+# A public function: its crate, its path as a caller writes it (`Book::open`), its file and line, the first sentence and
+# the first paragraph of its doc, its head, and its clauses as (requires or ensures, name or '', text), each text on
+# lines of its own.
+Contract = collections.namedtuple("Contract", "crate path file line doc paragraph head clauses")
 CLAUSE = re.compile(r"(requires|ensures)\*?(?: (\w+))?(?: |$)")
 TAKEN = re.compile(r"ghost use Rattle\.(\w+)\.specs\.([\w.]+?)(?:\.\{([^}]*)\}| as (\w+));")
 USE = re.compile(r"^pub use (?:crate::)?([\w:]+?)(?:::\{([^}]*)\})?(?: as \w+)?;", re.M)
@@ -48,15 +49,16 @@ def handed_out(crate, module=""):
 
 
 def doc_of(lines, number):
-    """The first sentence of the doc above a line."""
+    """The first sentence of the doc above a line, and its first paragraph."""
     words, at = [], number - 2
     while at >= 0 and re.match(r"\s*(?:///|#\[)", lines[at]):
         if lines[at].lstrip().startswith("///"):
             words.insert(0, lines[at].strip()[3:].strip())
         at -= 1
     words = words[:words.index("")] if "" in words else words
-    sentence = re.match(r"(.+?(?<!\.)\.)(?=\s|$)", " ".join(words))
-    return sentence[1] if sentence else " ".join(words)
+    paragraph = " ".join(words)
+    sentence = re.match(r"(.+?(?<!\.)\.)(?=\s|$)", paragraph)
+    return sentence[1] if sentence else paragraph, paragraph
 
 
 def contract_below(lines, number):
@@ -104,7 +106,7 @@ def contracts(crate):
         if is_public(crate, it, lines[it.first - 1]):
             path = "::".join(it.path.split("::")[len(edits.module_of(it.file)):])
             head, clauses = contract_below(lines, it.first)
-            found.append(Contract(crate, path, it.file, it.first, doc_of(lines, it.first), head, clauses))
+            found.append(Contract(crate, path, it.file, it.first, *doc_of(lines, it.first), head, clauses))
     return found
 
 
@@ -138,6 +140,11 @@ def definition(file, name):
 def is_law(it):
     """Whether a function is a law: it takes nothing and answers nothing."""
     return re.fullmatch(r"pub fn \w+\(\)", it.head) is not None
+
+
+def laws(found):
+    """The laws among these functions as rows of a table: the law, and the first paragraph of its doc."""
+    return [f"| `{it.path}` | {it.paragraph} |" for it in found if is_law(it)]
 
 
 def faults_of_functions():
@@ -177,16 +184,31 @@ def faults_of_table(named, row, cell):
             yield from (f"{row}: {function} of {crate} has no clause {it}" for it in lacks)
 
 
+def faults_of_laws():
+    """Which law the list of laws does not show with the `///` lines above it, and which crate with laws has no heading in
+    docs/PROMISES.md. A law is here a line `pub fn NAME()` of src/, whoever hands it out."""
+    headings = re.findall(r"^## (.*)", text_of(f"{TOP}/docs/PROMISES.md"), re.M)
+    for crate in libraries():
+        shown, found = laws(contracts(crate)), []
+        for file in files_of([crate], "src"):
+            found += re.findall(r"^((?:///.*\n)*)(?:#\[.*\n)*pub fn (\w+)\(\)\n", text_of(file), re.M)
+        for above, name in found:
+            said = " ".join(above.partition("///\n")[0].replace("///", "").split())
+            if not said:
+                yield f"{name}, a law of {crate}, has no line /// that says what it is"
+            elif f"| `{name}` | {said} |" not in shown:
+                yield f"tools/clauses --laws {crate} does not show {name} with its lines ///"
+        if found and not any(crate in re.findall(r"\w+", it) for it in headings):
+            yield f"docs/PROMISES.md: no heading names {crate}, which has laws"
+
+
 def faults_of_promises():
-    """Which laws and clauses docs/PROMISES.md names that are not there, and which law it does not name. Below a heading
-    that names crates, the last column of a table whose head ends with `Law` names public functions of these, a clause
-    after a colon."""
-    above, is_read, named = [], False, {it: "" for it in libraries()}
+    """Which laws and clauses docs/PROMISES.md names that are not there. Below a heading that names crates, the last column
+    of a table whose head ends with `Law` names public functions of these, a clause after a colon."""
+    above, is_read = [], False
     for number, line in enumerate(text_of(f"{TOP}/docs/PROMISES.md").splitlines(), 1):
         if line.startswith("#"):
-            above = [it for it in re.findall(r"\w+", line) if it in named]
-        for crate in above:
-            named[crate] += line
+            above = [it for it in re.findall(r"\w+", line) if it in libraries()]
         cells = [it.strip() for it in line.strip("|").split("|")] if line.startswith("|") else []
         if not cells:
             is_read = False
@@ -194,6 +216,3 @@ def faults_of_promises():
             is_read = bool(above)
         elif is_read and not set(line) <= set("|- "):
             yield from faults_of_table(above, f"docs/PROMISES.md:{number}", cells[-1])
-    for crate, text in named.items():
-        laws = [it.path for it in contracts(crate) if is_law(it)]
-        yield from (f"docs/PROMISES.md: {it}, a law of {crate}, is not there" for it in laws if f"`{it}`" not in text)
