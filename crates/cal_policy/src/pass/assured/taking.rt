@@ -30,7 +30,13 @@ use crate::pass::choice::{Candidate, first_class};
 impl Pass<'_> {
     /// The class of a core that the task may take; `lacked` says whether each open core is lacked
     /// by others.
-    fn open_class(&self, board: &Board, task: usize, core: u8, lacked: bool) -> Option<CoreClass>
+    pub fn open_class(
+        &self,
+        board: &Board,
+        task: usize,
+        core: u8,
+        lacked: bool,
+    ) -> Option<CoreClass>
         requires at_hand { IsOfTable self.now.config.now board.now }
         requires task { task < length self.now.config.now.tasks }
         requires core { core < self.now.config.now.cores }
@@ -209,7 +215,7 @@ impl Pass<'_> {
     }
 
     /// The class of a core that another task holds.
-    fn held_class(&self, board: &Board, task: usize, core: u8) -> Option<CoreClass>
+    pub fn held_class(&self, board: &Board, task: usize, core: u8) -> Option<CoreClass>
         requires at_hand { IsOfTable self.now.config.now board.now }
         requires task { task < length self.now.config.now.tasks }
         requires core { core < self.now.config.now.cores }
@@ -221,7 +227,7 @@ impl Pass<'_> {
     }
 
     /// Of the cores that others hold the one of the least class, the lowest of those.
-    fn choose_held(&self, board: &Board, task: usize) -> Option<Candidate<CoreClass>>
+    pub fn choose_held(&self, board: &Board, task: usize) -> Option<Candidate<CoreClass>>
         requires at_hand { IsOfTable self.now.config.now board.now }
         requires task { task < length self.now.config.now.tasks }
         ensures choice { Within self.now board.now (λ s acts. result
