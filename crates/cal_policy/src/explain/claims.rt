@@ -4,7 +4,6 @@ ghost use Rattle.std.specs.Prelude.{◌≡◌, ◌<◌, ◌&&◌, length};
 ghost use Rattle.cal_machine.specs.Machine.{sibling_of};
 ghost use Rattle.cal_machine.specs.TableTasks.{threads_of_table};
 ghost use Rattle.cal_policy.specs.Assured.Short as short;
-ghost use Rattle.cal_policy.specs.Assured.Taking.{may_preempt};
 ghost use Rattle.cal_policy.specs.Board.Counts as counts;
 ghost use Rattle.cal_policy.specs.Explain.Claims.{IsClaim, IsLateness, IsShortage};
 ghost use Rattle.cal_policy.specs.Explain.Walks.{IsWalk, Walks, setting_of, actions_so_far};
@@ -60,7 +59,7 @@ pub struct Shortage {
     pub lacking: usize,
     /// Whether some short task waits, and no more cores are open than are lacking.
     pub are_lacked: bool,
-    /// Whether some short task waits, and fewer cores are open than are lacking.
+    /// Whether some short task waits, and fewer cores are open than are lacking: then every ban ends.
     pub are_wanted: bool,
 }
 
@@ -79,23 +78,13 @@ impl Pass<'_> {
         }
     }
 
-    /// Whether a core may be revoked for the task.
-    pub fn may_revoke(&self, board: &Board, task: usize) -> bool
-        requires at_hand { IsOfTable self.now.config.now board.now }
-        requires task { task < length self.now.config.now.tasks }
-        ensures { Within self.now board.now (λ s acts. result
-            ≡ may_preempt s (so_far s acts) task) }
-    {
-        let on_their_way = self.coming(board, task) + self.surplus(board, task);
-        self.config.is_latency_critical(task) && on_their_way < self.pressing(board, task)
-    }
-
     /// What a task may claim.
     fn claim_of(&self, board: &Board, task: usize) -> Claim
         requires at_hand { IsOfTable self.now.config.now board.now }
         requires task { task < length self.now.config.now.tasks }
         ensures { Within self.now board.now (λ s acts. IsClaim s (so_far s acts) task result) }
     {
+        let unhelped = self.unhelped(board, task);
         Claim {
             is_short: self.is_short(board, task),
             lacks: self.lacks(board, task),
@@ -104,7 +93,7 @@ impl Pass<'_> {
             surplus: self.surplus(board, task),
             coming: self.coming(board, task),
             waits: self.waits(board, task),
-            may_revoke: self.may_revoke(board, task),
+            may_revoke: self.may_revoke_for(board, task, unhelped),
         }
     }
 
@@ -151,18 +140,6 @@ impl PassWalk<'_> {
             IsShortage (setting_of self.now h) (actions_so_far self.now h) result }
     {
         self.pass().shortage_of(&self.board)
-    }
-
-    /// Whether a ban of the core ends although its thread still shows what it was for: the core is
-    /// free, and open cores are wanted.
-    pub fn is_free_and_wanted(&self, core: u8) -> bool
-        requires walk { IsWalk self.now }
-        requires core { core < self.now.config.now.cores }
-        ensures { (h : Begun) → Walks self.now h → result
-            ≡ (counts.is_free (holder_of (actions_so_far self.now h) core)
-            && short.are_wanted (setting_of self.now h) (actions_so_far self.now h)) }
-    {
-        self.pass().is_free_and_wanted(&self.board, core)
     }
 
     /// Whether no ban of the core's sibling is due, whatever `ban_reason` says: the sibling is free,

@@ -72,14 +72,8 @@ impl Pass<'_> {
             ≡ rules.choice_for s acts task) }
         ensures below { IfSome result (λ best. best.number < self.now.config.now.cores) }
     {
-        if let Some(open) = self.choose_open(board, task) {
-            return Some(open);
-        }
-        if self.may_revoke(board, task) {
-            self.choose_held(board, task)
-        } else {
-            None
-        }
+        let unhelped = self.unhelped(board, task);
+        self.choose_for(board, task, unhelped)
     }
 }
 

@@ -227,7 +227,7 @@ impl Pass<'_> {
     }
 
     /// Of the cores that others hold the one of the least class, the lowest of those.
-    pub fn choose_held(&self, board: &Board, task: usize) -> Option<Candidate<CoreClass>>
+    fn choose_held(&self, board: &Board, task: usize) -> Option<Candidate<CoreClass>>
         requires at_hand { IsOfTable self.now.config.now board.now }
         requires task { task < length self.now.config.now.tasks }
         ensures choice { Within self.now board.now (λ s acts. result
@@ -247,7 +247,7 @@ impl Pass<'_> {
     /// Whether a core may be revoked for the task: it is latency-critical, and more of its threads
     /// press than cores are coming to it and helpers on their way; `unhelped` says how many press
     /// beyond those that have a helper.
-    fn may_revoke_for(&self, board: &Board, task: usize, unhelped: usize) -> bool
+    pub fn may_revoke_for(&self, board: &Board, task: usize, unhelped: usize) -> bool
         requires at_hand { IsOfTable self.now.config.now board.now }
         requires task { task < length self.now.config.now.tasks }
         ensures { Within self.now board.now (λ s acts.

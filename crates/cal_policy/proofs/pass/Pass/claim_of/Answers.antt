@@ -13,5 +13,5 @@ returns c = λ h acts st.
       surplus = c.surplus.ensures.count h acts st;
       coming = c.coming.ensures.count h acts st;
       waits = c.waits.ensures h acts st;
-      may_revoke = c.may_revoke.ensures h acts st;
+      may_revoke = c.may_revoke_for.ensures h acts st (c.unhelped-unhelped.ensures.count h acts st);
     }
