@@ -262,6 +262,7 @@ fn explain_word<'a>(alloc: Global) -> Result<Command<'a>, AllocError> {
         .about("Say why a pass does what it does")
         .after_long_help(help_texts::EXPLAIN)
         .arg(input_word(alloc))?
+        .arg(policy_word(alloc))?
         .arg(pass_word(alloc))?
         .arg(task_word(alloc)?)?
         .arg(number_word(alloc, "core", "CORE", "Tell of this core alone"))?

@@ -378,9 +378,9 @@ parts are those of docs/POLICY.md, \"A pass\". Of a history that is not legal it
 is what the policy does on the pass's looks after the passes before it. With
 --task it is of the cores that the task holds or leaves, and of this task; with
 --core of this core, and of each task's claim to it.
-Without --pass `legal`; or `illegal pass P`, what the policy does in that pass,
-what the file has, the first action that differs, and how things stand at its
-turn.
+Without --pass `legal`; or `illegal pass P`, a line if the other policy made the
+history, what the policy does in that pass, what the file has, the first action
+that differs, and how things stand at its turn.
 Exit status: 0 done, 1 the history is not legal, 2 rejected input or no such
 pass, task or core, 3 memory or output was refused.",
     "caladan_view explain --pass 0",
