@@ -1,7 +1,8 @@
 # make                 proves and builds the two programs, caladan_sim and caladan_view, and says how far it is
 # make NAME            one of them, or caladan_c, the C library
 # make test            tests everything that needs no proof, in minutes; needs the kit, and nothing proved
-# make check           the gate: make test, then every proof, and what the proved programs say
+# make recheck         proves again what changed since the last time, in minutes; CRATE=.. only these and those below
+# make check           the gate: files and examples, then every proof, and what the proved programs say
 # make prove CRATE=..  proves one crate with all that it stands on
 # make needs           installs the Debian packages that make test and make check use, as root; else lists them
 # make files           docs/FILES.md, a list of every file with what it is for
@@ -18,7 +19,7 @@ share = $(PREFIX)/share
 programs = caladan_sim caladan_view
 archive = crates/caladan_c/out/libcaladan_c.a
 
-.PHONY: all $(programs) caladan_c check dist files install install_library needs promises prove test wrong_bodies
+.PHONY: all $(programs) caladan_c check dist files install install_library needs promises prove recheck test wrong_bodies
 
 all: $(programs)
 
@@ -30,6 +31,9 @@ $(programs) caladan_c:
 
 test:
 	tools/test
+
+recheck:
+	tools/recheck $(CRATE)
 
 check:
 	.ci/run

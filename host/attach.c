@@ -85,12 +85,14 @@ static bool receive(int connection, host_answer *answer, int *file) {
         char room[CMSG_SPACE(sizeof(int))];
     } control;
     struct iovec part = {answer, sizeof *answer};
-    struct msghdr message = {.msg_iov = &part, .msg_iovlen = 1, .msg_control = &control, .msg_controllen = CMSG_LEN(sizeof(int))};
+    struct msghdr message = {
+        .msg_iov = &part, .msg_iovlen = 1, .msg_control = &control, .msg_controllen = CMSG_LEN(sizeof(int))};
     *file = -1;
     ssize_t got = recvmsg(connection, &message, MSG_CMSG_CLOEXEC);
     if (got < 0) return false;
     struct cmsghdr *head = CMSG_FIRSTHDR(&message);
-    if (head && head->cmsg_level == SOL_SOCKET && head->cmsg_type == SCM_RIGHTS && head->cmsg_len == CMSG_LEN(sizeof *file))
+    if (head && head->cmsg_level == SOL_SOCKET && head->cmsg_type == SCM_RIGHTS &&
+        head->cmsg_len == CMSG_LEN(sizeof *file))
         memcpy(file, CMSG_DATA(head), sizeof *file);
     errno = got == 0 ? ECONNREFUSED : EPROTO;
     return got == sizeof *answer && answer->version == HOST_VERSION;
@@ -102,7 +104,8 @@ static bool receive(int connection, host_answer *answer, int *file) {
 static bool is_segment(int file) {
     struct stat is;
     int seals = fcntl(file, F_GET_SEALS);
-    return seals >= 0 && (seals & HOST_SEALS) == HOST_SEALS && fstat(file, &is) == 0 && is.st_size == sizeof(host_segment);
+    return seals >= 0 && (seals & HOST_SEALS) == HOST_SEALS && fstat(file, &is) == 0 &&
+           is.st_size == sizeof(host_segment);
 }
 
 static host_segment *map(int file) {
@@ -111,7 +114,8 @@ static host_segment *map(int file) {
     host_segment *segment = mmap(NULL, sizeof *segment, PROT_READ | PROT_WRITE, MAP_SHARED | MAP_POPULATE, file, 0);
     if (segment == MAP_FAILED) return NULL;
     if (segment->version == HOST_VERSION && segment->threads - 1 < HOST_LIMIT) {
-        madvise(segment, sizeof *segment, MADV_DONTFORK); /* a forked child has no kernel threads, and no business on their pages */
+        /* A forked child has no kernel threads, and no business on their pages. */
+        madvise(segment, sizeof *segment, MADV_DONTFORK);
         return segment;
     }
     munmap(segment, sizeof *segment);

@@ -16,7 +16,8 @@
 #define NAP 200000                      /* between two looks for work where there is no scheduler, in nanoseconds */
 /* how long one that dozes may take to be at work, in nanoseconds */
 #define WAKES ((uint64_t)30000)
-#define GATHER ((uint64_t)3000000000)   /* how long threads that are to wait may hold their Park off, in nanoseconds: less than a scheduler waits */
+/* How long threads that are to wait may hold their Park off, in nanoseconds: less than a scheduler waits. */
+#define GATHER ((uint64_t)3000000000)
 enum { QUEUE = 1 << 13 };
 enum { NOT_YET, BEGUN, GIVEN_UP }; /* whether kernel threads may begin */
 
@@ -51,6 +52,8 @@ struct caladan_rt {
     int connection;
     char name[HOST_NAME + 1];
     unsigned task;
+    unsigned forks;    /* how many forks lie between it and the process that started the first one */
+    bool stands_under;
     uint64_t epoch;    /* tick 0 of the runtime's own clock: the first scheduler's */
     uint64_t idle_ns;
     caladan_serve *serve;
@@ -71,14 +74,23 @@ struct caladan_rt {
 
 static _Thread_local kernel_thread *self __attribute__((tls_model("initial-exec")));
 
+/* A child that was forked has neither kernel threads nor their segment: a runtime of its parent's is over
+ * for it, and nobody there is a kernel thread. */
+static unsigned forks;
+static int not_noticed; /* the error with which forks cannot be, or 0 */
+static void in_child(void) { forks++, self = NULL; }
+static void notice_forks(void) { not_noticed = pthread_atfork(NULL, NULL, in_child); }
+static bool is_of_parent(const caladan_rt *rt) { return rt->forks != forks; }
+
 uint64_t caladan_rt_now(const caladan_rt *rt) { return host_clock() - rt->epoch; }
 unsigned caladan_rt_threads(const caladan_rt *rt) { return rt->threads; }
 const char *caladan_rt_why(int error) {
     if (error == EDOM) return "the scheduler's table has another limit of the task";
     if (error == EEXIST) return "the process has a handler of SIGURG already";
+    if (error == ECHILD) return "the runtime is that of the process's parent";
     return host_why(error);
 }
-bool caladan_rt_is_over(const caladan_rt *rt) { return atomic_load(&rt->is_over); }
+bool caladan_rt_is_over(const caladan_rt *rt) { return is_of_parent(rt) || atomic_load(&rt->is_over); }
 void caladan_rt_after(caladan_rt *rt, int what) { atomic_store(&rt->after, what); }
 
 /* A tick of the runtime's clock as the scheduler counts: a later scheduler begins later. */
@@ -232,7 +244,7 @@ static kernel_thread *dozer_for(kernel_thread *k) {
 }
 
 bool caladan_rt_submit(caladan_rt *rt, unsigned thread, caladan_request request) {
-    if (thread >= rt->threads) return false;
+    if (thread >= rt->threads || is_of_parent(rt)) return false;
     kernel_thread *k = &rt->thread[thread], *caller = self;
     hold(caller);
     lock(k);
@@ -316,7 +328,7 @@ static void let_go(kernel_thread *k) {
     put_on(k, CALADAN_PARK, 0);
     unlock(k);
     sched_setaffinity(0, sizeof k->rt->allowed, &k->rt->allowed);
-    if (k->rt->segment->stands_under) sched_setscheduler(0, k->rt->class, &none); /* where it may */
+    if (k->rt->stands_under) sched_setscheduler(0, k->rt->class, &none); /* where it may */
 }
 
 static void wait_for_turn(kernel_thread *k) {
@@ -327,8 +339,8 @@ static void wait_for_turn(kernel_thread *k) {
     while (atomic_load(&rt->turn) == turn) futex_wait(&rt->turn, turn);
 }
 
-/* The scheduler is over. True where the thread goes on by itself; false when it has waited for another one. Its number comes
- * before its phase, as in a new thread. */
+/* The scheduler is over. True where the thread goes on by itself; false when it has waited for another one. Its number
+ * comes before its phase, as in a new thread. */
 static bool outlives(kernel_thread *k) {
     caladan_rt *rt = k->rt;
     struct timespec nap = {0, NAP};
@@ -410,6 +422,7 @@ static void change_segment(caladan_rt *rt, host_segment *segment, int connection
     munmap(rt->segment, sizeof *rt->segment);
     close(rt->connection);
     rt->segment = segment;
+    rt->stands_under = segment->stands_under;
     rt->connection = connection;
     atomic_store(&rt->tick_0, segment->epoch);
     for (unsigned i = 0; i < rt->threads; i++) rt->thread[i].slot = &segment->slot[i];
@@ -436,8 +449,8 @@ static bool take(caladan_rt *rt, host_segment *segment, int connection) {
 /* Threads go on while it asks for a scheduler, and wait only once there is one. */
 bool caladan_rt_attach_again(caladan_rt *rt) {
     int connection;
-    errno = EISCONN;
-    if (!atomic_load(&rt->is_over)) return false;
+    errno = is_of_parent(rt) ? ECHILD : EISCONN;
+    if (is_of_parent(rt) || !atomic_load(&rt->is_over)) return false;
     host_segment *segment = host_meet(rt->name, rt->task, &connection);
     if (segment == NULL) return false;
     if (segment->threads != rt->threads) {
@@ -539,7 +552,7 @@ int caladan_rt_processor(void) {
     return core - 1 < HOST_CORES ? k->rt->segment->processor[core - 1] : -1;
 }
 
-bool caladan_rt_stands_under(const caladan_rt *rt) { return rt->segment->stands_under != 0; }
+bool caladan_rt_stands_under(const caladan_rt *rt) { return rt->stands_under; }
 
 /* ---- the start ---- */
 
@@ -549,12 +562,15 @@ static caladan_rt *make_rt(host_segment *segment) {
     if (rt == NULL) return NULL;
     __builtin_memset(rt, 0, size);
     rt->segment = segment;
+    rt->forks = forks;
+    rt->stands_under = segment->stands_under;
     rt->epoch = segment->epoch;
     atomic_store(&rt->tick_0, segment->epoch);
     rt->threads = segment->threads;
     for (unsigned i = 0; i < rt->threads; i++) {
         kernel_thread *k = &rt->thread[i];
-        *k = (kernel_thread){.rt = rt, .number = i, .slot = &segment->slot[i], .queue = calloc(QUEUE, sizeof *k->queue)};
+        *k = (kernel_thread){.rt = rt, .number = i, .slot = &segment->slot[i]};
+        k->queue = calloc(QUEUE, sizeof *k->queue);
         if (k->queue == NULL) errno = ENOMEM;
     }
     return rt;
@@ -571,10 +587,13 @@ static void unmake(caladan_rt *rt, unsigned started) {
 
 static caladan_rt *start_threads(caladan_rt *rt) {
     struct sigaction action = {.sa_handler = on_signal, .sa_flags = SA_RESTART};
+    static pthread_once_t once = PTHREAD_ONCE_INIT;
     unsigned started = 0;
-    int error = 0;
+    pthread_once(&once, notice_forks);
+    int error = not_noticed;
     for (unsigned i = 0; i < rt->threads && !error; i++) error = rt->thread[i].queue ? 0 : ENOMEM;
-    for (; started < rt->threads && !error; started += !error) error = pthread_create(&rt->thread[started].thread, NULL, live, &rt->thread[started]);
+    for (; started < rt->threads && !error; started += !error)
+        error = pthread_create(&rt->thread[started].thread, NULL, live, &rt->thread[started]);
     if (!error) error = begin_to_watch(rt);
     if (error) {
         unmake(rt, started);

@@ -11,20 +11,22 @@
  * So `serve` may not hold what a sibling needs to go on, nor be stopped where it may not be
  * entered again: malloc, stdio, locks. Between caladan_rt_hold and caladan_rt_release no core is
  * taken away; keep that short, since a thread that does not leave in time has its process
- * killed. What blocks in the kernel keeps its core.
+ * killed. A thread that blocks in the kernel keeps its core.
  *
- * What blocks in the kernel may come back from it with EINTR when the thread had to leave
- * meanwhile: the handler is one that lets calls go on (SA_RESTART), which poll, nanosleep and
- * futex waits do not heed.
+ * A call that blocks in the kernel may return EINTR if the thread had to leave meanwhile: the
+ * handler has SA_RESTART, which poll, nanosleep and futex waits ignore.
  *
- * The runtime has the signal SIGURG to itself: caladan_rt_start refuses where the process has a
- * handler of it already, and a handler that comes later takes the runtime's word away. (Go's
- * runtime has one, so no process of cgo can attach.)
+ * The runtime needs the signal SIGURG for itself: caladan_rt_start refuses to start if the process
+ * already has a handler of it, and a handler installed later cuts the runtime off from its
+ * commands. (Go's runtime has one, so no process of cgo can attach.)
  *
- * A child that is forked has no kernel threads and no segment: it may call none of these
- * functions, but exec or exit. A process that closes all its files (closefrom, as daemons do)
- * has closed the connection too: it may lose its task by that, and what it opens next may have
- * the connection's number. So it does that before caladan_rt_start.
+ * A forked child has no kernel threads and no segment: its parent's runtime is over for it, takes no
+ * request, and is not attached again; it may start one of its own, as another task. (A child by
+ * another call than fork, such as vfork, may call none of these functions, only exec or exit.)
+ *
+ * A process that closes all its files (closefrom, as daemons do) closes the connection too: it may
+ * lose its task, and a file that it opens next may get the connection's number. So close files
+ * before caladan_rt_start.
  *
  * A process leaves by ending: then its cores are free, and another may attach as its task. When
  * the scheduler ends, or gives the task up, threads leave their processors within milliseconds,
@@ -56,27 +58,29 @@ uint64_t caladan_rt_now(const caladan_rt *rt); /* nanoseconds since the schedule
 /* The scheduler has ended, or has given the task up: no thread is given a core any more. */
 bool caladan_rt_is_over(const caladan_rt *rt);
 
-/* What kernel threads do then: wait, in the middle of a request too (CALADAN_RT_WAIT, as without this call), or go on as
- * threads of any other process, on the processors that the process could use when it started. */
+/* What kernel threads do then: wait, even in the middle of a request (CALADAN_RT_WAIT, as without this call), or go on
+ * as ordinary threads, on the processors that the process could use when it started. */
 enum { CALADAN_RT_WAIT, CALADAN_RT_RUN };
 void caladan_rt_after(caladan_rt *rt, int what);
 
 /* Attaches to the next scheduler of that name, as the same task: requests go on. To be called by one thread at a time,
- * which is no kernel thread; it lasts as long as a scheduler takes to answer, at most ten seconds twice, in which kernel threads
- * go on; and then as long as these hold their Park off, at most three seconds. False: errno says why, and caladan_rt_why in
- * words (ECONNREFUSED, ENOENT: there is none yet; EISCONN: the first is not over), and threads are as they were. */
+ * which is no kernel thread; it lasts as long as a scheduler takes to answer, at most ten seconds twice, in which
+ * kernel threads go on; and then as long as these hold their Park off, at most three seconds. False: errno says why,
+ * and caladan_rt_why in words (ECONNREFUSED, ENOENT: there is none yet; EISCONN: the first is not over; ECHILD: it is
+ * the parent's), and threads are as they were. */
 bool caladan_rt_attach_again(caladan_rt *rt);
 
 /* Hands a request to a kernel thread, from any thread of the process, but not from a signal handler. False: its queue
- * is full, or there is no such kernel thread. */
+ * is full, there is no such kernel thread, or the runtime is that of the process's parent. */
 bool caladan_rt_submit(caladan_rt *rt, unsigned thread, caladan_request request);
 
-/* Adds to the calling kernel thread's count of cache misses, and shows it; the count stays at 2^56. A scheduler believes one a
- * nanosecond, since a piece of its record began, and no more: so misses are told as they come, and not a second's at once. */
+/* Adds to the calling kernel thread's count of cache misses, and shows it; the count stops at 2^56. A scheduler
+ * believes at most one miss a nanosecond since a piece of its record began: so report misses as they come, and not
+ * those of a second at once. */
 void caladan_rt_missed(uint64_t misses);
 
-/* The processor of the core that the calling kernel thread has; -1: it has none now, or is no kernel thread. It is still so
- * only until the core is taken away: see caladan_rt_hold. */
+/* The processor of the core that the calling kernel thread has; -1: it has none now, or is no kernel thread. It is
+ * still so only until the core is taken away: see caladan_rt_hold. */
 int caladan_rt_processor(void);
 
 /* Whether the task stands under (caladand -u): its kernel threads are in SCHED_IDLE, a core is
@@ -84,7 +88,7 @@ int caladan_rt_processor(void);
  * its Park off, on the processor of the core that it has next. */
 bool caladan_rt_stands_under(const caladan_rt *rt);
 
-/* Holds off that the calling kernel thread's core is taken away. May be nested. */
+/* Between these two the calling kernel thread keeps its core. Calls may be nested. */
 void caladan_rt_hold(void);
 void caladan_rt_release(void);
 #endif

@@ -9,6 +9,7 @@
 
 #define HOUSE 1000000u    /* how often processes are looked after, in nanoseconds */
 #define SHORT 100000u     /* what is not slept, in nanoseconds */
+#define SPINS (2 * SHORT) /* a rest that is not slept at all */
 #define FLUSH 250000000u  /* how often what was recorded is handed to who writes it */
 
 void fail(const char *what, const char *why) {
@@ -61,9 +62,15 @@ static void check_under(scheduler *s) {
  * all of it. */
 static void warn_of_class(const scheduler *s) {
     int class = sched_getscheduler(0);
-    if ((class != SCHED_FIFO && class != SCHED_RR) || s->options.gap) return;
+    if ((class != SCHED_FIFO && class != SCHED_RR) || s->options.gap > SPINS) return;
     complain("a scheduler that spins in SCHED_FIFO or SCHED_RR is put aside for 50 ms of each "
              "second: use the normal class");
+}
+
+/* Only now, by the clerk: bad input is one line, and nobody waits for who reads them. */
+static void warn_of_place(const scheduler *s) {
+    if (s->options.own < 0 && CPU_COUNT(&s->others) == 0)
+        complain("no processor is left for the scheduler: it runs on those that it manages");
 }
 
 /* The table as it is recorded: comments say which policy made its passes, where that is not Caladan's, and
@@ -90,7 +97,7 @@ static void open_record(scheduler *s) {
     char *table = recorded_table(s);
     s->record = record_open(o->folder, o->name, table, o->bytes, s->machine.threads, &s->others);
     free(table);
-    printf("record: %s\n", record_path(s->record));
+    printf("record: %s\ntick 0: %llu ns of CLOCK_MONOTONIC\n", record_path(s->record), (unsigned long long)s->epoch);
     fflush(stdout);
 }
 
@@ -108,6 +115,7 @@ static void begin(scheduler *s) {
     if (!begin_lines(&s->others) || !begin_metrics(s)) fail("a clerk", "no thread can be begun");
     if (!begin_moves(s)) fail("-m", "no thread can be begun");
     warn_of_class(s);
+    warn_of_place(s);
     open_tasks(s); /* now that passes alone are to come: who finds a socket waits for no disk */
     tell_ready();
 }
@@ -131,13 +139,15 @@ static void keep_house(scheduler *s, uint64_t now) {
     hand_metrics(s);
 }
 
-static bool is_over(const scheduler *s) { return stop_signals() || (s->options.seconds && now_of(s) >= s->options.seconds * 1000000000u); }
+static bool is_over(const scheduler *s) {
+    return stop_signals() || (s->options.seconds && now_of(s) >= s->options.seconds * 1000000000u);
+}
 
 /* Long rests are slept, but for their end. */
 static void rest_until(const scheduler *s, uint64_t due) {
     for (uint64_t now; (now = now_of(s)) < due;) {
         struct timespec most = {0, (long)(due - now - SHORT)}; /* a gap is a second at most */
-        if (due - now < 2 * SHORT) host_pause();
+        if (due - now < SPINS) host_pause();
         else nanosleep(&most, NULL);
     }
 }

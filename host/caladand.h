@@ -27,14 +27,16 @@ typedef struct host_guest {
     uint64_t at;
 } host_guest;
 
-/* A task: its segment, the process that is attached as it, if any, and who wants to be. Files are -1 where there is none. */
+/* A task: its segment, the process that is attached as it, if any, and who wants to be. Files are -1 where there is
+ * none. */
 typedef struct host_task {
     unsigned first, limit; /* its kernel threads */
     bool is_critical;
     bool is_under;           /* its threads are in SCHED_IDLE: under.c */
     uint8_t guaranteed, cap; /* in cores; the cap is the last one of this piece, else the limit */
     uint64_t request;        /* how long a request may take before the core beside it is banned */
-    int listener, memory;  /* memory -1: there was none, the segment is of the scheduler's own memory and is handed to nobody */
+    /* memory -1: there was none, so the segment is of the scheduler's own memory and is handed to nobody */
+    int listener, memory;
     host_segment *segment;
     pid_t pid;             /* 0: nobody has the segment */
     bool is_attached;      /* it said that it has mapped the segment */
@@ -151,7 +153,8 @@ unsigned stop_signals(void); /* how often it was told to end */
 typedef void clerk_work(void *with);
 bool start_clerk(clerk_work *work, void *with, const cpu_set_t *where); /* on these processors, if there are any */
 bool wait_for_clerk(bool is_idle(void), uint64_t most);                  /* false: it was not idle in so long */
-void complain(const char *format, ...) __attribute__((format(printf, 1, 2))); /* a line on standard error; it waits for nobody */
+/* A line on standard error; it waits for nobody. */
+void complain(const char *format, ...) __attribute__((format(printf, 1, 2)));
 bool begin_lines(const cpu_set_t *where); /* until then, who complains writes the line himself */
 void end_lines(void);
 uint64_t lost_lines(void);
@@ -229,6 +232,7 @@ void end_piece(scheduler *s);
 /* counters.c */
 void print_summary(scheduler *s);
 bool begin_metrics(const scheduler *s);
-void hand_metrics(const scheduler *s); /* to the clerk who writes them into the scheduler's folder, unless he is at work */
+/* Hands the counters to the clerk who writes them into the scheduler's folder, unless he is at work. */
+void hand_metrics(const scheduler *s);
 void end_metrics(void);
 #endif

@@ -1,4 +1,5 @@
-/* clerks.c: threads that write, so that no pass waits for a disk, or for who reads standard error: and the lines of one. */
+/* clerks.c: threads that write, so that no pass waits for a disk, or for who reads standard error: and the lines of
+ * one. */
 #define _GNU_SOURCE
 #include <errno.h>
 #include <poll.h>

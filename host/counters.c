@@ -1,6 +1,6 @@
-/* counters.c: what a run came to: a summary at its end, and counters that can be read while it runs. A clerk writes these
- * as text, which any reader knows. In place, in a file that is mapped, a store would wait as well where the file is on a
- * disk: the kernel lets nobody write to a page that it is about to write out. */
+/* counters.c: what a run came to: a summary at its end, and counters that can be read while it runs. A clerk writes
+ * these as text, which any reader knows. In place, in a file that is mapped, a store would wait as well where the file
+ * is on a disk: the kernel lets nobody write to a page that it is about to write out. */
 #define _GNU_SOURCE
 #include <errno.h>
 #include <inttypes.h>
@@ -9,15 +9,20 @@
 #include "caladand.h"
 
 static const char *const kinds[] = {"", "free", "unban", "ban", "revoke", "cap", "grant"};
-static const char *const judgements[] = {"", "kept", "busy", "ahead", "foreign", "no pair", "misshapen", "place fell", "changed", "word fell"};
+static const char *const judgements[] = {"",        "kept",      "busy",       "ahead",   "foreign",
+                                         "no pair", "misshapen", "place fell", "changed", "word fell"};
 
 void print_summary(scheduler *s) {
     const counts *c = &s->counts;
-    printf("passes %" PRIu64 " in %" PRIu64 " pieces, one each %" PRIu64 " ns\nlooks:", c->passes, c->pieces, now_of(s) / (c->passes + !c->passes));
-    for (int j = CALADAN_KEPT; j <= CALADAN_WORD_FELL; j++) printf("%s %s %" PRIu64, j > 1 ? "," : "", judgements[j], c->judged[j]);
+    printf("passes %" PRIu64 " in %" PRIu64 " pieces, one each %" PRIu64 " ns\nlooks:", c->passes, c->pieces,
+           now_of(s) / (c->passes + !c->passes));
+    for (int j = CALADAN_KEPT; j <= CALADAN_WORD_FELL; j++)
+        printf("%s %s %" PRIu64, j > 1 ? "," : "", judgements[j], c->judged[j]);
     printf(", place too far %" PRIu64 ", misses too many %" PRIu64 "\nactions:", c->jumped, c->outran);
-    for (int k = CALADAN_FREE; k <= CALADAN_GRANT; k++) printf("%s %s %" PRIu64, k > 1 ? "," : "", kinds[k], c->actions[k]);
-    printf("\nprocesses: attached %" PRIu64 ", ended %" PRIu64 ", left %" PRIu64 ", refused %" PRIu64 ", killed %" PRIu64 ", written off %" PRIu64 "\n",
+    for (int k = CALADAN_FREE; k <= CALADAN_GRANT; k++)
+        printf("%s %s %" PRIu64, k > 1 ? "," : "", kinds[k], c->actions[k]);
+    printf("\nprocesses: attached %" PRIu64 ", ended %" PRIu64 ", left %" PRIu64 ", refused %" PRIu64
+           ", killed %" PRIu64 ", written off %" PRIu64 "\n",
            c->attached, c->ended, c->given_up, c->refused, c->killed, c->written_off);
     printf("longest gap between passes %" PRIu64 " ns, lines lost %" PRIu64 "\n", c->longest_gap, lost_lines());
     printf("threads: not the process's own %" PRIu64 ", not pinned %" PRIu64
@@ -34,7 +39,8 @@ static void put(FILE *out, const char *name, const char *labels, uint64_t value)
     fprintf(out, "caladan_%s%s %" PRIu64 "\n", name, labels, value);
 }
 
-static void put_each(FILE *out, const char *name, const char *label, const char *const *words, const uint64_t *values, int first, int last) {
+static void put_each(FILE *out, const char *name, const char *label, const char *const *words, const uint64_t *values,
+                     int first, int last) {
     char labels[64];
     fprintf(out, "# TYPE caladan_%s counter\n", name);
     for (int i = first; i <= last; i++) {
@@ -52,13 +58,23 @@ static void put_counts(FILE *out, const counts *c) {
     const struct {
         const char *name;
         uint64_t value;
-    } each[] = {{"passes_total", c->passes}, {"pieces_total", c->pieces}, {"attached_total", c->attached}, {"ended_total", c->ended},
-                {"left_total", c->given_up}, {"refused_total", c->refused}, {"killed_total", c->killed}, {"written_off_total", c->written_off},
-                {"places_too_far_total", c->jumped}, {"misses_too_many_total", c->outran},
-                {"foreign_threads_total", c->foreign_tids}, {"unpinned_total", c->unpinned},
-                {"strayed_total", c->strayed}, {"slow_pins_total", c->slow_pins},
+    } each[] = {{"passes_total", c->passes},
+                {"pieces_total", c->pieces},
+                {"attached_total", c->attached},
+                {"ended_total", c->ended},
+                {"left_total", c->given_up},
+                {"refused_total", c->refused},
+                {"killed_total", c->killed},
+                {"written_off_total", c->written_off},
+                {"places_too_far_total", c->jumped},
+                {"misses_too_many_total", c->outran},
+                {"foreign_threads_total", c->foreign_tids},
+                {"unpinned_total", c->unpinned},
+                {"strayed_total", c->strayed},
+                {"slow_pins_total", c->slow_pins},
                 {"gave_way_total", c->given_way},
-                {"had_back_total", c->notes}, {"taken_off_total", c->taken_off}};
+                {"had_back_total", c->notes},
+                {"taken_off_total", c->taken_off}};
     for (size_t i = 0; i < sizeof each / sizeof *each; i++) put_one(out, each[i].name, "counter", each[i].value);
 }
 
@@ -124,8 +140,8 @@ static void put_all(FILE *out, const tally *t) {
     put(out, "most_passes", "{step=\"free\"}", t->latency.freeing_passes.most);
 }
 
-/* All of the text goes to the file at once, from memory: no stream waits for the disk, at which the end of the process would
- * wait too. */
+/* All of the text goes to the file at once, from memory: no stream waits for the disk, at which the end of the process
+ * would wait too. */
 static bool write_text(const char *text, size_t length) {
     int file = openat(desk.folder, "metrics.new", O_WRONLY | O_CREAT | O_TRUNC | O_NOFOLLOW | O_CLOEXEC, 0600);
     if (file < 0) return false;
@@ -133,8 +149,8 @@ static bool write_text(const char *text, size_t length) {
     return close(file) == 0 && is_whole;
 }
 
-/* A reader finds a whole file, this one or the one before. One that cannot be written is not: nothing depends on it. Nor is
- * one that came too late: the folder is being emptied. */
+/* A reader finds a whole file, this one or the one before. One that cannot be written is not: nothing depends on it.
+ * Nor is one that came too late: the folder is being emptied. */
 static void write_metrics(const tally *t) {
     rewind(desk.out);
     put_all(desk.out, t);

@@ -7,7 +7,8 @@
 #include "host.h"
 
 bool host_is_name(const char *name) {
-    size_t length = strlen(name), plain = strspn(name, "abcdefghijklmnopqrstuvwxyzABCDEFGHIJKLMNOPQRSTUVWXYZ0123456789._-");
+    size_t length = strlen(name),
+           plain = strspn(name, "abcdefghijklmnopqrstuvwxyzABCDEFGHIJKLMNOPQRSTUVWXYZ0123456789._-");
     return length > 0 && length <= HOST_NAME && plain == length && name[0] != '.';
 }
 

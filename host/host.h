@@ -3,8 +3,8 @@
  * THIS C IS NOT PROVED. host/README.md says what of the host is.
  *
  * Each task has a segment of its own, which nobody else maps, and which has no name: a process that attaches
- * is handed it over a socket, sealed, so that it cannot be made shorter, nor have a hole. What different sides write lies on
- * lines of its own. The scheduler reads the pages, the thread numbers and the phases in it, and believes none.
+ * is handed it over a socket, sealed, so that it cannot be made shorter, nor have a hole. What different sides write
+ * lies on lines of its own. The scheduler reads the pages, the thread numbers and the phases in it, and believes none.
  */
 #ifndef HOST_H
 #define HOST_H
@@ -27,7 +27,8 @@
 #define HOST_VERSION ((uint64_t)HOST_LAYOUT << 32 | CALADAN_PAGES_VERSION)
 #define HOST_SIGNAL SIGURG /* by default it is ignored: a thread that has no handler for it takes no harm */
 #define HOST_SEALS (F_SEAL_SHRINK | F_SEAL_GROW)
-#define HOST_LAST_SEALS (F_SEAL_FUTURE_WRITE | F_SEAL_SEAL) /* once it is mapped: from then on no page can be punched out of it */
+/* Once it is mapped: from then on no page can be punched out of it. */
+#define HOST_LAST_SEALS (F_SEAL_FUTURE_WRITE | F_SEAL_SEAL)
 enum { HOST_CORES = CALADAN_MOST_CORES, HOST_TASKS = 16, HOST_THREADS = CALADAN_MOST_THREADS, HOST_LIMIT = 16 };
 
 /* The words of a record that a runtime fills, by their places. */
@@ -113,7 +114,9 @@ static inline void futex_wait(_Atomic uint32_t *word, uint32_t while_it_is) {
     syscall(SYS_futex, word, FUTEX_WAIT, while_it_is, NULL, NULL, 0);
 }
 
-static inline void futex_wake_all(_Atomic uint32_t *word) { syscall(SYS_futex, word, FUTEX_WAKE, 1 << 30, NULL, NULL, 0); }
+static inline void futex_wake_all(_Atomic uint32_t *word) {
+    syscall(SYS_futex, word, FUTEX_WAKE, 1 << 30, NULL, NULL, 0);
+}
 
 /* Wakes the thread where it sleeps. It says so before it looks at the doorbell a last time, so
  * that either it is seen here to sleep, or it sees there that the doorbell has grown. */
@@ -131,8 +134,8 @@ static inline void sleep_on_bell(host_slot *slot, uint32_t while_it_is) {
 /* Attaches as that task, and maps its segment. NULL: errno says why, and host_why in words. *connection stays
  * open as long as the scheduler runs and the task is this process's; closing it gives the task up. */
 host_segment *host_attach(const char *name, unsigned task, int *connection);
-/* The same in two steps: the task is this process's, and its threads are granted cores, only after the second one, for which
- * there are four seconds. False: errno says why, and the connection is closed. */
+/* The same in two steps: the task is this process's, and its threads are granted cores, only after the second one, for
+ * which there are four seconds. False: errno says why, and the connection is closed. */
 host_segment *host_meet(const char *name, unsigned task, int *connection);
 bool host_take(host_segment *segment, int connection);
 const char *host_why(int error);

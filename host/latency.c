@@ -35,7 +35,8 @@ static uint64_t delay_of(const caladan_look *look, uint64_t now) {
 
 void latency_begin_piece(latency *l) { memset(l, 0, offsetof(latency, wasted)); }
 
-static void decided_grant(latency *l, uint64_t now, const latency_thread *threads, size_t count, const caladan_action *a) {
+static void decided_grant(latency *l, uint64_t now, const latency_thread *threads, size_t count,
+                          const caladan_action *a) {
     uint8_t thread = a->thread, task = threads[thread].task;
     uint64_t longest = 0;
     for (size_t i = 0; i < count; i++) {
@@ -66,7 +67,8 @@ static bool is_granted_to(const latency_thread *threads, uint8_t task, const cal
 
 /* A core that was revoked is free. Where its task wants none any more, the move was for nothing. A stamp that is
  * later than the pass is no time. */
-static void decided_free(latency *l, uint64_t now, uint8_t core, const latency_thread *threads, const caladan_action *actions, size_t made) {
+static void decided_free(latency *l, uint64_t now, uint8_t core, const latency_thread *threads,
+                         const caladan_action *actions, size_t made) {
     uint64_t stamp = threads[l->left_by[core]].shown.stamp, from = l->revoked[core];
     uint8_t task = l->revoked_for[core];
     if (from == 0) return;
@@ -79,7 +81,8 @@ static void decided_free(latency *l, uint64_t now, uint8_t core, const latency_t
     l->wasted++;
 }
 
-void latency_decided(latency *l, uint64_t now, const latency_thread *threads, size_t count, const caladan_action *actions, size_t made) {
+void latency_decided(latency *l, uint64_t now, const latency_thread *threads, size_t count,
+                     const caladan_action *actions, size_t made) {
     l->passes++;
     for (size_t i = 0; i < made; i++) {
         const caladan_action *a = &actions[i];
@@ -103,8 +106,11 @@ void latency_looked(latency *l, uint64_t now, const latency_thread *threads, siz
 }
 
 static void print_shares(const char *name, const char *unit, const histogram *h, FILE *out) {
-    fprintf(out, "%s: %" PRIu64 " times; %s p50 %" PRIu64 ", p90 %" PRIu64 ", p99 %" PRIu64 ", p99.9 %" PRIu64 ", most %" PRIu64 "\n", name,
-            h->count, unit, latency_quantile(h, 0.5), latency_quantile(h, 0.9), latency_quantile(h, 0.99), latency_quantile(h, 0.999), h->most);
+    fprintf(out,
+            "%s: %" PRIu64 " times; %s p50 %" PRIu64 ", p90 %" PRIu64 ", p99 %" PRIu64 ", p99.9 %" PRIu64
+            ", most %" PRIu64 "\n",
+            name, h->count, unit, latency_quantile(h, 0.5), latency_quantile(h, 0.9), latency_quantile(h, 0.99),
+            latency_quantile(h, 0.999), h->most);
 }
 
 static void print_one(const char *name, const histogram *h, FILE *out) {

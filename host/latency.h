@@ -32,7 +32,8 @@ typedef struct latency_thread {
 } latency_thread;
 
 void latency_begin_piece(latency *l);
-void latency_decided(latency *l, uint64_t now, const latency_thread *threads, size_t count, const caladan_action *actions, size_t made);
+void latency_decided(latency *l, uint64_t now, const latency_thread *threads, size_t count,
+                     const caladan_action *actions, size_t made);
 void latency_looked(latency *l, uint64_t now, const latency_thread *threads, size_t count);
 uint64_t latency_quantile(const histogram *h, double share); /* the least of the bucket that it falls into */
 void latency_print(const latency *l, FILE *out);

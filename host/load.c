@@ -16,8 +16,8 @@
  * pieces; -e: when the scheduler is over, its threads wait, run, or attach again (wait, run,
  * again; seek: run until it has attached again), and the process goes on. Both: -a: the main
  * thread has all signals blocked; -g: the process has a handler of SIGURG; -z: it closes all its
- * files when it has started; -f: it has a child that hands in a request, and the status is 4
- * where the child is not ended for it by SIGSEGV. lc reads that file, and says how many pieces
+ * files when it has started; -f: it has a child that hands in a request, and one that attaches
+ * as its task, and the status is 4 where these are not refused. lc reads that file, and says how many pieces
  * were done meanwhile.
  *
  * Each request and each piece looks whether it runs on the processor of its thread's core: two
@@ -118,7 +118,8 @@ static void look_where_it_runs(void) {
     if (is_where_it_is_to_be(&here, &of_core)) return;
     if (caladan_rt_stands_under(rt) && (usleep(1), is_where_it_is_to_be(&here, &of_core))) return;
     if (atomic_fetch_add(&strayed, 1) == 0)
-        fprintf(stderr, "load: task %u: a thread runs on processor %d, and has the core of processor %d\n", options.task, here, of_core);
+        fprintf(stderr, "load: task %u: a thread runs on processor %d, and has the core of processor %d\n",
+                options.task, here, of_core);
 }
 
 /* ---- who else runs there ---- */
@@ -323,24 +324,30 @@ static void serve_chunk(void *with, unsigned thread, caladan_request request) {
     caladan_rt_submit(rt, thread, (caladan_request){caladan_rt_now(rt), request.what});
 }
 
-/* A child has no segment: who publishes there ends. */
+/* What a child can do with its parent's runtime: nothing. */
+static bool is_refused(void) {
+    if (caladan_rt_submit(rt, 0, (caladan_request){caladan_rt_now(rt), 0})) return false;
+    if (!caladan_rt_is_over(rt) || caladan_rt_attach_again(rt) || errno != ECHILD) return false;
+    caladan_rt_missed(1);
+    (void)caladan_rt_stands_under(rt);
+    if (caladan_rt_processor() != -1) return false;
+    /* The task is its parent's. */
+    return caladan_rt_start(options.name, options.task, 0, NULL, NULL) == NULL && errno == EBUSY;
+}
+
 static void have_child(void) {
     int status = 0;
     pid_t child = fork();
-    if (child == 0) {
-        signal(SIGSEGV, SIG_DFL);
-        alarm(5);
-        caladan_rt_submit(rt, 0, (caladan_request){caladan_rt_now(rt), 0});
-        _exit(0);
-    }
+    if (child == 0) alarm(5), _exit(is_refused() ? 0 : 4);
     if (child < 0 || waitpid(child, &status, 0) != child) die("a child", strerror(errno));
-    if (!WIFSIGNALED(status) || WTERMSIG(status) != SIGSEGV) _exit(4);
+    if (status) _exit(4);
 }
 
 /* Where the process is to go on when the scheduler is over. */
 static bool goes_on(void) {
     if (!caladan_rt_is_over(rt)) return true;
-    if (options.after && (!strcmp(options.after, "again") || !strcmp(options.after, "seek"))) caladan_rt_attach_again(rt);
+    if (options.after && (!strcmp(options.after, "again") || !strcmp(options.after, "seek")))
+        caladan_rt_attach_again(rt);
     return options.after != NULL;
 }
 
@@ -353,11 +360,13 @@ static int best_effort(void) {
     }
     is_best = true;
     start(serve_chunk);
-    for (unsigned i = 0; i < caladan_rt_threads(rt); i++) caladan_rt_submit(rt, i, (caladan_request){caladan_rt_now(rt), i});
+    for (unsigned i = 0; i < caladan_rt_threads(rt); i++)
+        caladan_rt_submit(rt, i, (caladan_request){caladan_rt_now(rt), i});
     if (options.closes) close_range(3, ~0u, 0);
     if (options.forks) usleep(300000), have_child(); /* its threads have begun by then */
     uint64_t until = caladan_rt_now(rt) + (uint64_t)(options.seconds * 1e9);
-    if (options.after && (!strcmp(options.after, "run") || !strcmp(options.after, "seek"))) caladan_rt_after(rt, CALADAN_RT_RUN);
+    if (options.after && (!strcmp(options.after, "run") || !strcmp(options.after, "seek")))
+        caladan_rt_after(rt, CALADAN_RT_RUN);
     while (caladan_rt_now(rt) < until && goes_on()) usleep(20000);
     leave();
 }
@@ -389,12 +398,15 @@ int main(int count, char **words) {
     if (!strcmp(word, "spin")) return printf("%.2f\n", turns_of_a_microsecond()), 0;
     static const char letters[] = "n:u:k:c:x:m:q:s:i:bhagzfe:";
     for (int c; count > 1 && (c = getopt(count - 1, words + 1, letters)) != -1;) read_option(c);
-    if ((strcmp(word, "lc") && strcmp(word, "be")) || options.name == NULL) die("usage", "load spin | lc | be -n NAME -u TASK ..");
+    if ((strcmp(word, "lc") && strcmp(word, "be")) || options.name == NULL)
+        die("usage", "load spin | lc | be -n NAME -u TASK ..");
     open_claims();
     if (options.turns == 0) options.turns = turns_of_a_microsecond();
     int file = options.counter ? open(options.counter, O_RDWR | O_CREAT, 0600) : -1;
-    if (options.counter && (file < 0 || ftruncate(file, COUNTERS * sizeof(counter)))) die(options.counter, strerror(errno));
-    counters = mmap(NULL, COUNTERS * sizeof(counter), PROT_READ | PROT_WRITE, MAP_SHARED | (file < 0 ? MAP_ANONYMOUS : 0), file, 0);
+    if (options.counter && (file < 0 || ftruncate(file, COUNTERS * sizeof(counter))))
+        die(options.counter, strerror(errno));
+    counters = mmap(NULL, COUNTERS * sizeof(counter), PROT_READ | PROT_WRITE,
+                    MAP_SHARED | (file < 0 ? MAP_ANONYMOUS : 0), file, 0);
     if (counters == MAP_FAILED) die("counters", strerror(errno));
     return !strcmp(word, "lc") ? latency_critical() : best_effort();
 }

@@ -45,7 +45,8 @@ static void lie(host_slot *slot) {
         for (int i = 0; i < CALADAN_WORDS; i++) atomic_store(&slot->page.words[i], draw(&state) >> (draw(&state) % 64));
         if (draw(&state) % 4) atomic_store(&slot->page.words[RUNNING], draw(&state) % 4);
         uint64_t version = atomic_load(&slot->page.version);
-        atomic_store(&slot->page.version, draw(&state) % 8 ? version + 2 - version % 2 : draw(&state) >> (draw(&state) % 64 | 1));
+        atomic_store(&slot->page.version,
+                     draw(&state) % 8 ? version + 2 - version % 2 : draw(&state) >> (draw(&state) % 64 | 1));
         if (draw(&state) % 16 == 0) atomic_store(&slot->ring.taken, draw(&state));
         if (draw(&state) % 16 == 0) atomic_store(&slot->tid, (int32_t)draw(&state));
         usleep(draw(&state) % 64 ? 0 : 100);

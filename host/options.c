@@ -35,7 +35,8 @@ static const char USAGE[] =
     "  --policy NAME\n"
     "              the policy by which passes are made: caladan, which is the default, or assured\n"
     "  -h, --help; -V, --version\n"
-    "It listens in CALADAN_FOLDER/NAME; without that, in /run/caladan/NAME of root, in XDG_RUNTIME_DIR/caladan/NAME of others.\n";
+    "It listens in CALADAN_FOLDER/NAME; without that, in /run/caladan/NAME of root, "
+    "in XDG_RUNTIME_DIR/caladan/NAME of others.\n";
 
 static void say_and_end(const char *text) {
     fputs(text, stdout);
@@ -46,7 +47,8 @@ static uint64_t number(const char *text, uint64_t least, uint64_t most) {
     char *end;
     errno = 0;
     unsigned long long value = strtoull(text, &end, 10);
-    if (errno || *end || *text < '0' || *text > '9' || value < least || value > most) fail(text, "it is no number in range");
+    if (errno || *end || *text < '0' || *text > '9' || value < least || value > most)
+        fail(text, "it is no number in range");
     return value;
 }
 
@@ -101,15 +103,20 @@ static void read_option(options *o, int option) {
 }
 
 options read_options(int count, char **words) {
-    static const struct option longer[] = {
-        {"policy", required_argument, NULL, POLICY}, {"help", no_argument, NULL, 'h'}, {"version", no_argument, NULL, 'V'}, {0}};
+    static const struct option longer[] = {{"policy", required_argument, NULL, POLICY},
+                                           {"help", no_argument, NULL, 'h'},
+                                           {"version", no_argument, NULL, 'V'},
+                                           {0}};
     options o = {.own = -1, .mover = -1, .passes = 1000000, .bytes = 60000000};
     static const char letters[] = "n:t:c:o:m:u:s:g:y:k:w:r:p:b:hV";
     for (int c; (c = getopt_long(count, words, letters, longer, NULL)) != -1;) read_option(&o, c);
     if (optind != count) fail(words[optind], "it is no option");
-    if (o.name == NULL || o.table == NULL || o.cpus == 0) fail("usage", "caladand -n NAME -t TABLE -c CPUS [OPTION ..]; caladand --help says more");
-    if (!host_is_name(o.name)) fail("-n", "a name has 1 to 64 letters, digits, '.', '_' and '-', and no '.' at the front");
-    if (o.folder && o.patience == 0) fail("-r", "a record needs -k: a piece ends only when each thread has left its core");
+    if (o.name == NULL || o.table == NULL || o.cpus == 0)
+        fail("usage", "caladand -n NAME -t TABLE -c CPUS [OPTION ..]; caladand --help says more");
+    if (!host_is_name(o.name))
+        fail("-n", "a name has 1 to 64 letters, digits, '.', '_' and '-', and no '.' at the front");
+    if (o.folder && o.patience == 0)
+        fail("-r", "a record needs -k: a piece ends only when each thread has left its core");
     return o;
 }
 

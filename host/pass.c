@@ -195,14 +195,16 @@ void make_pass(scheduler *s) {
     uint64_t now = now_of(s), figure = bandwidth(s, now);
     note_gap(s, now);
     size_t count = s->machine.threads;
-    uint8_t answer = caladan_pass_each(&s->handle, now, figure, s->look, count, s->judged, HOST_THREADS, s->action, CALADAN_MOST_ACTIONS, &s->made);
+    uint8_t answer = caladan_pass_each(&s->handle, now, figure, s->look, count, s->judged, HOST_THREADS, s->action,
+                                       CALADAN_MOST_ACTIONS, &s->made);
     if (answer != CALADAN_DONE) fail("a pass", caladan_answer_text(answer));
     tick(s, now);
     move_cores(s, now);
     note_judged(s);
     latency_decided(&s->latency, now, s->shown, count, s->action, s->made);
     latency_looked(&s->latency, now, s->shown, count);
-    if (s->record) caladan_history_pass(record_file(s->record), true, now, figure, s->look, s->judged, count, s->action, s->made);
+    if (s->record)
+        caladan_history_pass(record_file(s->record), true, now, figure, s->look, s->judged, count, s->action, s->made);
     s->passes++;
     s->counts.passes++;
     if (s->options.wait == 0) return;

@@ -5,11 +5,11 @@
 #include <string.h>
 #include "caladand.h"
 
-#define STEP ((uint64_t)1000000)          /* the most that passes on the clock from one look to the next, in nanoseconds */
+#define STEP ((uint64_t)1000000) /* the most that passes on the clock from one look to the next, in nanoseconds */
 #define LAST ((uint64_t)1000000000)       /* how long a process that was killed may take to end */
 
-/* The scheduler's own clock goes on while it works. Where it, or the machine, stood still, that is one step: a thread that
- * could not run either loses nothing by it. */
+/* The scheduler's own clock goes on while it works. Where it, or the machine, stood still, that is one step: a thread
+ * that could not run either loses nothing by it. */
 void tick(scheduler *s, uint64_t now) {
     uint64_t step = s->options.gap > STEP ? s->options.gap : STEP;
     s->clock += now - s->ticked < step ? now - s->ticked : step;
@@ -21,20 +21,47 @@ void note_leaving(scheduler *s, size_t thread, unsigned core) {
     s->thread[thread].seat.leaving = it;
 }
 
+/* What the kernel tells of a thread in a file of that name; "" where it tells nothing. */
+static const char *told_of(pid_t pid, pid_t tid, const char *name, char text[256]) {
+    char path[64];
+    snprintf(path, sizeof path, "/proc/%d/task/%d/%s", pid, tid, name);
+    int file = open(path, O_RDONLY | O_CLOEXEC);
+    ssize_t length = file < 0 ? 0 : read(file, text, 255);
+    if (file >= 0) close(file);
+    text[length > 0 ? length : 0] = 0;
+    return text;
+}
+
+/* An honest process that is stopped from outside leaves no core either: whoever did that is to know it. */
+static const char *what_stops(const scheduler *s, const host_task *task) {
+    char text[256];
+    for (unsigned k = task->first; k < task->first + task->limit; k++) {
+        pid_t tid = atomic_load(&s->thread[k].seat.slot->tid);
+        const char *state = strrchr(told_of(task->pid, tid, "stat", text), ')');
+        if (state && (state[2] == 'T' || state[2] == 't')) return "; it is stopped, by SIGSTOP or a debugger";
+        told_of(task->pid, tid, "wchan", text);
+        if (strstr(text, "freez") || strstr(text, "refrigerator")) return "; it is frozen, as docker pause does it";
+    }
+    return "";
+}
+
 void kill_process(scheduler *s, host_task *task, const char *why) {
     if (task->file < 0 || task->killed_at) return;
     task->killed_at = s->clock + !s->clock;
+    const char *stops = what_stops(s, task);
     if (syscall(SYS_pidfd_send_signal, task->file, SIGKILL, NULL, 0) == 0) {
         s->counts.killed++;
-        complain("process %d of task %u is killed: %s", task->pid, number_of(s, task), why);
+        complain("process %d of task %u is killed: %s%s", task->pid, number_of(s, task), why, stops);
     } else if (errno != ESRCH) {
-        complain("process %d of task %u cannot be killed (%s): %s", task->pid, number_of(s, task), strerror(errno), why);
+        complain("process %d of task %u cannot be killed (%s): %s", task->pid, number_of(s, task),
+                 strerror(errno), why);
     }
 }
 
 /* What cannot be ended is waited for no longer: its cores go to others, beside whom it may still run. */
 void write_off(scheduler *s, host_task *task) {
-    complain("process %d of task %u is written off: it has not left its cores, and has not ended", task->pid, number_of(s, task));
+    complain("process %d of task %u is written off: it has not left its cores, and has not ended", task->pid,
+             number_of(s, task));
     s->counts.written_off++;
     give_up(s, task);
 }

@@ -14,7 +14,9 @@ static void set_phase(scheduler *s, uint32_t phase) {
     for (size_t k = 0; k < s->machine.threads; k++) ring_bell(s->thread[k].seat.slot);
 }
 
-bool is_piece_full(const scheduler *s) { return s->record && (s->passes >= s->options.passes || record_is_full(s->record)); }
+bool is_piece_full(const scheduler *s) {
+    return s->record && (s->passes >= s->options.passes || record_is_full(s->record));
+}
 
 /* ---- the beginning ---- */
 
@@ -105,10 +107,11 @@ static void wait_some(scheduler *s, uint64_t from) {
     for (; (now = now_of(s)) < until; tick(s, now)) host_pause();
 }
 
-/* It ends: after the patience who stays is killed, and a second later written off. Without a patience nobody is killed, and
- * what has not left in a second stays: then there is no record, and the run ends here. */
+/* It ends: after the patience who stays is killed, and a second later written off. Without a patience nobody is killed,
+ * and what has not left in a second stays: then there is no record, and the run ends here. */
 void end_piece(scheduler *s) {
-    uint64_t from = now_of(s), clock = s->clock, looks = s->looks, patience = s->options.patience ? s->options.patience : PATIENCE;
+    uint64_t from = now_of(s), clock = s->clock, looks = s->looks,
+             patience = s->options.patience ? s->options.patience : PATIENCE;
     stop_moving(s);
     s->is_closing = true;
     set_phase(s, s->phase | 1);

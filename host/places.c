@@ -37,14 +37,16 @@ static void leave_folder(void) {
 static int open_or_fail(int at, const char *path) {
     if (mkdirat(at, path, 0700) && errno != EEXIST) fail(path, strerror(errno));
     int folder = host_open_folder(at, path);
-    if (folder < 0) fail(path, errno == EPERM ? "the folder is another user's, or others may enter it" : strerror(errno));
+    if (folder < 0)
+        fail(path, errno == EPERM ? "the folder is another user's, or others may enter it" : strerror(errno));
     return folder;
 }
 
 /* A folder that was left while we opened it is not the one that others find. */
 static bool is_still_there(void) {
     struct stat opened, there;
-    return fstat(place.folder, &opened) == 0 && fstatat(place.above, place.name, &there, AT_SYMLINK_NOFOLLOW) == 0 && opened.st_ino == there.st_ino;
+    return fstat(place.folder, &opened) == 0 && fstatat(place.above, place.name, &there, AT_SYMLINK_NOFOLLOW) == 0 &&
+           opened.st_ino == there.st_ino;
 }
 
 void take_folder(scheduler *s) {
@@ -53,7 +55,8 @@ void take_folder(scheduler *s) {
     place.name = s->options.name;
     place.above = open_or_fail(AT_FDCWD, base);
     place.folder = open_or_fail(place.above, place.name);
-    if (flock(place.folder, LOCK_EX | LOCK_NB) || !is_still_there()) fail(place.name, "another scheduler has this name");
+    if (flock(place.folder, LOCK_EX | LOCK_NB) || !is_still_there())
+        fail(place.name, "another scheduler has this name");
     atexit(leave_folder);
     empty_folder();
     s->folder = place.folder;
@@ -115,8 +118,7 @@ void take_processors(scheduler *s) {
         if (CPU_COUNT(&allowed) > 1) CPU_CLR((size_t)o->own, &allowed);
     }
     s->others = allowed;
-    if (CPU_COUNT(&own) == 0) complain("no processor is left for the scheduler: it runs on those that it manages");
-    else if (sched_setaffinity(0, sizeof own, &own)) fail("-o", strerror(errno));
+    if (CPU_COUNT(&own) && sched_setaffinity(0, sizeof own, &own)) fail("-o", strerror(errno));
     atexit(unlock_processors);
     for (unsigned i = 0; i < o->cpus; i++) lock_processor(o->cpu[i]);
 }
@@ -131,6 +133,7 @@ void tell_ready(void) {
     if (*to == '@') address.sun_path[0] = 0;
     int out = socket(AF_UNIX, SOCK_DGRAM | SOCK_CLOEXEC, 0);
     if (out < 0) return;
-    sendto(out, "READY=1", 7, MSG_NOSIGNAL, (struct sockaddr *)&address, (socklen_t)(offsetof(struct sockaddr_un, sun_path) + strlen(to)));
+    sendto(out, "READY=1", 7, MSG_NOSIGNAL, (struct sockaddr *)&address,
+           (socklen_t)(offsetof(struct sockaddr_un, sun_path) + strlen(to)));
     close(out);
 }

@@ -1,5 +1,5 @@
-/* record.c: two buffers: passes write a piece into one of them, while a clerk writes it to its file, and the piece before
- * it from the other. */
+/* record.c: two buffers: passes write a piece into one of them, while a clerk writes it to its file, and the piece
+ * before it from the other. */
 #define _GNU_SOURCE
 #include "record.h"
 #include <errno.h>
@@ -55,7 +55,8 @@ static void make_folder(record *r, const char *folder, const char *name) {
     int above = open(folder, O_RDONLY | O_DIRECTORY | O_CLOEXEC), made = -1;
     if (above < 0) fail(folder, strerror(errno));
     for (unsigned i = 1; made; i++) {
-        if (snprintf(r->path, sizeof r->path, "%s/%s-%u", folder, name, i) >= (int)sizeof r->path) fail(folder, "the path is too long");
+        if (snprintf(r->path, sizeof r->path, "%s/%s-%u", folder, name, i) >= (int)sizeof r->path)
+            fail(folder, "the path is too long");
         made = mkdirat(above, r->path + strlen(folder) + 1, 0700);
         if (made && errno != EEXIST) fail(r->path, strerror(errno));
     }
@@ -78,14 +79,18 @@ static ssize_t into_memory(void *to, const char *from, size_t length) {
 static void make_buffer(record *r, piece *it) {
     static const cookie_io_functions_t functions = {.write = into_memory};
     it->of = r;
-    it->room = mmap(NULL, r->size, PROT_READ | PROT_WRITE, MAP_PRIVATE | MAP_ANONYMOUS | MAP_POPULATE, -1, 0); /* no pass is to wait for memory */
+    /* MAP_POPULATE: no pass is to wait for memory */
+    it->room = mmap(NULL, r->size, PROT_READ | PROT_WRITE, MAP_PRIVATE | MAP_ANONYMOUS | MAP_POPULATE, -1, 0);
     it->out = fopencookie(it, "w", functions);
-    if (it->room == MAP_FAILED || it->out == NULL || setvbuf(it->out, NULL, _IOFBF, 1 << 16)) fail("-r", strerror(ENOMEM));
+    if (it->room == MAP_FAILED || it->out == NULL || setvbuf(it->out, NULL, _IOFBF, 1 << 16))
+        fail("-r", strerror(ENOMEM));
 }
 
 /* ---- its clerk ---- */
 
-static void name_of(uint64_t number, const char *end, char name[64]) { snprintf(name, 64, "piece-%06llu%s", (unsigned long long)number, end); }
+static void name_of(uint64_t number, const char *end, char name[64]) {
+    snprintf(name, 64, "piece-%06llu%s", (unsigned long long)number, end);
+}
 
 static void wait_a_while(record *r) {
     struct timespec until;
@@ -151,8 +156,10 @@ static void write_pieces(void *with) {
 
 /* ---- what passes see of it ---- */
 
-record *record_open(const char *folder, const char *name, const char *table, uint64_t bytes, unsigned threads, const cpu_set_t *writers) {
-    uint64_t pass = ROW + (uint64_t)threads * ROW + CALADAN_MOST_ACTIONS * ACTION, end = ROW + (RECORD_END_PASSES + 1) * pass;
+record *record_open(const char *folder, const char *name, const char *table, uint64_t bytes, unsigned threads,
+                    const cpu_set_t *writers) {
+    uint64_t pass = ROW + (uint64_t)threads * ROW + CALADAN_MOST_ACTIONS * ACTION,
+             end = ROW + (RECORD_END_PASSES + 1) * pass;
     uint64_t most = RECORD_MOST - strlen(table) - end;
     record *r = &the_record;
     r->full = bytes < most ? bytes : most;

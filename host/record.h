@@ -1,6 +1,6 @@
-/* record.h: the record of a run, in pieces, each a file. A piece is a stream into memory, and a thread writes what is new
- * to the file, so that no pass waits for a disk: the next piece begins at once, in a second buffer. What could not be
- * written, or not before the piece after the next began, ends the record, and not the run. */
+/* record.h: the record of a run, in pieces, each a file. A piece is a stream into memory, and a thread writes what is
+ * new to the file, so that no pass waits for a disk: the next piece begins at once, in a second buffer. What could not
+ * be written, or not before the piece after the next began, ends the record, and not the run. */
 #ifndef RECORD_H
 #define RECORD_H
 #include <sched.h>
@@ -13,10 +13,11 @@ enum { RECORD_END_PASSES = 256 };       /* the most passes while a piece ends */
 
 typedef struct record record;
 
-/* A record in a new folder of its own in `folder`, NAME-1 or the first number that is free, with the table in it. `bytes`: about
- * the most of a piece, for passes of so many threads; what writes runs on the processors `writers`, if there are any. Ends the process where it
- * cannot be begun. */
-record *record_open(const char *folder, const char *name, const char *table, uint64_t bytes, unsigned threads, const cpu_set_t *writers);
+/* A record in a new folder of its own in `folder`, NAME-1 or the first number that is free, with the table in it.
+ * `bytes`: about the most of a piece, for passes of so many threads; what writes runs on the processors `writers`, if
+ * there are any. Ends the process where it cannot be begun. */
+record *record_open(const char *folder, const char *name, const char *table, uint64_t bytes, unsigned threads,
+                    const cpu_set_t *writers);
 const char *record_path(const record *r);
 FILE *record_file(record *r);
 bool record_is_full(const record *r);
@@ -24,5 +25,6 @@ bool record_is_full(const record *r);
 bool record_begin_piece(record *r, uint64_t number);
 bool record_end_piece(record *r, uint64_t passes);
 bool record_keeps_up(record *r);
-void record_close(void); /* waits until all whole pieces are written, also of a record that has ended before; some seconds at most */
+/* Waits until all whole pieces are written, also of a record that has ended before; some seconds at most. */
+void record_close(void);
 #endif

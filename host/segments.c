@@ -15,7 +15,8 @@ static host_segment *share(host_task *task) {
     host_segment *segment = MAP_FAILED;
     if (ftruncate(task->memory, (off_t)size) == 0 && fcntl(task->memory, F_ADD_SEALS, HOST_SEALS) == 0)
         segment = mmap(NULL, size, PROT_READ | PROT_WRITE, MAP_SHARED | MAP_POPULATE, task->memory, 0);
-    if (segment != MAP_FAILED) return mlock(segment, size), segment; /* where it may not be, it is in memory as long as it is looked at */
+    /* Where it may not be locked, it is in memory as long as it is looked at. */
+    if (segment != MAP_FAILED) return mlock(segment, size), segment;
     close(task->memory);
     task->memory = -1;
     return NULL;

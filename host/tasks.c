@@ -10,7 +10,8 @@
 #ifndef SO_PEERPIDFD
 #define SO_PEERPIDFD 77
 #endif
-#define GREETING ((uint64_t)4000000000) /* how long who connects may take to say who it is, and that it has mapped its segment */
+/* How long who connects may take to say who it is, and that it has mapped its segment. */
+#define GREETING ((uint64_t)4000000000)
 #define MANNERS ((uint64_t)100000000)   /* and to say who it is, where others wait */
 
 unsigned number_of(const scheduler *s, const host_task *task) { return (unsigned)(task - s->task); }
@@ -42,7 +43,8 @@ static int listen_for(const scheduler *s, unsigned t) {
     int on = 1, listener = socket(AF_UNIX, SOCK_SEQPACKET | SOCK_CLOEXEC | SOCK_NONBLOCK, 0);
     snprintf(name, sizeof name, "task-%u", t);
     if (listener < 0 || bind(listener, (struct sockaddr *)&address, length)) fail(name, strerror(errno));
-    if (setsockopt(listener, SOL_SOCKET, SO_PASSCRED, &on, sizeof on) || listen(listener, HOST_GUESTS)) fail(name, strerror(errno));
+    if (setsockopt(listener, SOL_SOCKET, SO_PASSCRED, &on, sizeof on) || listen(listener, HOST_GUESTS))
+        fail(name, strerror(errno));
     if (!watch(s, &s->task[t], listener)) fail(name, strerror(errno));
     return listener;
 }
@@ -101,14 +103,15 @@ static void answer(int connection, uint32_t status, int file) {
     struct msghdr message = {.msg_iov = &part, .msg_iovlen = 1};
     if (status == HOST_DONE) {
         message.msg_control = &control, message.msg_controllen = sizeof control;
-        control.head = (struct cmsghdr){.cmsg_level = SOL_SOCKET, .cmsg_type = SCM_RIGHTS, .cmsg_len = CMSG_LEN(sizeof file)};
+        control.head =
+            (struct cmsghdr){.cmsg_level = SOL_SOCKET, .cmsg_type = SCM_RIGHTS, .cmsg_len = CMSG_LEN(sizeof file)};
         memcpy(CMSG_DATA(&control.head), &file, sizeof file);
     }
     sendmsg(connection, &message, MSG_NOSIGNAL | MSG_DONTWAIT);
 }
 
-/* What came: 1, a word, of the process that the kernel says sent it; 0, nothing yet; -1, the connection is closed, or what
- * came is no word. */
+/* What came: 1, a word, of the process that the kernel says sent it; 0, nothing yet; -1, the connection is closed, or
+ * what came is no word. */
 static int hear(int connection, host_word *word, pid_t *sender) {
     union {
         struct cmsghdr head;
@@ -116,11 +119,13 @@ static int hear(int connection, host_word *word, pid_t *sender) {
     } control;
     struct ucred from = {0, 0, 0};
     struct iovec part = {word, sizeof *word};
-    struct msghdr message = {.msg_iov = &part, .msg_iovlen = 1, .msg_control = &control, .msg_controllen = sizeof control};
+    struct msghdr message = {
+        .msg_iov = &part, .msg_iovlen = 1, .msg_control = &control, .msg_controllen = sizeof control};
     ssize_t got = recvmsg(connection, &message, MSG_DONTWAIT | MSG_CMSG_CLOEXEC);
     if (got < 0) return errno == EAGAIN || errno == EINTR ? 0 : -1;
     struct cmsghdr *head = CMSG_FIRSTHDR(&message);
-    if (head && head->cmsg_level == SOL_SOCKET && head->cmsg_type == SCM_CREDENTIALS && head->cmsg_len == CMSG_LEN(sizeof from))
+    if (head && head->cmsg_level == SOL_SOCKET && head->cmsg_type == SCM_CREDENTIALS &&
+        head->cmsg_len == CMSG_LEN(sizeof from))
         memcpy(&from, CMSG_DATA(head), sizeof from);
     *sender = from.pid;
     return got == sizeof *word ? 1 : -1;
@@ -128,8 +133,8 @@ static int hear(int connection, host_word *word, pid_t *sender) {
 
 /* ---- who attaches ---- */
 
-/* The process at the other end, as the kernel knows it, not as it says. An older kernel knows it by its number alone: that
- * it is still the same process is seen when it says that it has mapped its segment. */
+/* The process at the other end, as the kernel knows it, not as it says. An older kernel knows it by its number alone:
+ * that it is still the same process is seen when it says that it has mapped its segment. */
 static int file_of_peer(int connection, pid_t pid) {
     int file = -1;
     socklen_t length = sizeof file;
@@ -141,7 +146,8 @@ static int file_of_peer(int connection, pid_t pid) {
 static bool have_rights(int file, pid_t pid) {
     cpu_set_t cpus;
     if (syscall(SYS_pidfd_send_signal, file, 0, NULL, 0)) return false;
-    return sched_getaffinity(pid, sizeof cpus, &cpus) == 0 && (sched_setaffinity(pid, sizeof cpus, &cpus) == 0 || errno != EPERM);
+    return sched_getaffinity(pid, sizeof cpus, &cpus) == 0 &&
+           (sched_setaffinity(pid, sizeof cpus, &cpus) == 0 || errno != EPERM);
 }
 
 static uint32_t judge(const host_task *task, int connection, const host_word *word, pid_t sender, struct ucred *peer) {
@@ -218,13 +224,15 @@ static void hear_owner(scheduler *s, host_task *task) {
     int heard = hear(task->connection, &word, &sender);
     bool is_late = !task->is_attached && s->clock - task->handed_at >= GREETING;
     if (heard == 0 && !is_late) return;
-    if (heard > 0 && word.word == HOST_MAPPED && sender == task->pid && !task->is_attached && !has_ended(task) && close_segment(task)) {
+    if (heard > 0 && word.word == HOST_MAPPED && sender == task->pid && !task->is_attached && !has_ended(task) &&
+        close_segment(task)) {
         task->is_attached = true;
         s->counts.attached++;
         return;
     }
     if (has_ended(task)) return bury(s, task);
-    s->counts.given_up += task->is_attached; /* a process that is ending closes its connection first, and may count here */
+    /* A process that is ending closes its connection first, and may count here. */
+    s->counts.given_up += task->is_attached;
     give_up(s, task);
 }
 

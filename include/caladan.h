@@ -1,43 +1,41 @@
 /* caladan.h: the decisions of a core scheduler, proved, for C.
  *
- * A scheduler is opened for a task table. Each pass is given what was found of each kernel thread, and
- * answers what the scheduler is to do: free, ban, revoke and grant cores. docs/POLICY.md says what a
- * pass is. Link with libcaladan_c.a and the heap that Rattle programs use (liblibc_c.a of the kit).
+ * You open a scheduler for a task table. You give each pass a look at each kernel thread, and it answers what
+ * the scheduler must do: free, ban, revoke and grant cores. docs/POLICY.md says what a pass is. Link with
+ * libcaladan_c.a and the heap that Rattle programs use (liblibc_c.a of the kit).
  *
- * What each call answers is proved, by the function of its name (crates/caladan_c/src/lib.rt and
- * src/exports). Behind each promise stands in brackets what carries it: [a name] is a clause of that
- * function, [law a name] a law of the crates below, [tested] says that only tests do, by tools/c_library,
- * and [not proved] that nothing does. docs/PROMISES.md has them all. Nothing checks what a caller in C
- * owes:
- *  - A handle begins as CALADAN_CLOSED and is only changed by these calls. It is not copied to be used
- *    twice, and nobody reads or writes what it points to. One call at a time on a handle. It may move from
- *    one thread to another, as from the one that reads a table to the one that polls, where they give it to
- *    each other in order: each call ends before the next begins, as a mutex, a join or a release store and
- *    an acquire load of it make sure. What is proved is proved of one thread, and calls in such an order are
- *    those of one thread: the library keeps nothing but what the handle points to, in no thread's own
- *    storage and no static one [tested: neither is in the archive], and what one thread allocated another
- *    may free (malloc, below). Calls on different handles may be made at the same time.
- *  - The three kinds of handles have types of their own. A call that is given one of another kind all the
- *    same, by a cast, answers as of a closed one [closed, already] and changes nothing [same, refused,
- *    unchanged, other]; to open in it is IS_OPEN [already].
+ * The answers of each call are proved, for the function of the same name (crates/caladan_c/src/lib.rt and
+ * src/exports). The brackets after a promise say what supports it: [a name] is a clause of that function,
+ * [law a name] a law of the crates below, [tested] means only tests, by tools/c_library, and [not proved]
+ * means nothing. docs/PROMISES.md has them all. Comments name answers without CALADAN_: DONE is CALADAN_DONE.
+ * Nothing checks what a caller in C owes:
+ *  - A handle begins as CALADAN_CLOSED, and only these calls change it. Do not use two copies of it, and do
+ *    not read or write what it points to. Make one call at a time on a handle. It may move from one thread to
+ *    another, as from the one that reads a table to the one that polls, if each call ends before the next
+ *    begins: by a mutex, a join, or a release store and an acquire load. The proofs are about one thread, and
+ *    calls in such an order are those of one thread: the library keeps nothing but what the handle points to,
+ *    in no thread-local and no static storage [tested: neither is in the archive], and another thread may
+ *    free what one allocated (malloc, below). Calls on different handles may run at the same time.
+ *  - The three kinds of handles have their own types. A call that still gets one of another kind, by a cast,
+ *    answers as for a closed one [closed, already] and changes nothing [same, refused, unchanged, other];
+ *    opening it answers IS_OPEN [already].
  *  - Pointers are aligned, and have room for as many elements as the number after them says. They are not
- *    null, but where that number is 0. No two arguments overlap, but for those that are only read (const).
- *  - malloc, realloc and free are of one allocator, which threads may share where a handle moves or several
- *    are used, and blocks are aligned to each power of two up to 16 that divides their size. No call comes
+ *    null, unless that number is 0. No two arguments overlap, except those that are only read (const).
+ *  - malloc, realloc and free belong to one allocator, which threads may share if a handle moves or you use
+ *    several, and blocks are aligned to each power of two up to 16 that divides their size. No call comes
  *    from a signal handler, nor from the forked child of a process with threads.
  *
- * To serve processes that you do not trust, make passes by caladan_pass_each: whatever one of them shows,
- * the others are served. What lies in a process's own memory (its page, its ring) is what that process
- * says, and no more: how many commands were sent, and so how much room a ring has, you know yourself
- * (caladan_thread).
+ * To serve processes that you do not trust, make passes by caladan_pass_each: whatever one of them shows, it
+ * serves the others. Memory that a process can write (its page, its ring) has only what that process claims.
+ * You know yourself how many commands were sent, and so how much room a ring has (caladan_thread).
  *
- * Within a version nothing here changes that a compiled program sees: no call, layout or number. What may
- * change are the words of the texts and how fast a call answers. A higher version may have more calls,
- * numbers and fields, and says so here; the soname of libcaladan_c.so has the version.
+ * Within a version nothing changes that a compiled program sees: no call, layout or number. The words of the
+ * texts and the speed of a call may change. A higher version may have more calls, numbers and fields, and
+ * says so here; the soname of libcaladan_c.so has the version.
  *
- * Since version 3: a handle may move from one thread to another, and one of another kind is taken for a closed
- * one. New are tables of rows (caladan_open_rows, and the same of a guard and an audit), what a policy of your
- * own chooses by (caladan_guard_judge, caladan_guard_kept, caladan_guard_ban, caladan_guard_last), caladan_kept,
+ * Since version 3: a handle may move from one thread to another, and one of another kind counts as closed.
+ * New are tables of rows (caladan_open_rows, and the same of a guard and an audit), facts for a policy of
+ * your own (caladan_guard_judge, caladan_guard_kept, caladan_guard_ban, caladan_guard_last), caladan_kept,
  * caladan_next_clock, and policies by number (caladan_open_policy, caladan_audit_open_policy,
  * CALADAN_POLICY_CALADAN and CALADAN_POLICY_ASSURED, the answer CALADAN_NO_POLICY).
  * Since version 2: no pass answers CALADAN_NO_MEMORY any more, and a core may be given as any number, also
@@ -45,8 +43,8 @@
  * caladan_look_set_words) and CALADAN_IS_THIS_VERSION.
  * Since version 1: nothing that was there has changed. New are caladan_pass_each, caladan_first_unfit,
  * caladan_table, caladan_table_task, caladan_thread, caladan_gone and caladan_revoked, the same of a guard
- * (caladan_guard_pass_each and so on), the judgements from CALADAN_NO_PAIR on, the answer CALADAN_LOST,
- * the texts, CALADAN_HISTORY_HEADER, CALADAN_MOST_CORES and CALADAN_MOST_THREADS.
+ * (caladan_guard_pass_each and so on), the judgements from CALADAN_NO_PAIR on, the answer CALADAN_LOST, the
+ * texts, CALADAN_HISTORY_HEADER, CALADAN_MOST_CORES and CALADAN_MOST_THREADS.
  */
 #ifndef CALADAN_H
 #define CALADAN_H
@@ -59,14 +57,14 @@
 extern "C" {
 #endif
 
-/* The version of this interface, which caladan_version answers. Whether the library that a program is linked
- * with has it, so that what this header says is said of that library: */
+/* The version of this interface, which caladan_version answers; and whether the linked library has it, so
+ * that this header is about that library. */
 #define CALADAN_VERSION 4
 #define CALADAN_IS_THIS_VERSION() (caladan_version() == CALADAN_VERSION)
 
-/* What the library takes each struct to be, in bytes: its size, and the place of each field. A compiler for
- * which it is another one refuses this header. clients/c/layout_test.c sees that the library writes and
- * reads at these places, and the Python module and the Rust crate are compared with these very lines. */
+/* The layout that the library expects of each struct, in bytes: its size, and the place of each field. A
+ * compiler with another layout refuses this header. clients/c/layout_test.c tests that the library writes and
+ * reads at these places, and scripts compare the Python module and the Rust crate with these very lines. */
 #ifdef __cplusplus
 #define CALADAN_SAME(is, why) static_assert(is, why)
 #else
@@ -83,8 +81,8 @@ extern "C" {
 #define CALADAN_MOST_THREADS 128
 #define CALADAN_MOST_ACTIONS 338
 
-/* What a call answers. Up to CALADAN_TOO_MANY_THREADS it is the first fault of a table; 12 is unused.
- * A pass answers none but those that are named at it [own]. */
+/* A call's answer. Up to CALADAN_TOO_MANY_THREADS it is the first fault of a table; 12 is unused. A pass
+ * answers only those named at it [own]. */
 enum {
     CALADAN_DONE = 0,
     CALADAN_NOT_TOML = 1,
@@ -110,9 +108,9 @@ enum {
     CALADAN_NO_POLICY = 22    /* no policy has this number */
 };
 
-/* The policies, by which passes are made and audited (docs/POLICY.md). The calls that name none go by
- * CALADAN_POLICY_CALADAN [opened]. By CALADAN_POLICY_ASSURED a latency-critical task that goes on waiting below
- * its guarantee is granted a core (docs/POLICY.md says when). */
+/* The policies for passes and audits (docs/POLICY.md). Calls that name none take CALADAN_POLICY_CALADAN
+ * [opened]. By CALADAN_POLICY_ASSURED a latency-critical task that goes on waiting below its guarantee is
+ * granted a core (docs/POLICY.md says when). */
 enum { CALADAN_POLICY_CALADAN = 0, CALADAN_POLICY_ASSURED = 1 };
 
 /* A scheduler, or nothing. */
@@ -129,7 +127,7 @@ CALADAN_PLACE(caladan, at, 8);
 #define CALADAN_CLOSED ((caladan){false, NULL})
 #endif
 
-/* What the look at one thread's page found, and whether the thread's command ring had room. */
+/* A look at one thread's page, and whether the thread's command ring had room. */
 typedef struct caladan_look {
     uint8_t busy;    /* not 0: no record, number and second are the two versions that were loaded */
     uint8_t room;    /* not 0: the ring had room */
@@ -169,16 +167,16 @@ static inline void caladan_look_words(const caladan_look *look, uint64_t words[C
     memcpy(words, (const char *)look + offsetof(caladan_look, taken), CALADAN_WORDS * sizeof(uint64_t));
 }
 
-/* Gives a look these words; what else it says is as before [tested]. */
+/* Gives a look these words; the rest of it stays [tested]. */
 static inline void caladan_look_set_words(caladan_look *look, const uint64_t words[CALADAN_WORDS]) {
     memcpy((char *)look + offsetof(caladan_look, taken), words, CALADAN_WORDS * sizeof(uint64_t));
 }
 
-/* What was judged of a look. A record that is ahead (it acknowledges more commands than were sent) or
- * foreign (it shows its thread on a core that the thread was not given) is not kept. The judgements above
- * CALADAN_BUSY say why caladan_pass_each refused a look; those from CALADAN_NO_PAIR on are of looks that
- * caladan_pass answers UNFIT to, and nothing else writes them. 'Last' is the last record that a pass
- * was shown of the thread and did not refuse; before any it is the zero record at place 0. */
+/* The judgement of a look. No pass keeps a record that is ahead (it acknowledges more commands than were
+ * sent) or foreign (it shows its thread on a core that the thread was not given). The judgements above
+ * CALADAN_BUSY say why caladan_pass_each refused a look. Those from CALADAN_NO_PAIR on are for looks to which
+ * caladan_pass answers UNFIT; no other call writes them. 'Last' is the last record of the thread that a pass
+ * saw and did not refuse; before any, the zero record at place 0. */
 enum {
     CALADAN_KEPT = 1,
     CALADAN_BUSY = 2,
@@ -203,7 +201,7 @@ enum {
 };
 enum { CALADAN_FOR_BAN = 1, CALADAN_FOR_BANDWIDTH = 2, CALADAN_FOR_TASK = 3 };
 
-/* One action of a pass. What its kind does not name is 0. */
+/* One action of a pass. Fields that its kind does not use are 0. */
 typedef struct caladan_action {
     uint8_t kind;
     uint8_t core;
@@ -259,9 +257,9 @@ uint32_t caladan_version(void);
  * before [refused]. Takes all the memory that passes need [not proved]. */
 uint8_t caladan_open(const uint8_t *table, size_t length, caladan *handle);
 
-/* The same for passes by the policy of a number, CALADAN_POLICY_..: all that is said below of the policy and of
- * legal histories is said of that one [opened]. NO_POLICY of a number that no policy has [no_policy], whatever
- * the table; IS_OPEN of an open handle, whatever the number [already]. Unless DONE the handle is as before
+/* The same for passes by the policy with a number, CALADAN_POLICY_..: below, the policy and legal histories
+ * are then those of that policy [opened]. NO_POLICY for a number that no policy has [no_policy], whatever the
+ * table; IS_OPEN for an open handle, whatever the number [already]. Unless DONE the handle is as before
  * [refused]. */
 uint8_t caladan_open_policy(const uint8_t *table, size_t length, uint32_t policy, caladan *handle);
 
@@ -274,27 +272,27 @@ uint64_t caladan_bandwidth_limit(caladan *handle);
 
 /* The next pass. looks: one for each thread, in thread order. judged: room for as many. actions: room
  * for CALADAN_MOST_ACTIONS. DONE: the actions are what the policy does on these looks after all passes
- * before, and that history is legal [passed]; of each look it says what was judged [judged]. UNFIT: a look
- * does not fit [unfit]. WRONG_COUNT exactly where there is not one look for each thread [wrong_count], else
- * NO_ROOM exactly where one of the rooms is too little [no_room], else DONE or UNFIT [answers]; of a closed
- * handle IS_CLOSED [closed]; no other number, so no pass is ever out of memory [own]. now and bandwidth may be
- * any numbers [answers], now also one below that of the pass before: what came later than now has waited for
- * no time, and a request that began later runs for none [passed]. Unless DONE nothing has changed, but that
- * *made is 0 [refused]. */
+ * before, and that history is legal [passed]; judged has the judgement of each look [judged]. UNFIT: a look
+ * does not fit [unfit]. WRONG_COUNT exactly if there is not one look for each thread [wrong_count], else
+ * NO_ROOM exactly if one of the rooms is too small [no_room], else DONE or UNFIT [answers]; for a closed
+ * handle IS_CLOSED [closed]; no other number, so no pass is ever out of memory [own]. now and bandwidth may
+ * be any numbers [answers], now even below that of the last pass: a request that comes after now has waited
+ * 0, and one that began after now has run for 0 [passed]. Unless DONE, nothing changes except that *made is 0
+ * [refused]. */
 uint8_t caladan_pass(caladan *handle, uint64_t now, uint64_t bandwidth, const caladan_look *looks, size_t count,
                      uint8_t *judged, size_t judged_room, caladan_action *actions, size_t room, size_t *made);
 
-/* The next pass, each look by itself: caladan_pass, but that a look which is unfit, ahead or foreign
- * [law only_faults_are_refused] is refused, and the busy look of versions 1 and 1 is taken in its place (of
- * a page on which the first record is being written: it fits whatever the thread has shown
- * [law taken_input_fits]); it is the policy's pass on the looks so changed [passed]. Never UNFIT [answers].
- * What is judged of each look says whether it was taken as it is (KEPT, BUSY) or why it was refused
- * [judged]. The other threads' looks [law others_count_as_given] and all rooms [law rooms_count_as_given]
- * count as they are given. A refused look leaves no trace: what the thread has shown last and its kept
- * record are as before, so its next record, or its successor's, counts as if the refused one had never been
- * [law refused_leaves_no_trace]. A history of such passes is legal [passed]; recorded are the looks that
- * were taken: caladan_taken makes them, and the judgement to be recorded of a refused one is CALADAN_BUSY
- * [tested]. Other answers are as those of caladan_pass [wrong_count, no_room, closed, own, refused]. */
+/* The next pass, each look by itself: as caladan_pass, but it refuses a look that is unfit, ahead or foreign
+ * [law only_faults_are_refused], and takes the busy look of versions 1 and 1 in its place (that of a page on
+ * which the first record is being written: it fits whatever the thread has shown [law taken_input_fits]). It
+ * is the policy's pass on the looks so changed [passed]. Never UNFIT [answers]. The judgement of each look
+ * says whether it was taken as it is (KEPT, BUSY) or why it was refused [judged]. The other threads' looks
+ * [law others_count_as_given] and all rooms [law rooms_count_as_given] count as given. A refused look leaves
+ * no trace: the thread's last shown and kept records stay, so its next record, or its successor's, counts as
+ * if there had been no refused one [law refused_leaves_no_trace]. A history of such passes is legal [passed].
+ * Record the looks that were taken: caladan_taken makes them; the judgement to record for a refused one is
+ * CALADAN_BUSY [tested]. Other answers are as those of caladan_pass [wrong_count, no_room, closed, own,
+ * refused]. */
 uint8_t caladan_pass_each(caladan *handle, uint64_t now, uint64_t bandwidth, const caladan_look *looks, size_t count,
                           uint8_t *judged, size_t judged_room, caladan_action *actions, size_t room, size_t *made);
 
@@ -341,9 +339,9 @@ CALADAN_PLACE(caladan_table_row, request, 16);
 uint8_t caladan_table_task(caladan *handle, size_t task, caladan_table_row *row);
 
 /* A thread after the passes so far: DONE [told] exactly of one that the table has [there], else NO_SUCH
- * [no_thread]; IS_CLOSED [closed]. Unless DONE *state is as before [refused]. Nothing changes [same]. The
- * room of its ring is CALADAN_PLACES less sent - taken: no word of the ring itself is needed for it, or to
- * be believed. */
+ * [no_thread]; IS_CLOSED [closed]. Unless DONE *state is as before [refused]. Nothing changes [same]. Its
+ * ring has room for CALADAN_PLACES (caladan_pages.h: 4) less (sent - taken) commands: you need not read the
+ * ring itself, nor believe it. */
 typedef struct caladan_thread_state {
     uint8_t task;   /* whose thread it is */
     uint64_t sent;  /* commands that the passes sent to it (at most 2^64 - 1 is told) */
@@ -355,27 +353,26 @@ CALADAN_PLACE(caladan_thread_state, sent, 8);
 CALADAN_PLACE(caladan_thread_state, taken, 16);
 uint8_t caladan_thread(caladan *handle, size_t thread, caladan_thread_state *state);
 
-/* The kept record of a thread after the passes so far, by which the next pass decides unless its look is
- * kept: as a look with these words, in which all else is 0; before any the words are 0 too [told]. DONE
- * exactly of a thread that the table has [there], else NO_SUCH [no_thread]; IS_CLOSED [closed]. Unless DONE
- * *look is as before [refused]. Nothing changes [same]. */
+/* The kept record of a thread after the passes so far, by which the next pass decides unless it keeps
+ * another: as a look with these words, all else 0; before any record the words are 0 too [told]. DONE exactly
+ * of a thread that the table has [there], else NO_SUCH [no_thread]; IS_CLOSED [closed]. Unless DONE *look is
+ * as before [refused]. Nothing changes [same]. */
 uint8_t caladan_kept(caladan *handle, size_t thread, caladan_look *look);
 
-/* What the page of a thread must show once the thread is gone, as a look without room: it has taken what
- * was sent, is on no core and has no request; misses and stamp are those that it showed last; its place is the
- * one after the last [told]. The host publishes it on the page, or gives the look itself to the next pass.
- * It fits, it is kept [told; law gone_is_kept], and that pass frees each core that the thread holds or
- * leaves [told; law gone_frees_its_cores]. Give its thread a look without room in each later pass too, until
- * its page has a successor: no pass sends a thread without room anything, so none grants it a core
- * [law commands_go_where_is_room]; with room it may have a core again at once. LOST: no page can show it,
- * because the thread has shown more commands taken than were sent (only caladan_pass lets it), or a number
- * is at its end [lost]. Of a thread of the table DONE or LOST [there], else NO_SUCH [no_thread]; IS_CLOSED
- * [closed]. Unless DONE *look is as before [refused]. Nothing changes [same]; it is good for the next pass
- * only. */
+/* The record that a thread's page must show once the thread is gone, as a look without room: it has taken all
+ * that was sent, is on no core and has no request; misses and stamp are the last shown; its place is the one
+ * after the last [told]. Publish it on the page, or give the look itself to the next pass. It fits and is
+ * kept [told; law gone_is_kept], and that pass frees each core that the thread holds or leaves [told; law
+ * gone_frees_its_cores]. Give its thread a look without room in each later pass too, until its page has a
+ * successor: no pass sends anything to a thread without room, so none grants it a core [law
+ * commands_go_where_is_room]; with room it may get a core again at once. LOST: no page can show it, because
+ * the thread showed more commands taken than were sent (only caladan_pass lets it), or a number is at its end
+ * [lost]. Of a thread of the table DONE or LOST [there], else NO_SUCH [no_thread]; IS_CLOSED [closed]. Unless
+ * DONE *look is as before [refused]. Nothing changes [same]; the look is good only for the next pass. */
 uint8_t caladan_gone(caladan *handle, size_t thread, caladan_look *look);
 
-/* A core's number as a byte: one that does not fit is 255, which no table has. The calls below take any number for
- * it, so that 256 is not core 0. */
+/* A core's number as a byte; 255, which no table has, for a number that does not fit. The calls below take
+ * any number, so that 256 is not core 0. */
 static inline uint8_t caladan_core(size_t core) { return core < UINT8_MAX ? (uint8_t)core : UINT8_MAX; }
 
 /* Who has a core after the passes so far: DONE [told] exactly of one that the table has [there], else
@@ -389,8 +386,8 @@ uint8_t caladan_holder(caladan *handle, uint8_t core, caladan_holder_of_core *ho
  * [same]. */
 uint8_t caladan_task(caladan *handle, size_t task, caladan_counts *counts);
 
-/* The thread that is to be sent Park, of a core that the last pass revokes: it is the one that is told
- * to leave it. DONE, IS_CLOSED, or NO_SUCH where nobody is told to leave the core [tested]. */
+/* The thread to which you must send Park, for a core that the last pass revokes. DONE, IS_CLOSED, or NO_SUCH
+ * if no thread is told to leave the core [tested]. */
 static inline uint8_t caladan_revoked(caladan *handle, size_t core, uint8_t *thread) {
     caladan_holder_of_core holder;
     uint8_t answer = caladan_holder(handle, core, &holder);
@@ -400,7 +397,7 @@ static inline uint8_t caladan_revoked(caladan *handle, size_t core, uint8_t *thr
     return CALADAN_DONE;
 }
 
-/* The look that caladan_pass_each took, of the one that it was given and what it judged of it [tested]. */
+/* The look that caladan_pass_each took, from the given look and its judgement [tested]. */
 static inline caladan_look caladan_taken(const caladan_look *look, uint8_t judged) {
     caladan_look taken = *look;
     if (judged > CALADAN_BUSY) {
@@ -415,14 +412,15 @@ static inline caladan_look caladan_taken(const caladan_look *look, uint8_t judge
 uint8_t caladan_close(caladan *handle);
 
 /* A table from rows instead of a text. Each row is as caladan_table_task tells it; first_thread is not read.
- * What is here writes the text of the rows and opens that: none of it is proved, tools/c_library tests it. */
+ * These functions write the text of the rows and open that: nothing of it is proved, tools/c_library tests
+ * it. */
 enum { CALADAN_ROWS_ROOM = 2048, CALADAN_TOO_MANY_ROWS = 17 };
 
 /* Where a table of rows is refused. */
 typedef struct caladan_wrong {
-    size_t row;        /* the row, from 0; the number of rows where it is none of theirs */
+    size_t row;        /* the row, from 0; the number of rows if the fault is in none */
     const char *field; /* the field's name in caladan_table_row, or "cores", "bandwidth_limit" or "count"; null
-                          where none is at fault, as without memory */
+                          if none is at fault, as without memory */
 } caladan_wrong;
 
 static inline char *caladan_add_text(char *at, const char *text) {
@@ -431,7 +429,8 @@ static inline char *caladan_add_text(char *at, const char *text) {
     return at + length;
 }
 
-/* A line of a key and its number. One above INT64_MAX is in no text, and is written as that: no key has as much. */
+/* A line of a key and its number. One above INT64_MAX is in no text, and is written as that: no key has as
+ * much. */
 static inline char *caladan_add_number(char *at, const char *key, uint64_t number) {
     char digits[20];
     size_t count = 0;
@@ -444,15 +443,17 @@ static inline char *caladan_add_number(char *at, const char *key, uint64_t numbe
     return at;
 }
 
-/* Writes the text of a table, and answers its length. Of more rows than CALADAN_TOO_MANY_ROWS it writes as many,
+/* Writes the text of a table, and answers its length. It writes no more than CALADAN_TOO_MANY_ROWS rows,
  * which are too many. */
-static inline size_t caladan_rows_text(size_t cores, uint64_t bandwidth_limit, const caladan_table_row *rows, size_t count,
-                                       char text[CALADAN_ROWS_ROOM]) {
+static inline size_t caladan_rows_text(size_t cores, uint64_t bandwidth_limit, const caladan_table_row *rows,
+                                       size_t count, char text[CALADAN_ROWS_ROOM]) {
     char *at = caladan_add_number(text, "cores", cores);
     at = caladan_add_number(at, "bandwidth_limit", bandwidth_limit);
     if (!count) at = caladan_add_text(at, "task = []\n");
     for (size_t k = 0; k < count && k < CALADAN_TOO_MANY_ROWS; k++) {
-        const char *kind = rows[k].kind == CALADAN_LATENCY_CRITICAL ? "lc" : rows[k].kind == CALADAN_BEST_EFFORT ? "be" : "none";
+        const char *kind = rows[k].kind == CALADAN_LATENCY_CRITICAL ? "lc"
+                           : rows[k].kind == CALADAN_BEST_EFFORT    ? "be"
+                                                                    : "none";
         at = caladan_add_text(at, "[[task]]\nkind = \"");
         at = caladan_add_text(caladan_add_text(at, kind), "\"\n");
         at = caladan_add_number(at, "guaranteed", rows[k].guaranteed);
@@ -463,16 +464,18 @@ static inline size_t caladan_rows_text(size_t cores, uint64_t bandwidth_limit, c
     return (size_t)(at - text);
 }
 
-/* Whether a table of these rows is refused so. */
-static inline bool caladan_is_refused(uint8_t fault, size_t cores, uint64_t bandwidth_limit, const caladan_table_row *rows, size_t count) {
+/* Whether a table of these rows has this fault. */
+static inline bool caladan_is_refused(uint8_t fault, size_t cores, uint64_t bandwidth_limit,
+                                      const caladan_table_row *rows, size_t count) {
     char text[CALADAN_ROWS_ROOM];
     caladan handle = CALADAN_CLOSED;
-    uint8_t answer = caladan_open((const uint8_t *)text, caladan_rows_text(cores, bandwidth_limit, rows, count, text), &handle);
+    uint8_t answer =
+        caladan_open((const uint8_t *)text, caladan_rows_text(cores, bandwidth_limit, rows, count, text), &handle);
     if (answer == CALADAN_DONE) caladan_close(&handle);
     return answer == fault;
 }
 
-/* Which field of a row is refused so by itself: the fields are given their values in the order of the checks. */
+/* Which field of a row has this fault by itself: the fields get their values in the order of the checks. */
 static inline const char *caladan_wrong_field(uint8_t fault, size_t cores, const caladan_table_row *row) {
     caladan_table_row so_far = {CALADAN_LATENCY_CRITICAL, 0, 1, 0, 0, 0};
     if (fault == CALADAN_GUARANTEES_EXCEED_CORES) return "guaranteed";
@@ -489,9 +492,10 @@ static inline const char *caladan_wrong_field(uint8_t fault, size_t cores, const
     return caladan_is_refused(fault, cores, 0, &so_far, 1) ? "request" : NULL;
 }
 
-/* Where a table of rows has the fault that it is refused for. A sum is at fault in the row with which it is too great. */
-static inline caladan_wrong caladan_find_wrong(uint8_t fault, size_t cores, uint64_t bandwidth_limit, const caladan_table_row *rows,
-                                               size_t count) {
+/* Where a table of rows has the fault for which it is refused. A sum is at fault in the row that makes it too
+ * great. */
+static inline caladan_wrong caladan_find_wrong(uint8_t fault, size_t cores, uint64_t bandwidth_limit,
+                                               const caladan_table_row *rows, size_t count) {
     caladan_table_row plain[CALADAN_TOO_MANY_ROWS];
     caladan_wrong wrong = {count, NULL};
     const size_t most = CALADAN_TOO_MANY_ROWS, few = count < most ? count : most;
@@ -518,29 +522,28 @@ static inline uint8_t caladan_rows_answer(uint8_t answer, size_t cores, uint64_t
 }
 
 /* Opens the table of these rows in a closed handle: what caladan_open answers to their text. Of the faults of
- * a table there remain OUT_OF_RANGE, BEST_EFFORT_GUARANTEE, GUARANTEES_EXCEED_CORES and TOO_MANY_THREADS; each
- * is said of the place at which the checks of docs/POLICY.md find it first, in *wrong, which no other answer
- * writes [tested]. wrong may be null. By another policy: give what caladan_rows_text writes to
- * caladan_open_policy. */
-static inline uint8_t caladan_open_rows(size_t cores, uint64_t bandwidth_limit, const caladan_table_row *rows, size_t count,
-                                        caladan *handle, caladan_wrong *wrong) {
+ * a table there remain OUT_OF_RANGE, BEST_EFFORT_GUARANTEE, GUARANTEES_EXCEED_CORES and TOO_MANY_THREADS; for
+ * each *wrong is the place where the checks of docs/POLICY.md find it first, and no other answer writes it
+ * [tested]. wrong may be null. For another policy give the text of caladan_rows_text to caladan_open_policy. */
+static inline uint8_t caladan_open_rows(size_t cores, uint64_t bandwidth_limit, const caladan_table_row *rows,
+                                        size_t count, caladan *handle, caladan_wrong *wrong) {
     char text[CALADAN_ROWS_ROOM];
-    uint8_t answer = caladan_open((const uint8_t *)text, caladan_rows_text(cores, bandwidth_limit, rows, count, text), handle);
+    uint8_t answer =
+        caladan_open((const uint8_t *)text, caladan_rows_text(cores, bandwidth_limit, rows, count, text), handle);
     return caladan_rows_answer(answer, cores, bandwidth_limit, rows, count, wrong);
 }
 
-/* The first clock at which something that came at `came` is more than `ticks` ago, where that is after now and
- * before `next`; else next. */
+/* The first clock that is more than `ticks` after `came`, if it is after now and before `next`; else next. */
 static inline uint64_t caladan_first_clock(uint64_t came, uint64_t ticks, uint64_t now, uint64_t next) {
     if (came >= UINT64_MAX - ticks) return next;
     return came + ticks + 1 > now && came + ticks + 1 < next ? came + ticks + 1 : next;
 }
 
-/* When to make the next pass, if no page changes until then. A pass at now has made no action: then no pass
- * makes one at a clock from now on and below *clock, as long as the looks say the same, no ring gets or loses
- * room, and the bandwidth figure stays on its side of the limit. At *clock a request has waited, or run, longer
+/* When to make the next pass, if no page changes until then. If a pass at now made no action, no pass makes
+ * one at a clock from now on and below *clock, as long as the looks say the same, no ring gets or loses room,
+ * and the bandwidth figure stays on its side of the limit. At *clock a request has waited, or run, longer
  * than its task's row says, which may change what a pass does; UINT64_MAX: at no clock. DONE or IS_CLOSED,
- * which writes nothing. It goes by the kept records and the table alone, and is not proved; tools/c_library
+ * which writes nothing. It uses the kept records and the table alone, and is not proved; tools/c_library
  * tests it against the passes of each example of decide, and on made ones. */
 static inline uint8_t caladan_next_clock(caladan *handle, uint64_t now, uint64_t *clock) {
     caladan_machine machine;
@@ -563,10 +566,10 @@ static inline uint8_t caladan_next_clock(caladan *handle, uint64_t now, uint64_t
     return CALADAN_DONE;
 }
 
-/* An audit of passes that were recorded, by this scheduler or by another that says it keeps the policy.
- * It is handed one pass after the other, from the first, and says at any time whether all of them are
- * legal: each was given looks that it may be given after those before it, and did exactly what the
- * policy does on them, in that order. Each pass costs the work of that pass alone. */
+/* An audit of recorded passes, of this scheduler or of another that claims to follow the policy. Hand it one
+ * pass after the other, from the first; it says at any time whether all of them are legal: each had looks
+ * that may follow those before, and did exactly what the policy does on them, in that order. A pass costs
+ * only its own work. */
 typedef struct caladan_audit {
     bool open;
     void *at;
@@ -584,29 +587,31 @@ CALADAN_PLACE(caladan_audit, at, 8);
  * already, refused]. */
 uint8_t caladan_audit_open(const uint8_t *table, size_t length, caladan_audit *audit);
 
-/* The same by the policy of a number, as caladan_open_policy takes it: what the audit says of a history is said
- * by that policy [opened, no_policy, already, refused]. */
+/* The same by the policy with a number, as for caladan_open_policy: the audit judges by that policy [opened,
+ * no_policy, already, refused]. */
 uint8_t caladan_audit_open_policy(const uint8_t *table, size_t length, uint32_t policy, caladan_audit *audit);
 
 /* Opens the table of these rows, as caladan_open_rows does [tested]. */
-static inline uint8_t caladan_audit_open_rows(size_t cores, uint64_t bandwidth_limit, const caladan_table_row *rows, size_t count,
-                                              caladan_audit *audit, caladan_wrong *wrong) {
+static inline uint8_t caladan_audit_open_rows(size_t cores, uint64_t bandwidth_limit, const caladan_table_row *rows,
+                                              size_t count, caladan_audit *audit, caladan_wrong *wrong) {
     char text[CALADAN_ROWS_ROOM];
-    uint8_t answer = caladan_audit_open((const uint8_t *)text, caladan_rows_text(cores, bandwidth_limit, rows, count, text), audit);
+    uint8_t answer =
+        caladan_audit_open((const uint8_t *)text, caladan_rows_text(cores, bandwidth_limit, rows, count, text), audit);
     return caladan_rows_answer(answer, cores, bandwidth_limit, rows, count, wrong);
 }
 
-/* The next recorded pass: its looks, what was judged of each (the same count), and its actions, as
- * caladan_pass takes and answers them. DONE where it was taken, legal or not [taken]; else IS_CLOSED
- * [closed], WRONG_COUNT (not one judgement for each look) [wrong_count], NO_ACTION [no_action],
- * NO_JUDGEMENT (BUSY is the judgement of a busy look, KEPT, AHEAD or FOREIGN of another) [no_judgement] or
- * NO_MEMORY [answers], no other number [own], and then nothing has changed [refused]. It may be given more
- * or fewer looks than the table has threads: such a pass is taken [answers], and is not legal ([legal] of
- * caladan_audit_verdict). A pass of caladan_pass_each is recorded by the looks that it took (caladan_taken). */
-uint8_t caladan_audit_pass(caladan_audit *audit, uint64_t now, uint64_t bandwidth, const caladan_look *looks, size_t count,
-                           const uint8_t *judged, size_t judged_count, const caladan_action *actions, size_t made);
+/* The next recorded pass: its looks, the judgement of each (the same count), and its actions, as caladan_pass
+ * takes and answers them. DONE if it was taken, legal or not [taken]; else IS_CLOSED [closed], WRONG_COUNT
+ * (not one judgement for each look) [wrong_count], NO_ACTION [no_action], NO_JUDGEMENT (BUSY is the judgement
+ * of a busy look, KEPT, AHEAD or FOREIGN of another) [no_judgement] or NO_MEMORY [answers], no other number
+ * [own], and then nothing has changed [refused]. You may give more or fewer looks than the table has threads:
+ * such a pass is taken [answers], and is not legal ([legal] of caladan_audit_verdict). A pass of
+ * caladan_pass_each is recorded by the looks that it took (caladan_taken). */
+uint8_t caladan_audit_pass(caladan_audit *audit, uint64_t now, uint64_t bandwidth, const caladan_look *looks,
+                           size_t count, const uint8_t *judged, size_t judged_count, const caladan_action *actions,
+                           size_t made);
 
-/* What the audit says of the passes so far: DONE, each is legal [legal]; ILLEGAL, and *pass is the first
+/* The audit's verdict on the passes so far: DONE, each is legal [legal]; ILLEGAL, and *pass is the first
  * that is not, counted from 0 (passes after it are not looked at) [illegal]; no other answer [answers], but
  * IS_CLOSED [closed]. Only ILLEGAL writes *pass [other]. Nothing changes [same]. */
 uint8_t caladan_audit_verdict(caladan_audit *audit, uint64_t *pass);
@@ -615,14 +620,13 @@ uint8_t caladan_audit_verdict(caladan_audit *audit, uint64_t *pass);
  * [already], and nothing changes [other]. */
 uint8_t caladan_audit_close(caladan_audit *audit);
 
-/* A guard, for a policy of your own that chooses the actions. It is handed one pass after the other,
- * with the actions that were chosen, and lets a pass through where each of them is permitted at its
- * place: then every history of passes that went through keeps the laws that docs/PROMISES.md lists
- * under cal_guard, whoever chose. (No core has two threads, no task more cores than its limit, no
- * revocation goes below a guarantee, no banned core is granted or stays held, and more.) A pass without
- * actions is always let through [law doing_nothing_is_permitted], so a policy may always do nothing. A Ban
- * of a core that is held is followed at once by the revocation of that core, and a Cap below what the task
- * holds by those that bring it down to it. */
+/* A guard, for a policy of your own that chooses the actions. Hand it one pass after the other, with the
+ * chosen actions; it lets a pass through if each action is permitted at its place. Every history of passes
+ * that it let through keeps the laws that docs/PROMISES.md lists under cal_guard, whatever chose the actions.
+ * (No core has two threads, no task more cores than its limit, no revocation goes below a guarantee, no
+ * banned core is granted or stays held, and more.) It always lets a pass without actions through [law
+ * doing_nothing_is_permitted], so a policy may always do nothing. A Ban of a core that is held is followed at
+ * once by the revocation of that core, and a Cap below what the task holds by those that bring it down to it. */
 typedef struct caladan_guard {
     bool open;
     void *at;
@@ -636,7 +640,7 @@ CALADAN_PLACE(caladan_guard, at, 8);
 #define CALADAN_GUARD_CLOSED ((caladan_guard){false, NULL})
 #endif
 
-/* Why an action is not permitted. They are asked in this order, and the first is told. */
+/* Why an action is not permitted: the first reason, in this order. */
 enum {
     CALADAN_WHY_TOO_MANY = 1,       /* the pass has CALADAN_MOST_ACTIONS before it */
     CALADAN_WHY_DOES_NOT_FIT = 2,   /* it names no core, thread or task of the table, or does not fit the state:
@@ -656,8 +660,8 @@ enum {
 
 /* Where a pass was stopped, and why. */
 typedef struct caladan_refused {
-    size_t place;  /* the number of the first action that is not permitted, from 0; the number of them all
-                      where each is, and the pass may not end after them (BANNED_HELD, OVER_CAP) */
+    size_t place;  /* the number of the first action that is not permitted, from 0; the number of all actions
+                      if each is, but the pass may not end there (BANNED_HELD, OVER_CAP) */
     uint8_t why;   /* CALADAN_WHY_.. */
     uint8_t names; /* for BANNED_HELD the core, for OVER_CAP the task; else 0 */
 } caladan_refused;
@@ -672,76 +676,76 @@ CALADAN_PLACE(caladan_refused, names, 9);
 uint8_t caladan_guard_open(const uint8_t *table, size_t length, caladan_guard *guard);
 
 /* Opens the table of these rows, as caladan_open_rows does [tested]. */
-static inline uint8_t caladan_guard_open_rows(size_t cores, uint64_t bandwidth_limit, const caladan_table_row *rows, size_t count,
-                                              caladan_guard *guard, caladan_wrong *wrong) {
+static inline uint8_t caladan_guard_open_rows(size_t cores, uint64_t bandwidth_limit, const caladan_table_row *rows,
+                                              size_t count, caladan_guard *guard, caladan_wrong *wrong) {
     char text[CALADAN_ROWS_ROOM];
-    uint8_t answer = caladan_guard_open((const uint8_t *)text, caladan_rows_text(cores, bandwidth_limit, rows, count, text), guard);
+    uint8_t answer =
+        caladan_guard_open((const uint8_t *)text, caladan_rows_text(cores, bandwidth_limit, rows, count, text), guard);
     return caladan_rows_answer(answer, cores, bandwidth_limit, rows, count, wrong);
 }
 
-/* The next pass: one look for each thread, in thread order, room for as many judgements, and the
- * actions that were chosen, as caladan_pass answers them (what a kind does not name is 0). DONE: each is
- * permitted at its place and the pass went through [through], and what was judged of each look is written
- * [judged]. NOT_PERMITTED: *refused says which action and why [stopped]; no other answer writes it [told].
- * WRONG_COUNT exactly where there is not one look for each thread [wrong_count], else NO_ROOM exactly where
- * there is too little room for judgements [no_room], else UNFIT (as caladan_pass answers it) [unfit],
- * NO_ACTION [no_action], or NO_MEMORY [answers], which is asked for only where more than
- * CALADAN_MOST_ACTIONS actions are handed in [not proved]; of a closed handle IS_CLOSED [closed]; no other
- * number [own]. Unless DONE the guard is as before and nothing is judged [unchanged]: the same pass may be handed in again with
- * other actions. */
-uint8_t caladan_guard_pass(caladan_guard *guard, uint64_t now, uint64_t bandwidth, const caladan_look *looks, size_t count,
-                           uint8_t *judged, size_t judged_room, const caladan_action *actions, size_t made,
-                           caladan_refused *refused);
+/* The next pass: one look for each thread, in thread order, room for as many judgements, and the chosen
+ * actions, as caladan_pass answers them (unused fields are 0). DONE: each is permitted at its place and the
+ * pass went through [through], and judged has the judgement of each look [judged]. NOT_PERMITTED: *refused
+ * says which action and why [stopped]; no other answer writes it [told]. WRONG_COUNT exactly if there is not
+ * one look for each thread [wrong_count], else NO_ROOM exactly if there is too little room for judgements
+ * [no_room], else UNFIT (as caladan_pass answers it) [unfit], NO_ACTION [no_action], or NO_MEMORY [answers],
+ * which can come only with more than CALADAN_MOST_ACTIONS actions [not proved]; for a closed handle IS_CLOSED
+ * [closed]; no other number [own]. Unless DONE the guard is as before and nothing is judged [unchanged]: you
+ * may hand in the same pass again with other actions. */
+uint8_t caladan_guard_pass(caladan_guard *guard, uint64_t now, uint64_t bandwidth, const caladan_look *looks,
+                           size_t count, uint8_t *judged, size_t judged_room, const caladan_action *actions,
+                           size_t made, caladan_refused *refused);
 
-/* The next pass, each look by itself: caladan_guard_pass, but that looks are refused, judged and taken as
- * caladan_pass_each does it (by the same laws), and the actions are permitted on the looks that were taken
- * [through, stopped]. Never UNFIT [answers]. DONE and NOT_PERMITTED both write what was judged of each look
- * [judged], so that whoever chooses again knows which looks count as busy; no other answer writes any
- * [unjudged]. Unless DONE the guard is as before [unchanged]. Other answers are as those of
- * caladan_guard_pass [wrong_count, no_room, no_action, told, closed, own]. */
-uint8_t caladan_guard_pass_each(caladan_guard *guard, uint64_t now, uint64_t bandwidth, const caladan_look *looks, size_t count,
-                                uint8_t *judged, size_t judged_room, const caladan_action *actions, size_t made,
-                                caladan_refused *refused);
+/* The next pass, each look by itself: as caladan_guard_pass, but it refuses, judges and takes looks as
+ * caladan_pass_each does (by the same laws), and judges the actions on the looks that it took [through,
+ * stopped]. Never UNFIT [answers]. DONE and NOT_PERMITTED both write the judgement of each look [judged], so
+ * that a policy that chooses again knows which looks count as busy; no other answer writes any [unjudged].
+ * Unless DONE the guard is as before [unchanged]. Other answers are as those of caladan_guard_pass
+ * [wrong_count, no_room, no_action, told, closed, own]. */
+uint8_t caladan_guard_pass_each(caladan_guard *guard, uint64_t now, uint64_t bandwidth, const caladan_look *looks,
+                                size_t count, uint8_t *judged, size_t judged_room, const caladan_action *actions,
+                                size_t made, caladan_refused *refused);
 
 /* Which look caladan_guard_pass would answer UNFIT to, as caladan_first_unfit says it [first, none,
  * answers, wrong_count, closed, other, same]. */
 uint8_t caladan_guard_first_unfit(caladan_guard *guard, const caladan_look *looks, size_t count, size_t *thread);
 
-/* What the table says, and a thread after the passes that went through, as caladan_table,
- * caladan_table_task and caladan_thread say it [their clauses]. */
+/* The table, and a thread after the passes that went through, as from caladan_table, caladan_table_task and
+ * caladan_thread [their clauses]. */
 uint8_t caladan_guard_table(caladan_guard *guard, caladan_machine *machine);
 uint8_t caladan_guard_table_task(caladan_guard *guard, size_t task, caladan_table_row *row);
 uint8_t caladan_guard_thread(caladan_guard *guard, size_t thread, caladan_thread_state *state);
 
-/* What the page of a thread must show once the thread is gone, as caladan_gone tells it [told, lost, there,
+/* The record that a thread's page must show once the thread is gone, as from caladan_gone [told, lost, there,
  * no_thread, closed, refused, same]. It fits and is kept [told; law permitted_gone_is_kept]. A guard frees
- * nothing itself: with this look the next pass is permitted that frees one core which the thread holds or
- * leaves (it has at most one [law threads_have_one_core]) and does nothing else
- * [told; law gone_may_be_freed]. While its looks have no room, no action that sends it a command is
- * permitted ([stopped] and [through] of caladan_guard_pass). */
+ * nothing itself: with this look it permits a next pass that frees the one core that the thread holds or
+ * leaves (it has at most one [law threads_have_one_core]) and does nothing else [told; law
+ * gone_may_be_freed]. While its looks have no room, no action that sends it a command is permitted ([stopped]
+ * and [through] of caladan_guard_pass). */
 uint8_t caladan_guard_gone(caladan_guard *guard, size_t thread, caladan_look *look);
 
-/* Who has a core after the passes that went through, as caladan_holder says it [told, there, no_core,
+/* Who has a core after the passes that went through, as from caladan_holder [told, there, no_core,
  * closed, refused, same]. */
 uint8_t caladan_guard_holder(caladan_guard *guard, uint8_t core, caladan_holder_of_core *holder);
 #define caladan_guard_holder(guard, core, holder) caladan_guard_holder(guard, caladan_core(core), holder)
 
-/* What a task has after them, as caladan_task says it [told, there, no_task, closed, refused, same]. */
+/* What a task has after them, as from caladan_task [told, there, no_task, closed, refused, same]. */
 uint8_t caladan_guard_task(caladan_guard *guard, size_t task, caladan_counts *counts);
 
-/* What a policy of your own chooses by. Nothing changes by any of them [same]; each answers IS_CLOSED of a
- * closed handle [closed], and writes only where it answers DONE [refused].
+/* Facts for a policy of your own. None of these calls changes anything [same]; each answers IS_CLOSED for a
+ * closed handle [closed], and writes only if it answers DONE [refused].
  *
- * caladan_guard_judge: what caladan_guard_pass_each would judge of each look, were it given them now [judged],
- * so that a policy knows which looks count before it chooses. WRONG_COUNT exactly where there is not one look
- * for each thread [wrong_count], else NO_ROOM exactly where there is too little room [no_room], else DONE
- * [answers]; no other number [own].
- * caladan_guard_kept: the kept record of a thread, as caladan_kept tells it [told, there, no_thread]. In the
- * next pass it stands for each look that is not judged KEPT.
+ * caladan_guard_judge: how caladan_guard_pass_each would judge each look now [judged], so that a policy knows
+ * which looks count before it chooses. WRONG_COUNT exactly if there is not one look for each thread
+ * [wrong_count], else NO_ROOM exactly if there is too little room [no_room], else DONE [answers]; no other
+ * number [own].
+ * caladan_guard_kept: the kept record of a thread, as from caladan_kept [told, there, no_thread]. In the next
+ * pass it counts in place of a look that is not judged KEPT.
  * caladan_guard_ban: whether a core is banned, and for whom [told]. DONE exactly of a core that the table has
  * [there], else NO_SUCH [no_core].
- * caladan_guard_last: to which thread a core was granted last, and its task [told]. DONE exactly of a core that
- * the table has [there], else NO_SUCH [no_core]. */
+ * caladan_guard_last: to which thread a core was granted last, and its task [told]. DONE exactly of a core
+ * that the table has [there], else NO_SUCH [no_core]. */
 typedef struct caladan_core_ban {
     uint8_t banned;   /* 1; else 0, and all is 0 */
     uint8_t thread;   /* on its sibling */
@@ -760,15 +764,16 @@ CALADAN_SIZE(caladan_core_last, 3);
 CALADAN_PLACE(caladan_core_last, granted, 0);
 CALADAN_PLACE(caladan_core_last, thread, 1);
 CALADAN_PLACE(caladan_core_last, task, 2);
-uint8_t caladan_guard_judge(caladan_guard *guard, const caladan_look *looks, size_t count, uint8_t *judged, size_t judged_room);
+uint8_t caladan_guard_judge(caladan_guard *guard, const caladan_look *looks, size_t count, uint8_t *judged,
+                            size_t judged_room);
 uint8_t caladan_guard_kept(caladan_guard *guard, size_t thread, caladan_look *look);
 uint8_t caladan_guard_ban(caladan_guard *guard, uint8_t core, caladan_core_ban *ban);
 #define caladan_guard_ban(guard, core, ban) caladan_guard_ban(guard, caladan_core(core), ban)
 uint8_t caladan_guard_last(caladan_guard *guard, uint8_t core, caladan_core_last *last);
 #define caladan_guard_last(guard, core, last) caladan_guard_last(guard, caladan_core(core), last)
 
-/* The thread that is to be sent Park, of a core that the last pass revokes: DONE, IS_CLOSED, or NO_SUCH
- * where nobody is told to leave the core [tested]. */
+/* The thread to which you must send Park, for a core that the last pass revokes: DONE, IS_CLOSED, or NO_SUCH
+ * if no thread is told to leave the core [tested]. */
 static inline uint8_t caladan_guard_revoked(caladan_guard *guard, size_t core, uint8_t *thread) {
     caladan_holder_of_core holder;
     uint8_t answer = caladan_guard_holder(guard, core, &holder);
@@ -782,14 +787,31 @@ static inline uint8_t caladan_guard_revoked(caladan_guard *guard, size_t core, u
  * [already], and nothing changes [other]. */
 uint8_t caladan_guard_close(caladan_guard *guard);
 
-/* Texts. Each has one for every number; of a number that is none it says so. */
+/* Texts for numbers. A number without a meaning has a text that says so. */
 static inline const char *caladan_answer_text(uint8_t answer) {
     static const char *const texts[] = {
-        "done", "the table is not TOML", "the table has an unknown key", "the table lacks a key", "a value has the wrong type",
-        "a value is out of range", "a best-effort task has a guarantee", "the guarantees exceed the cores", "there are too many threads",
-        "out of memory", "the handle is closed", "the handle is open", "no answer", "the count is wrong", "there is too little room",
-        "a look does not fit", "the table has no such core, task or thread", "an action is none", "an action is not permitted",
-        "a number is no judgement of its look", "a pass is not legal", "no page can show that the thread is gone",
+        "done",
+        "the table is not TOML",
+        "the table has an unknown key",
+        "the table lacks a key",
+        "a value has the wrong type",
+        "a value is out of range",
+        "a best-effort task has a guarantee",
+        "the guarantees exceed the cores",
+        "there are too many threads",
+        "out of memory",
+        "the handle is closed",
+        "the handle is open",
+        "no answer",
+        "the count is wrong",
+        "there is too little room",
+        "a look does not fit",
+        "the table has no such core, task or thread",
+        "an action is none",
+        "an action is not permitted",
+        "a number is no judgement of its look",
+        "a pass is not legal",
+        "no page can show that the thread is gone",
         "no policy has this number",
     };
     return answer < sizeof texts / sizeof *texts ? texts[answer] : "no answer";
@@ -803,8 +825,15 @@ static inline const char *caladan_policy_text(uint32_t policy) {
 
 static inline const char *caladan_judgement_text(uint8_t judged) {
     static const char *const texts[] = {
-        "no judgement", "kept", "busy", "ahead: it acknowledges more commands than were sent", "foreign: it shows a core that the thread was not given",
-        "its versions are no busy pair", "misshapen: running or misses is out of range", "its place fell", "another record at the same place",
+        "no judgement",
+        "kept",
+        "busy",
+        "ahead: it acknowledges more commands than were sent",
+        "foreign: it shows a core that the thread was not given",
+        "its versions are no busy pair",
+        "misshapen: running or misses is out of range",
+        "its place fell",
+        "another record at the same place",
         "taken, misses or stamp fell",
     };
     return judged < sizeof texts / sizeof *texts ? texts[judged] : "no judgement";
@@ -817,9 +846,18 @@ static inline const char *caladan_cause_text(uint8_t cause) {
 
 static inline const char *caladan_why_text(uint8_t why) {
     static const char *const texts[] = {
-        "no reason", "the pass has the most actions", "it does not fit the state", "the core was not left", "the core is banned",
-        "the task is at its limit", "the task is at its cap", "the task is at its guarantee", "the ring is full",
-        "a second command to the thread in this pass", "a banned core is held", "a task is over its cap",
+        "no reason",
+        "the pass has the most actions",
+        "it does not fit the state",
+        "the core was not left",
+        "the core is banned",
+        "the task is at its limit",
+        "the task is at its cap",
+        "the task is at its guarantee",
+        "the ring is full",
+        "a second command to the thread in this pass",
+        "a banned core is held",
+        "a task is over its cap",
     };
     return why < sizeof texts / sizeof *texts ? texts[why] : "no reason";
 }

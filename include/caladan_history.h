@@ -72,8 +72,9 @@ static inline bool caladan_history_action(FILE *out, const caladan_action *it) {
 }
 
 /* A pass of caladan_pass or, where each is not 0, of caladan_pass_each: what it was given and answered. */
-static inline bool caladan_history_pass(FILE *out, bool each, uint64_t now, uint64_t bandwidth, const caladan_look *looks,
-                                        const uint8_t *judged, size_t count, const caladan_action *actions, size_t made) {
+static inline bool caladan_history_pass(FILE *out, bool each, uint64_t now, uint64_t bandwidth,
+                                        const caladan_look *looks, const uint8_t *judged, size_t count,
+                                        const caladan_action *actions, size_t made) {
     fprintf(out, "pass,%" PRIu64 ",%" PRIu64 "\n", now, bandwidth);
     for (size_t k = 0; k < count; k++) {
         if (each) caladan_history_look_each(out, k, &looks[k], judged[k]);

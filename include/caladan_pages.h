@@ -10,12 +10,12 @@
  * a page on which nothing was published, and a ring on which nothing was sent.
  *
  * Pages, and the two sides of a ring, each have lines of 128 bytes of their own, since processors fetch
- * lines of 64 bytes in pairs: whoever writes one disturbs nobody else.
+ * lines of 64 bytes in pairs: a write to one disturbs no other.
  *
- * WHOM TO BELIEVE. A process can write anything to its page and its ring at any time. So a sender reads
- * nothing from a ring: he counts what he sent, and a ring has room while that is less than CALADAN_PLACES
- * above `taken` of the thread's kept record (caladan_room; caladan_thread tells both numbers). And a
- * looker takes what he finds to caladan_pass_each, which refuses what its thread cannot have done.
+ * WHAT TO TRUST. A process can write anything to its page and its ring at any time. So a sender reads
+ * nothing from a ring: it counts what it sent, and a ring has room while that is less than CALADAN_PLACES
+ * above `taken` of the thread's kept record (caladan_room; caladan_thread says both numbers). And a looker
+ * gives what it finds to caladan_pass_each, which refuses what its thread cannot have done.
  *
  * WHAT A CALLER OWES
  *  - A page and a ring lie at a multiple of CALADAN_LINE, as their types say. Memory from mmap or
@@ -81,10 +81,11 @@ typedef _Atomic uint64_t caladan_shared;
 #else
 #define CALADAN_OWED(is, why) ((void)0)
 #endif
-#define CALADAN_OWED_LINE(at) CALADAN_OWED((uintptr_t)(at) % CALADAN_LINE == 0, "it does not lie at a multiple of CALADAN_LINE")
+#define CALADAN_OWED_LINE(at) \
+    CALADAN_OWED((uintptr_t)(at) % CALADAN_LINE == 0, "it does not lie at a multiple of CALADAN_LINE")
 
-/* The version of what lies in shared memory, for the segment that has it: the layout's, 2, and above it how many words a
- * record has, so that sides which were built with other records have other versions. */
+/* The version of what lies in shared memory, for the segment that has it: the layout's, 2, and above it how many words
+ * a record has, so that sides which were built with other records have other versions. */
 #define CALADAN_PAGES_VERSION (CALADAN_WORDS << 8 | 2)
 
 /* How many places beyond the one of `gone` caladan_bury believes a page to be. */
@@ -132,7 +133,8 @@ static inline void caladan_publish_begin(caladan_publisher *publisher) {
     CALADAN_OWED(publisher->entered == 0, "a publication was begun within another one with the same publisher");
     publisher->entered = 1;
     CALADAN_STD(atomic_signal_fence)(CALADAN_STD(memory_order_seq_cst));
-    CALADAN_OWED(CALADAN_LOAD(&publisher->page->version, relaxed) / 2 == publisher->place, "somebody else published on the page");
+    CALADAN_OWED(CALADAN_LOAD(&publisher->page->version, relaxed) / 2 == publisher->place,
+                 "somebody else published on the page");
 #endif
     caladan_page_open(publisher->page, publisher->place);
 }

@@ -2,7 +2,7 @@
  * an audit one after the other, and prints 'legal', or 'illegal pass' and the first that is not, as
  * caladan_sim audit does. Exits with 1 where one is not legal, with 2 where the input is refused.
  *
- *   audit [--policy NAME] [FILE..]      reads each file as such an input, and prints its line; of one that is refused 'refused'
+ *   audit [--policy NAME] [FILE..]      reads each file as such an input, and prints its line, or 'refused'
  */
 #include "trace.h"
 
@@ -11,7 +11,9 @@ static int hand_over(trace *from, caladan_audit *audit) {
     static recorded pass;
     int is_read;
     while ((is_read = next_pass(from, &pass)) == 1)
-        if (caladan_audit_pass(audit, pass.now, pass.bandwidth, pass.looks, pass.count, pass.judged, pass.count, pass.actions, pass.made)) return -1;
+        if (caladan_audit_pass(audit, pass.now, pass.bandwidth, pass.looks, pass.count, pass.judged, pass.count,
+                               pass.actions, pass.made))
+            return -1;
     return is_read;
 }
 

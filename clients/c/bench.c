@@ -141,13 +141,15 @@ static uint64_t pass(uint64_t now) {
     int said;
     size_t made;
     uint64_t before = ns();
-    said = caladan_pass(&scheduler, now, 0, looks, (size_t)THREADS, judged, sizeof judged, actions, CALADAN_MOST_ACTIONS, &made);
+    said = caladan_pass(&scheduler, now, 0, looks, (size_t)THREADS, judged, sizeof judged, actions,
+                        CALADAN_MOST_ACTIONS, &made);
     uint64_t after = ns();
 #ifdef GUARD
     caladan_refused refused;
     if (!said) {
         before = ns();
-        said = caladan_guard_pass(&guard, now, 0, looks, (size_t)THREADS, judged, sizeof judged, actions, made, &refused);
+        said = caladan_guard_pass(&guard, now, 0, looks, (size_t)THREADS, judged, sizeof judged, actions, made,
+                                  &refused);
         after = ns();
     }
 #endif
@@ -169,12 +171,14 @@ static void print(uint64_t *took) {
     double sum = 0, count = passes;
     for (int p = 0; p < passes; p++) sum += (double)took[p];
     qsort(took, (size_t)passes, sizeof *took, less);
-    printf("%d passes: mean %.0f ns, median %llu, 1%% %llu, 99%% %llu, max %llu (a clock's call %.0f ns is in each)\n", passes, sum / count,
-           (unsigned long long)took[passes / 2], (unsigned long long)took[passes / 100], (unsigned long long)took[passes * 99L / 100],
-           (unsigned long long)took[passes - 1], clock_cost());
-    printf("a pass: %.1f records changed, %.1f threads on a core; actions: %.2f free %.2f unban %.2f ban %.2f revoke %.2f cap %.2f grant\n",
-           (double)changed / count, (double)on_core / count, (double)kinds[CALADAN_FREE] / count, (double)kinds[CALADAN_UNBAN] / count,
-           (double)kinds[CALADAN_BAN] / count, (double)kinds[CALADAN_REVOKE] / count, (double)kinds[CALADAN_CAP] / count,
+    printf("%d passes: mean %.0f ns, median %llu, 1%% %llu, 99%% %llu, max %llu (a clock's call %.0f ns is in each)\n",
+           passes, sum / count, (unsigned long long)took[passes / 2], (unsigned long long)took[passes / 100],
+           (unsigned long long)took[passes * 99L / 100], (unsigned long long)took[passes - 1], clock_cost());
+    printf("a pass: %.1f records changed, %.1f threads on a core; actions: %.2f free %.2f unban %.2f ban %.2f revoke "
+           "%.2f cap %.2f grant\n",
+           (double)changed / count, (double)on_core / count, (double)kinds[CALADAN_FREE] / count,
+           (double)kinds[CALADAN_UNBAN] / count, (double)kinds[CALADAN_BAN] / count,
+           (double)kinds[CALADAN_REVOKE] / count, (double)kinds[CALADAN_CAP] / count,
            (double)kinds[CALADAN_GRANT] / count);
 }
 

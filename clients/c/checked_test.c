@@ -100,7 +100,8 @@ static void try_turns(void) {
         if (had) caladan_turn_set(&page, 2, caladan_turn_word(&page, 2) + 1);
         if (had) caladan_turn_end(&page);
         accesses = -1;
-        CHECK(!broken && atomic_load(&page.words[2]) == had + by_turns && atomic_load(&page.version) == 2 * (had + by_turns));
+        CHECK(!broken && atomic_load(&page.words[2]) == had + by_turns &&
+              atomic_load(&page.version) == 2 * (had + by_turns));
     }
 }
 

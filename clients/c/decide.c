@@ -15,7 +15,10 @@ static void print_action(FILE *out, const caladan_action *it) {
     switch (it->kind) {
     case CALADAN_FREE: fprintf(out, "  free core %d\n", it->core); break;
     case CALADAN_UNBAN: fprintf(out, "  unban core %d\n", it->core); break;
-    case CALADAN_BAN: fprintf(out, "  ban core %d for thread %d started %llu\n", it->core, it->thread, (unsigned long long)it->started); break;
+    case CALADAN_BAN:
+        fprintf(out, "  ban core %d for thread %d started %llu\n", it->core, it->thread,
+                (unsigned long long)it->started);
+        break;
     case CALADAN_REVOKE:
         fprintf(out, "  revoke core %d for ", it->core);
         if (it->cause == CALADAN_FOR_BAN) fprintf(out, "ban by core %d\n", it->by);
@@ -23,13 +26,17 @@ static void print_action(FILE *out, const caladan_action *it) {
         if (it->cause == CALADAN_FOR_TASK) fprintf(out, "task %d\n", it->task);
         break;
     case CALADAN_CAP: fprintf(out, "  cap task %d at %d\n", it->task, it->cap); break;
-    case CALADAN_GRANT: fprintf(out, "  grant core %d to thread %d class %d\n", it->core, it->thread, it->core_class); break;
+    case CALADAN_GRANT:
+        fprintf(out, "  grant core %d to thread %d class %d\n", it->core, it->thread, it->core_class);
+        break;
     }
 }
 
-static void print_pass(FILE *out, uint64_t number, const recorded *pass, const uint8_t *judged, size_t threads, const caladan_action *actions, size_t made) {
+static void print_pass(FILE *out, uint64_t number, const recorded *pass, const uint8_t *judged, size_t threads,
+                       const caladan_action *actions, size_t made) {
     static const char *const kinds[] = {"", "", "busy", "ahead", "foreign"};
-    fprintf(out, "pass %llu now %llu bandwidth %llu\n", (unsigned long long)number, (unsigned long long)pass->now, (unsigned long long)pass->bandwidth);
+    fprintf(out, "pass %llu now %llu bandwidth %llu\n", (unsigned long long)number, (unsigned long long)pass->now,
+            (unsigned long long)pass->bandwidth);
     for (size_t k = 0; k < threads; k++)
         if (judged[k] != CALADAN_KEPT) fprintf(out, "  kept %zu %s\n", k, kinds[judged[k]]);
     for (size_t i = 0; i < made; i++) print_action(out, &actions[i]);
@@ -39,9 +46,12 @@ static void print_end(FILE *out, caladan *handle, uint64_t passes) {
     caladan_counts counts;
     caladan_table_row row;
     fprintf(out, "end %llu passes\n", (unsigned long long)passes);
-    for (size_t task = 0; caladan_task(handle, task, &counts) == CALADAN_DONE && caladan_table_task(handle, task, &row) == CALADAN_DONE; task++) {
+    for (size_t task = 0;
+         caladan_task(handle, task, &counts) == CALADAN_DONE && caladan_table_task(handle, task, &row) == CALADAN_DONE;
+         task++) {
         bool best_effort = row.kind == CALADAN_BEST_EFFORT;
-        fprintf(out, "task %zu %s held %d leaving %d", task, best_effort ? "be" : "lc", counts.held, counts.booked - counts.held);
+        fprintf(out, "task %zu %s held %d leaving %d", task, best_effort ? "be" : "lc", counts.held,
+                counts.booked - counts.held);
         if (best_effort) fprintf(out, " cap %d", counts.cap);
         fprintf(out, "\n");
     }
@@ -55,7 +65,9 @@ static int decide(FILE *out, trace *from, caladan *handle) {
     size_t threads = caladan_threads(handle), made;
     int is_read;
     while ((is_read = next_pass(from, &pass)) == 1) {
-        if (caladan_pass(handle, pass.now, pass.bandwidth, pass.looks, threads, judged, sizeof judged, actions, CALADAN_MOST_ACTIONS, &made)) return refuse("a pass");
+        if (caladan_pass(handle, pass.now, pass.bandwidth, pass.looks, threads, judged, sizeof judged, actions,
+                         CALADAN_MOST_ACTIONS, &made))
+            return refuse("a pass");
         print_pass(out, from->passes - 1, &pass, judged, threads, actions, made);
     }
     if (is_read < 0) return refuse("the signals");
@@ -87,7 +99,8 @@ int main(int argc, char **argv) {
     if (argc != 1 && argc != 3) return refuse("the words");
     if (!read_input(stdin, &in)) {
         refuse("no separator, or too long");
-    } else if ((answer = caladan_open_policy((const uint8_t *)in.text, in.table_length, policy_asked(argc, argv), &handle))) {
+    } else if ((answer = caladan_open_policy((const uint8_t *)in.text, in.table_length, policy_asked(argc, argv),
+                                             &handle))) {
         refuse(caladan_answer_text(answer));
     } else {
         status = run(&in, &handle);

@@ -7,7 +7,8 @@
 
 /* Four cores (0 and 1 are siblings, 2 and 3), two threads of a task that is guaranteed one core, and two
  * of a best-effort one. */
-static const char TABLE[] = "cores = 4\nbandwidth_limit = 1000\n\n[[task]]\nkind = \"lc\"\nguaranteed = 1\nlimit = 2\ndelay = 10\nrequest = 50\n\n"
+static const char TABLE[] = "cores = 4\nbandwidth_limit = 1000\n\n"
+                            "[[task]]\nkind = \"lc\"\nguaranteed = 1\nlimit = 2\ndelay = 10\nrequest = 50\n\n"
                             "[[task]]\nkind = \"be\"\nguaranteed = 0\nlimit = 2\ndelay = 0\nrequest = 0\n";
 enum { THREADS = 4 };
 
@@ -21,9 +22,13 @@ static caladan_refused refused;
 
 static uint8_t open_guard(void) { return caladan_guard_open((const uint8_t *)TABLE, strlen(TABLE), &guard); }
 
-static caladan_action grant(uint8_t core, uint8_t thread) { return (caladan_action){.kind = CALADAN_GRANT, .core = core, .thread = thread, .core_class = 3}; }
+static caladan_action grant(uint8_t core, uint8_t thread) {
+    return (caladan_action){.kind = CALADAN_GRANT, .core = core, .thread = thread, .core_class = 3};
+}
 static caladan_action ban(uint8_t core) { return (caladan_action){.kind = CALADAN_BAN, .core = core}; }
-static caladan_action revoke(uint8_t core) { return (caladan_action){.kind = CALADAN_REVOKE, .core = core, .cause = CALADAN_FOR_BANDWIDTH}; }
+static caladan_action revoke(uint8_t core) {
+    return (caladan_action){.kind = CALADAN_REVOKE, .core = core, .cause = CALADAN_FOR_BANDWIDTH};
+}
 static caladan_action cap(uint8_t of) { return (caladan_action){.kind = CALADAN_CAP, .task = 1, .cap = of}; }
 static caladan_action freed(uint8_t core) { return (caladan_action){.kind = CALADAN_FREE, .core = core}; }
 
@@ -73,7 +78,8 @@ static int closed(void) {
 static int misused(void) {
     caladan_action none = grant(0, 0), more = grant(0, 0), cause = revoke(0);
     none.kind = 7, more.cap = 1, cause.cause = 4;
-    WANT(caladan_guard_pass(&guard, 10, 0, looks, THREADS - 1, judged, THREADS, NULL, 0, &refused), CALADAN_WRONG_COUNT);
+    WANT(caladan_guard_pass(&guard, 10, 0, looks, THREADS - 1, judged, THREADS, NULL, 0, &refused),
+         CALADAN_WRONG_COUNT);
     WANT(caladan_guard_pass(&guard, 10, 0, looks, THREADS, judged, THREADS - 1, NULL, 0, &refused), CALADAN_NO_ROOM);
     WANT(hand(&none, 1), CALADAN_NO_ACTION);
     WANT(hand(&more, 1), CALADAN_NO_ACTION);
@@ -111,7 +117,8 @@ static int stopped(void) {
 static int through(void) {
     caladan_holder_of_core holder;
     caladan_counts counts;
-    const caladan_action first[] = {grant(3, 0), grant(0, 2)}, second[] = {ban(0), {.kind = CALADAN_REVOKE, .core = 0, .cause = CALADAN_FOR_BAN, .by = 0}};
+    const caladan_action first[] = {grant(3, 0), grant(0, 2)},
+                         second[] = {ban(0), {.kind = CALADAN_REVOKE, .core = 0, .cause = CALADAN_FOR_BAN, .by = 0}};
     WANT(caladan_guard_holder(&guard, 3, &holder), CALADAN_DONE);
     WANT(holder.state, CALADAN_CORE_FREE); /* what was refused so far changed nothing */
     WANT(hand(first, 2), CALADAN_DONE);
@@ -135,7 +142,8 @@ static int through(void) {
     return 0;
 }
 
-/* What a policy chooses by, after the passes of `through`: core 0 is banned and left by thread 2, core 3 held by thread 0. */
+/* What a policy chooses by, after the passes of `through`: core 0 is banned and left by thread 2, core 3 held by thread
+ * 0. */
 static int seen(void) {
     caladan_core_ban ban;
     caladan_core_last last;
@@ -203,8 +211,10 @@ static int follows(void) {
             bool asks = (now / 10 + (uint64_t)k) % 7 == 0;
             looks[k].number++, looks[k].queued = asks, looks[k].oldest = asks ? now - 20 : 0, looks[k].stamp = now;
         }
-        WANT(caladan_pass(&handle, now, 0, looks, THREADS, said, THREADS, actions, CALADAN_MOST_ACTIONS, &made), CALADAN_DONE);
-        WANT(caladan_guard_pass(&guard, now, 0, looks, THREADS, judged, THREADS, actions, made, &refused), CALADAN_DONE);
+        WANT(caladan_pass(&handle, now, 0, looks, THREADS, said, THREADS, actions, CALADAN_MOST_ACTIONS, &made),
+             CALADAN_DONE);
+        WANT(caladan_guard_pass(&guard, now, 0, looks, THREADS, judged, THREADS, actions, made, &refused),
+             CALADAN_DONE);
         WANT(memcmp(said, judged, THREADS), 0);
         all += made;
     }

@@ -1,11 +1,12 @@
-/* A handle of another kind, given by a cast, is taken for a closed one and stays as it is; and one handle that threads give
- * to each other makes the passes of one thread. Prints 'handles_test: ok'. */
+/* A handle of another kind, given by a cast, is taken for a closed one and stays as it is; and one handle that threads
+ * give to each other makes the passes of one thread. Prints 'handles_test: ok'. */
 #include "caladan.h"
 #include "check.h"
 #include <pthread.h>
 
-static const caladan_table_row ROWS[] = {{.kind = CALADAN_LATENCY_CRITICAL, .guaranteed = 1, .limit = 2, .delay = 10, .request = 50},
-                                         {.kind = CALADAN_BEST_EFFORT, .limit = 2}};
+static const caladan_table_row ROWS[] = {
+    {.kind = CALADAN_LATENCY_CRITICAL, .guaranteed = 1, .limit = 2, .delay = 10, .request = 50},
+    {.kind = CALADAN_BEST_EFFORT, .limit = 2}};
 enum { THREADS = 4, PASSES = 400, POLLERS = 3 };
 typedef caladan_action actions_of_pass[CALADAN_MOST_ACTIONS];
 
@@ -31,8 +32,12 @@ static void is_no_scheduler(caladan *it) {
     CHECK(caladan_open_rows(2, 0, ROWS, 2, it, NULL) == CALADAN_IS_OPEN);
     CHECK(caladan_open_policy(NULL, 0, CALADAN_POLICY_CALADAN, it) == CALADAN_IS_OPEN);
     CHECK(caladan_threads(it) == 0 && caladan_bandwidth_limit(it) == 0);
-    CHECK(caladan_pass(it, 1, 0, looks, THREADS, judged, THREADS, actions, CALADAN_MOST_ACTIONS, &made) == CALADAN_IS_CLOSED && made == 0);
-    CHECK(caladan_pass_each(it, 1, 0, looks, THREADS, judged, THREADS, actions, CALADAN_MOST_ACTIONS, &made) == CALADAN_IS_CLOSED && made == 0);
+    CHECK(caladan_pass(it, 1, 0, looks, THREADS, judged, THREADS, actions, CALADAN_MOST_ACTIONS, &made) ==
+              CALADAN_IS_CLOSED &&
+          made == 0);
+    CHECK(caladan_pass_each(it, 1, 0, looks, THREADS, judged, THREADS, actions, CALADAN_MOST_ACTIONS, &made) ==
+              CALADAN_IS_CLOSED &&
+          made == 0);
     CHECK(caladan_first_unfit(it, looks, THREADS, &thread) == CALADAN_IS_CLOSED);
     CHECK(caladan_table(it, &machine) == CALADAN_IS_CLOSED && caladan_table_task(it, 0, &row) == CALADAN_IS_CLOSED);
     CHECK(caladan_thread(it, 0, &state) == CALADAN_IS_CLOSED && caladan_gone(it, 0, &look) == CALADAN_IS_CLOSED);
@@ -46,10 +51,14 @@ static void is_no_guard(caladan_guard *it) {
     CHECK(caladan_guard_pass(it, 1, 0, looks, THREADS, judged, THREADS, none, 0, &refused) == CALADAN_IS_CLOSED);
     CHECK(caladan_guard_pass_each(it, 1, 0, looks, THREADS, judged, THREADS, none, 0, &refused) == CALADAN_IS_CLOSED);
     CHECK(caladan_guard_first_unfit(it, looks, THREADS, &thread) == CALADAN_IS_CLOSED);
-    CHECK(caladan_guard_table(it, &machine) == CALADAN_IS_CLOSED && caladan_guard_table_task(it, 0, &row) == CALADAN_IS_CLOSED);
-    CHECK(caladan_guard_thread(it, 0, &state) == CALADAN_IS_CLOSED && caladan_guard_gone(it, 0, &look) == CALADAN_IS_CLOSED);
-    CHECK(caladan_guard_holder(it, 0, &holder) == CALADAN_IS_CLOSED && caladan_guard_task(it, 0, &counts) == CALADAN_IS_CLOSED);
-    CHECK(caladan_guard_judge(it, looks, THREADS, judged, THREADS) == CALADAN_IS_CLOSED && caladan_guard_kept(it, 0, &look) == CALADAN_IS_CLOSED);
+    CHECK(caladan_guard_table(it, &machine) == CALADAN_IS_CLOSED &&
+          caladan_guard_table_task(it, 0, &row) == CALADAN_IS_CLOSED);
+    CHECK(caladan_guard_thread(it, 0, &state) == CALADAN_IS_CLOSED &&
+          caladan_guard_gone(it, 0, &look) == CALADAN_IS_CLOSED);
+    CHECK(caladan_guard_holder(it, 0, &holder) == CALADAN_IS_CLOSED &&
+          caladan_guard_task(it, 0, &counts) == CALADAN_IS_CLOSED);
+    CHECK(caladan_guard_judge(it, looks, THREADS, judged, THREADS) == CALADAN_IS_CLOSED &&
+          caladan_guard_kept(it, 0, &look) == CALADAN_IS_CLOSED);
     CHECK(caladan_guard_ban(it, 0, &ban) == CALADAN_IS_CLOSED && caladan_guard_last(it, 0, &last) == CALADAN_IS_CLOSED);
     CHECK(caladan_guard_close(it) == CALADAN_IS_CLOSED && it->open);
 }
@@ -58,7 +67,8 @@ static void is_no_audit(caladan_audit *it) {
     CHECK(caladan_audit_open_rows(2, 0, ROWS, 2, it, NULL) == CALADAN_IS_OPEN);
     CHECK(caladan_audit_open_policy(NULL, 0, CALADAN_POLICY_CALADAN, it) == CALADAN_IS_OPEN);
     CHECK(caladan_audit_pass(it, 1, 0, looks, THREADS, judged, THREADS, none, 0) == CALADAN_IS_CLOSED);
-    CHECK(caladan_audit_verdict(it, &first) == CALADAN_IS_CLOSED && caladan_audit_close(it) == CALADAN_IS_CLOSED && it->open);
+    CHECK(caladan_audit_verdict(it, &first) == CALADAN_IS_CLOSED && caladan_audit_close(it) == CALADAN_IS_CLOSED &&
+          it->open);
 }
 
 /* What each is told stays as it was, and each handle is what it was. */
@@ -68,7 +78,8 @@ static void try_kinds(void) {
     caladan_audit audit = CALADAN_AUDIT_CLOSED;
     for (int k = 0; k < THREADS; k++) looks[k] = (caladan_look){.room = 1};
     memset(judged, 77, sizeof judged);
-    machine.cores = row.limit = holder.state = counts.cap = ban.banned = last.granted = 77, state.sent = look.number = first = 77;
+    machine.cores = row.limit = holder.state = counts.cap = ban.banned = last.granted = 77,
+    state.sent = look.number = first = 77;
     CHECK(caladan_open_rows(2, 7, ROWS, 2, &scheduler, NULL) == CALADAN_DONE);
     CHECK(caladan_guard_open_rows(2, 7, ROWS, 2, &guard, NULL) == CALADAN_DONE);
     CHECK(caladan_audit_open_rows(2, 7, ROWS, 2, &audit, NULL) == CALADAN_DONE);
@@ -81,7 +92,8 @@ static void try_kinds(void) {
     CHECK(judged[0] == 77 && machine.cores == 77 && row.limit == 77 && holder.state == 77 && counts.cap == 77);
     CHECK(ban.banned == 77 && last.granted == 77 && state.sent == 77 && look.number == 77 && first == 77);
     CHECK(caladan_bandwidth_limit(&scheduler) == 7 && caladan_close(&scheduler) == CALADAN_DONE && !scheduler.open);
-    CHECK(caladan_guard_table(&guard, &machine) == CALADAN_DONE && machine.threads == THREADS && caladan_guard_close(&guard) == CALADAN_DONE);
+    CHECK(caladan_guard_table(&guard, &machine) == CALADAN_DONE && machine.threads == THREADS &&
+          caladan_guard_close(&guard) == CALADAN_DONE);
     CHECK(caladan_audit_verdict(&audit, &first) == CALADAN_DONE && caladan_audit_close(&audit) == CALADAN_DONE);
 }
 
@@ -91,7 +103,12 @@ static void look_at_pass(caladan *handle, uint64_t pass, caladan_look of[THREADS
     for (uint64_t k = 0; k < THREADS; k++) {
         bool asks = (pass / 3 + k) % 5 < 2;
         CHECK(caladan_thread(handle, k, &sent) == CALADAN_DONE);
-        of[k] = (caladan_look){.room = 1, .number = pass + 1, .taken = sent.sent, .queued = asks, .oldest = asks ? 10 * (pass - pass % 3) : 0, .stamp = 10 * pass};
+        of[k] = (caladan_look){.room = 1,
+                               .number = pass + 1,
+                               .taken = sent.sent,
+                               .queued = asks,
+                               .oldest = asks ? 10 * (pass - pass % 3) : 0,
+                               .stamp = 10 * pass};
     }
 }
 
@@ -103,7 +120,8 @@ static void make_pass(caladan *handle, uint64_t pass, actions_of_pass out, size_
     caladan_look of[THREADS];
     uint8_t said[THREADS];
     look_at_pass(handle, pass, of);
-    CHECK(caladan_pass_each(handle, 10 * pass, 0, of, THREADS, said, THREADS, out, CALADAN_MOST_ACTIONS, count) == CALADAN_DONE);
+    CHECK(caladan_pass_each(handle, 10 * pass, 0, of, THREADS, said, THREADS, out, CALADAN_MOST_ACTIONS, count) ==
+          CALADAN_DONE);
 }
 
 static pthread_mutex_t turn = PTHREAD_MUTEX_INITIALIZER;
@@ -146,7 +164,8 @@ static void try_threads(void) {
     for (uint64_t pass = 0; pass < PASSES; pass++) make_pass(&own, pass, by_one[pass], &counts_by_one[pass]);
     for (int k = 0; k < POLLERS; k++) CHECK(pthread_join(pollers[k], NULL) == 0);
     for (int k = 0; k < PASSES; k++) {
-        CHECK(counts_by_one[k] == counts_by_threads[k] && !memcmp(by_one[k], by_threads[k], counts_by_one[k] * sizeof *by_one[k]));
+        CHECK(counts_by_one[k] == counts_by_threads[k] &&
+              !memcmp(by_one[k], by_threads[k], counts_by_one[k] * sizeof *by_one[k]));
         all += counts_by_one[k];
     }
     CHECK(all > PASSES / 2);

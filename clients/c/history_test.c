@@ -17,8 +17,10 @@ static void want(FILE *out, char **text, const char *wanted) {
 
 /* A look that is whole, by its judgement, in both kinds of passes; and one that is busy. */
 static void try_looks(FILE *out, char **text) {
-    static const char *const plain[] = {"whole,3,1,6,1,0,2,9,0,7,50,0,0\n", NULL, "ahead,3,1,6,1,0,2,9,0,7,50,0,0\n", "foreign,3,1,6,1,0,2,9,0,7,50,0,0\n"};
-    const caladan_look whole = {.room = 2, .number = 6, .second = 99, .taken = 1, .queued = 2, .oldest = 9, .misses = 7, .stamp = 50};
+    static const char *const plain[] = {"whole,3,1,6,1,0,2,9,0,7,50,0,0\n", NULL, "ahead,3,1,6,1,0,2,9,0,7,50,0,0\n",
+                                        "foreign,3,1,6,1,0,2,9,0,7,50,0,0\n"};
+    const caladan_look whole = {
+        .room = 2, .number = 6, .second = 99, .taken = 1, .queued = 2, .oldest = 9, .misses = 7, .stamp = 50};
     const caladan_look busy = {.busy = 1, .number = 12, .second = 15};
     for (uint8_t judged = CALADAN_KEPT; judged <= CALADAN_WORD_FELL; judged++) {
         if (judged == CALADAN_BUSY) continue;
@@ -55,11 +57,13 @@ static void try_pass(FILE *out, char **text) {
     caladan_history_pass(out, true, 11, 21, looks, judged, 2, NULL, 0);
     caladan_history_pass(out, true, 12, 22, looks, misshapen, 2, NULL, 0);
     caladan_history_end(out, 3);
-    want(out, text, "caladan-history,2\n"
-                    "pass,10,20\nahead,0,0,6,0,0,0,0,0,0,0,0,0\nforeign,1,0,7,0,200,0,0,0,0,0,0,0\n"
-                    "free,1\nunban,2\nban,3,4,18446744073709551615\nrevoke,5,ban,4\nrevoke,6,bandwidth\nrevoke,7,preempt,1\ncap,2,3\ngrant,127,126,2\n"
-                    "pass,11,21\nbusy,0,0,1,1\nbusy,1,0,1,1\n"
-                    "pass,12,22\nwhole,0,0,6,0,0,0,0,0,0,0,0,0\nbusy,1,0,1,1\nend,3\n");
+    want(out, text,
+         "caladan-history,2\n"
+         "pass,10,20\nahead,0,0,6,0,0,0,0,0,0,0,0,0\nforeign,1,0,7,0,200,0,0,0,0,0,0,0\n"
+         "free,1\nunban,2\nban,3,4,18446744073709551615\nrevoke,5,ban,4\nrevoke,6,bandwidth\nrevoke,7,preempt,1\n"
+         "cap,2,3\ngrant,127,126,2\n"
+         "pass,11,21\nbusy,0,0,1,1\nbusy,1,0,1,1\n"
+         "pass,12,22\nwhole,0,0,6,0,0,0,0,0,0,0,0,0\nbusy,1,0,1,1\nend,3\n");
 }
 
 /* /dev/full is a disk that is full. */
@@ -69,14 +73,17 @@ static void try_full(void) {
     FILE *full = fopen("/dev/full", "w");
     if (!full) return;
     bool begun = caladan_history_begin(full), told = false;
-    for (int pass = 0; pass < 10000 && !told; pass++) told = !caladan_history_pass(full, false, 1, 0, &look, &judged, 1, NULL, 0);
+    for (int pass = 0; pass < 10000 && !told; pass++)
+        told = !caladan_history_pass(full, false, 1, 0, &look, &judged, 1, NULL, 0);
     if (!begun || !told || caladan_history_end(full, 1)) puts("history_test: a full disk was not told"), failed = 1;
     fclose(full);
     full = fopen("/dev/full", "w");
-    if (!full || !caladan_history_begin(full) || caladan_history_end(full, 0)) puts("history_test: a full disk was not told at the end"), failed = 1;
+    if (!full || !caladan_history_begin(full) || caladan_history_end(full, 0))
+        puts("history_test: a full disk was not told at the end"), failed = 1;
     if (full) fclose(full);
     FILE *null = fopen("/dev/null", "w");
-    if (!null || !caladan_history_begin(null) || !caladan_history_end(null, 0)) puts("history_test: a file that took all"), failed = 1;
+    if (!null || !caladan_history_begin(null) || !caladan_history_end(null, 0))
+        puts("history_test: a file that took all"), failed = 1;
     if (null) fclose(null);
 }
 

@@ -49,7 +49,10 @@ static void *lie_until_stopped(void *of) {
         uint64_t near = atomic_load_explicit(&page->version, memory_order_relaxed) & 0xffffffffff;
         uint64_t low = r % 7;
         if (at == 0) {
-            uint64_t version = low == 0 ? r : low < 3 ? near + 1 : low < 5 ? near + 2 - near % 2 : near - (near > 2 ? r % 3 : 0);
+            uint64_t version = low == 0  ? r
+                               : low < 3 ? near + 1
+                               : low < 5 ? near + 2 - near % 2
+                                         : near - (near > 2 ? r % 3 : 0);
             atomic_store_explicit(&page->version, version, memory_order_release);
         } else {
             uint64_t word = low == 0 ? r : low < 4 ? r % 8 : 0;
@@ -115,19 +118,24 @@ static void send_each(host *it, const caladan_action *actions, size_t made) {
     for (size_t i = 0; i < made; i++) {
         uint8_t thread;
         if (actions[i].kind == CALADAN_GRANT) caladan_ring_send(&it->senders[actions[i].thread], actions[i].core + 1u);
-        if (actions[i].kind == CALADAN_REVOKE && !caladan_revoked(&it->each, actions[i].core, &thread)) caladan_ring_send(&it->senders[thread], CALADAN_PARK);
+        if (actions[i].kind == CALADAN_REVOKE && !caladan_revoked(&it->each, actions[i].core, &thread))
+            caladan_ring_send(&it->senders[thread], CALADAN_PARK);
     }
 }
 
 /* The guard, handed what a pass by looks taken one by one was given, judged and did. */
-static int guarded(host *it, uint64_t number, const caladan_look *looks, const uint8_t *judged, const caladan_action *actions, size_t made) {
+static int guarded(host *it, uint64_t number, const caladan_look *looks, const uint8_t *judged,
+                   const caladan_action *actions, size_t made) {
     uint8_t said[THREADS];
     caladan_refused refused;
     caladan_thread_state state;
-    if (caladan_guard_pass_each(&it->guard, 100 + number, number % 2000, looks, THREADS, said, THREADS, actions, made, &refused)) return wrong("the guard does not let it through", number);
+    if (caladan_guard_pass_each(&it->guard, 100 + number, number % 2000, looks, THREADS, said, THREADS, actions, made,
+                                &refused))
+        return wrong("the guard does not let it through", number);
     if (memcmp(said, judged, THREADS)) return wrong("the guard judges otherwise", number);
     for (size_t k = 0; k < THREADS; k++)
-        if (caladan_guard_thread(&it->guard, k, &state) || state.taken > state.sent) return wrong("the guard's counts", number);
+        if (caladan_guard_thread(&it->guard, k, &state) || state.taken > state.sent)
+            return wrong("the guard's counts", number);
     return 0;
 }
 
@@ -142,20 +150,28 @@ static int pass(host *it, shared *all, uint64_t number, bool *granted) {
     uint64_t now = 100 + number;
     for (size_t k = 0; k < THREADS; k++) {
         caladan_observe(&all->page[k], &looks[k]);
-        if (caladan_thread(&it->each, k, &state) || state.sent != it->senders[k].sent || state.taken > state.sent) return wrong("a thread's counts", number);
+        if (caladan_thread(&it->each, k, &state) || state.sent != it->senders[k].sent || state.taken > state.sent)
+            return wrong("a thread's counts", number);
         looks[k].room = caladan_room(state.sent, state.taken);
     }
-    if (caladan_pass_each(&it->each, now, number % 2000, looks, THREADS, judged, THREADS, actions, CALADAN_MOST_ACTIONS, &made)) return wrong("not DONE", number);
+    if (caladan_pass_each(&it->each, now, number % 2000, looks, THREADS, judged, THREADS, actions, CALADAN_MOST_ACTIONS,
+                          &made))
+        return wrong("not DONE", number);
     for (size_t k = 0; k < THREADS; k++) {
         taken[k] = caladan_taken(&looks[k], judged[k]);
         it->refused[judged[k]]++;
         if (k != LIAR && judged[k] > CALADAN_BUSY) return wrong("an honest look was refused", number);
     }
-    if (caladan_pass(&it->plain, now, number % 2000, taken, THREADS, plain, THREADS, again, CALADAN_MOST_ACTIONS, &same)) return wrong("the plain pass is not DONE", number);
-    if (same != made || memcmp(actions, again, made * sizeof *actions)) return wrong("other actions than the policy's", number);
-    if (caladan_audit_pass(&it->audit, now, number % 2000, taken, THREADS, plain, THREADS, actions, made)) return wrong("the audit did not take it", number);
+    if (caladan_pass(&it->plain, now, number % 2000, taken, THREADS, plain, THREADS, again, CALADAN_MOST_ACTIONS,
+                     &same))
+        return wrong("the plain pass is not DONE", number);
+    if (same != made || memcmp(actions, again, made * sizeof *actions))
+        return wrong("other actions than the policy's", number);
+    if (caladan_audit_pass(&it->audit, now, number % 2000, taken, THREADS, plain, THREADS, actions, made))
+        return wrong("the audit did not take it", number);
     if (guarded(it, number, looks, judged, actions, made)) return 1;
-    if (it->out && number < WRITTEN) caladan_history_pass(it->out, true, now, number % 2000, looks, judged, THREADS, actions, made);
+    if (it->out && number < WRITTEN)
+        caladan_history_pass(it->out, true, now, number % 2000, looks, judged, THREADS, actions, made);
     if (it->out && number + 1 == WRITTEN) caladan_history_end(it->out, WRITTEN);
     for (size_t i = 0; i < made; i++) *granted |= actions[i].kind == CALADAN_GRANT && actions[i].thread == LIAR;
     send_each(it, actions, made);
@@ -168,17 +184,21 @@ static int pass(host *it, shared *all, uint64_t number, bool *granted) {
 static int succeed(host *it, shared *all, uint64_t number) {
     caladan_look gone, guards;
     bool granted = false;
-    if (caladan_guard_gone(&it->guard, LIAR, &guards) || caladan_gone(&it->each, LIAR, &gone) || guards.number != gone.number || guards.taken != gone.taken)
+    if (caladan_guard_gone(&it->guard, LIAR, &guards) || caladan_gone(&it->each, LIAR, &gone) ||
+        guards.number != gone.number || guards.taken != gone.taken)
         return wrong("the guard's record for the gone", number);
     if (!caladan_bury(&all->page[LIAR], &all->ring[LIAR], &gone)) return wrong("no record for the gone", number);
     if (pass(it, all, number, &granted)) return 1;
     for (uint8_t core = 0; core < 4; core++) {
         caladan_holder_of_core holder;
-        if (caladan_holder(&it->each, core, &holder) || (holder.state != CALADAN_CORE_FREE && holder.thread == LIAR && !granted)) return wrong("the gone one's core is not free", number);
+        if (caladan_holder(&it->each, core, &holder) ||
+            (holder.state != CALADAN_CORE_FREE && holder.thread == LIAR && !granted))
+            return wrong("the gone one's core is not free", number);
     }
     honest *successor = &it->honest[LIAR];
     successor->random = 99;
-    if (!caladan_adopt(&successor->publisher, &all->page[LIAR], successor->words)) return wrong("the buried page is busy", number);
+    if (!caladan_adopt(&successor->publisher, &all->page[LIAR], successor->words))
+        return wrong("the buried page is busy", number);
     granted = false;
     for (uint64_t k = 1; k < 3000 && !granted; k++)
         if (pass(it, all, number + k, &granted)) return 1;
@@ -195,8 +215,10 @@ static int run(host *it, shared *all, uint64_t passes) {
 static int open_all(host *it, shared *all, uint32_t policy) {
     const uint8_t *text = (const uint8_t *)TABLE;
     size_t length = strlen(TABLE);
-    if (caladan_open_policy(text, length, policy, &it->each) || caladan_open_policy(text, length, policy, &it->plain)) return 1;
-    if (caladan_audit_open_policy(text, length, policy, &it->audit) || caladan_guard_open(text, length, &it->guard)) return 1;
+    if (caladan_open_policy(text, length, policy, &it->each) || caladan_open_policy(text, length, policy, &it->plain))
+        return 1;
+    if (caladan_audit_open_policy(text, length, policy, &it->audit) || caladan_guard_open(text, length, &it->guard))
+        return 1;
     for (size_t k = 0; k < THREADS; k++) {
         it->senders[k] = (caladan_sender){&all->ring[k], 0};
         if (k != LIAR) it->honest[k] = (honest){{&all->page[k], 0}, {0}, k * 7919 + 1, k};
@@ -225,7 +247,8 @@ int main(int argc, char **argv) {
     else kill(child, SIGKILL), waitpid(child, NULL, 0);
     if (!status) status = succeed(&it, all, passes);
     if (!status && caladan_audit_verdict(&it.audit, &first)) status = wrong("the record is not legal", first);
-    for (int k = CALADAN_KEPT; k <= CALADAN_WORD_FELL; k++) fprintf(stderr, "liar_test: %llu %s\n", (unsigned long long)it.refused[k], caladan_judgement_text((uint8_t)k));
+    for (int k = CALADAN_KEPT; k <= CALADAN_WORD_FELL; k++)
+        fprintf(stderr, "liar_test: %llu %s\n", (unsigned long long)it.refused[k], caladan_judgement_text((uint8_t)k));
     if (it.out) fclose(it.out);
     caladan_close(&it.each), caladan_close(&it.plain), caladan_audit_close(&it.audit), caladan_guard_close(&it.guard);
     puts(status ? "liar_test: failed" : "liar_test: ok");

@@ -41,12 +41,14 @@ typedef struct passed {
 
 static void pass_each(caladan *handle, uint64_t now, const caladan_look *looks, passed *out) {
     memset(out, 0, sizeof *out);
-    out->answer = caladan_pass_each(handle, now, 0, looks, THREADS, out->judged, THREADS, out->actions, CALADAN_MOST_ACTIONS, &out->made);
+    out->answer = caladan_pass_each(handle, now, 0, looks, THREADS, out->judged, THREADS, out->actions,
+                                    CALADAN_MOST_ACTIONS, &out->made);
 }
 
 static void pass_plain(caladan *handle, uint64_t now, const caladan_look *looks, passed *out) {
     memset(out, 0, sizeof *out);
-    out->answer = caladan_pass(handle, now, 0, looks, THREADS, out->judged, THREADS, out->actions, CALADAN_MOST_ACTIONS, &out->made);
+    out->answer = caladan_pass(handle, now, 0, looks, THREADS, out->judged, THREADS, out->actions, CALADAN_MOST_ACTIONS,
+                               &out->made);
 }
 
 /* Hands a guard these actions, each look by itself: the answer, with what was judged and where it stopped. */
@@ -56,9 +58,11 @@ typedef struct handed {
     caladan_refused refused;
 } handed;
 
-static handed hand(caladan_guard *guard, uint64_t now, const caladan_look *looks, const caladan_action *actions, size_t made) {
+static handed hand(caladan_guard *guard, uint64_t now, const caladan_look *looks, const caladan_action *actions,
+                   size_t made) {
     handed out = {0, {77, 77, 77, 77}, {77, 77, 77}};
-    out.answer = caladan_guard_pass_each(guard, now, 0, looks, THREADS, out.judged, THREADS, actions, made, &out.refused);
+    out.answer = caladan_guard_pass_each(guard, now, 0, looks, THREADS, out.judged, THREADS, actions, made,
+                                         &out.refused);
     return out;
 }
 
@@ -102,7 +106,8 @@ static const lie LIES[] = {
 
 static int grants_to(const passed *pass, int thread) {
     int count = 0;
-    for (size_t i = 0; i < pass->made; i++) count += pass->actions[i].kind == CALADAN_GRANT && pass->actions[i].thread == thread;
+    for (size_t i = 0; i < pass->made; i++)
+        count += pass->actions[i].kind == CALADAN_GRANT && pass->actions[i].thread == thread;
     return count;
 }
 
@@ -127,7 +132,8 @@ static void try_lie(const lie *it) {
         CHECK(without.answer == CALADAN_DONE && same_actions(&told, &without));
     }
     /* the honest successor: it took the Run, left, and has a request: its record is kept */
-    looks[LIAR] = (caladan_look){.room = 1, .number = 6, .taken = 1, .misses = 7, .stamp = 50, .queued = 1, .oldest = 1};
+    looks[LIAR] =
+        (caladan_look){.room = 1, .number = 6, .taken = 1, .misses = 7, .stamp = 50, .queued = 1, .oldest = 1};
     pass_each(&handle, 102, looks, &told);
     CHECK(told.answer == CALADAN_DONE && told.judged[LIAR] == CALADAN_KEPT && grants_to(&told, LIAR) == 1);
     caladan_close(&handle);
@@ -153,13 +159,17 @@ static void try_audited_lie(const lie *it) {
             pass_each(&handle, now, looks, &told);
             for (int k = 0; k < THREADS; k++) {
                 taken[k] = as_it_was ? looks[k] : caladan_taken(&looks[k], told.judged[k]);
-                judged[k] = told.judged[k] > CALADAN_FOREIGN && as_it_was ? (looks[k].busy ? CALADAN_BUSY : CALADAN_KEPT) : told.judged[k];
+                judged[k] = told.judged[k] > CALADAN_FOREIGN && as_it_was
+                                ? (looks[k].busy ? CALADAN_BUSY : CALADAN_KEPT)
+                                : told.judged[k];
                 if (!as_it_was && told.judged[k] > CALADAN_BUSY) judged[k] = CALADAN_BUSY;
             }
-            CHECK(caladan_audit_pass(&audit, now, 0, taken, THREADS, judged, THREADS, told.actions, told.made) == CALADAN_DONE);
+            CHECK(caladan_audit_pass(&audit, now, 0, taken, THREADS, judged, THREADS, told.actions, told.made) ==
+                  CALADAN_DONE);
             looks[LIAR] = it->look;
         }
-        CHECK(caladan_audit_verdict(&audit, &first) == (legal ? CALADAN_DONE : CALADAN_ILLEGAL) && first == (legal ? 77 : 1));
+        CHECK(caladan_audit_verdict(&audit, &first) == (legal ? CALADAN_DONE : CALADAN_ILLEGAL) &&
+              first == (legal ? 77 : 1));
         caladan_audit_close(&audit);
     }
     caladan_close(&handle);
@@ -201,17 +211,22 @@ static void try_guarded_lie(const lie *it) {
     CHECK(is.answer == CALADAN_DONE && !memcmp(is.judged, told.judged, THREADS) && is.refused.why == 77);
     looks[LIAR] = it->look;
     bool is_unfit = it->judged >= CALADAN_NO_PAIR;
-    CHECK(caladan_guard_first_unfit(&guard, looks, THREADS, &unfit) == (is_unfit ? CALADAN_UNFIT : CALADAN_DONE) && unfit == (is_unfit ? LIAR : 99));
-    if (is_unfit) CHECK(caladan_guard_pass(&guard, 101, 0, looks, THREADS, is.judged, THREADS, NULL, 0, &is.refused) == CALADAN_UNFIT);
+    CHECK(caladan_guard_first_unfit(&guard, looks, THREADS, &unfit) == (is_unfit ? CALADAN_UNFIT : CALADAN_DONE) &&
+          unfit == (is_unfit ? LIAR : 99));
+    if (is_unfit)
+        CHECK(caladan_guard_pass(&guard, 101, 0, looks, THREADS, is.judged, THREADS, NULL, 0, &is.refused) ==
+              CALADAN_UNFIT);
     for (int again = 0; again < 2; again++) {
         is = hand(&guard, 101, looks, &nobody, 1);
-        CHECK(is.answer == CALADAN_NOT_PERMITTED && is.refused.place == 0 && is.refused.why == CALADAN_WHY_DOES_NOT_FIT);
+        CHECK(is.answer == CALADAN_NOT_PERMITTED && is.refused.place == 0 &&
+              is.refused.why == CALADAN_WHY_DOES_NOT_FIT);
         CHECK(is.judged[LIAR] == it->judged && is.judged[0] == CALADAN_KEPT);
         pass_each(&handle, 101, looks, &told);
         is = hand(&guard, 101, looks, told.actions, told.made);
         CHECK(is.answer == CALADAN_DONE && is.judged[LIAR] == it->judged && !memcmp(is.judged, told.judged, THREADS));
     }
-    looks[LIAR] = (caladan_look){.room = 1, .number = 6, .taken = 1, .misses = 7, .stamp = 50, .queued = 1, .oldest = 1};
+    looks[LIAR] =
+        (caladan_look){.room = 1, .number = 6, .taken = 1, .misses = 7, .stamp = 50, .queued = 1, .oldest = 1};
     pass_each(&handle, 102, looks, &told);
     is = hand(&guard, 102, looks, told.actions, told.made);
     CHECK(is.answer == CALADAN_DONE && is.judged[LIAR] == CALADAN_KEPT && grants_to(&told, LIAR) == 1);
@@ -225,16 +240,19 @@ static void try_guarded_gone(void) {
     caladan_look looks[THREADS], gone;
     caladan_thread_state state;
     caladan_holder_of_core holder;
-    const caladan_action grant = {.kind = CALADAN_GRANT, .core = 2, .thread = LIAR, .core_class = 3}, freed = {.kind = CALADAN_FREE, .core = 2};
+    const caladan_action grant = {.kind = CALADAN_GRANT, .core = 2, .thread = LIAR, .core_class = 3},
+                         freed = {.kind = CALADAN_FREE, .core = 2};
     uint8_t thread = 99;
     one_waits(looks);
     CHECK(hand(&guard, 100, looks, &grant, 1).answer == CALADAN_DONE);
-    CHECK(caladan_guard_thread(&guard, LIAR, &state) == CALADAN_DONE && state.task == 0 && state.sent == 1 && state.taken == 0);
+    CHECK(caladan_guard_thread(&guard, LIAR, &state) == CALADAN_DONE && state.task == 0 && state.sent == 1 &&
+          state.taken == 0);
     CHECK(caladan_guard_revoked(&guard, 2, &thread) == CALADAN_NO_SUCH && thread == 99);
     handed is = hand(&guard, 101, looks, &freed, 1);
     CHECK(is.answer == CALADAN_NOT_PERMITTED && is.refused.why == CALADAN_WHY_NOT_LEFT);
     CHECK(caladan_guard_gone(&guard, LIAR, &gone) == CALADAN_DONE);
-    CHECK(!gone.busy && gone.room == 0 && gone.number == 6 && gone.taken == 1 && !gone.running && gone.misses == 7 && gone.stamp == 50 && !gone.queued);
+    CHECK(!gone.busy && gone.room == 0 && gone.number == 6 && gone.taken == 1 && !gone.running && gone.misses == 7 &&
+          gone.stamp == 50 && !gone.queued);
     looks[LIAR] = gone;
     is = hand(&guard, 101, looks, &freed, 1);
     CHECK(is.answer == CALADAN_DONE && is.judged[LIAR] == CALADAN_KEPT);
@@ -242,7 +260,8 @@ static void try_guarded_gone(void) {
     CHECK(caladan_guard_thread(&guard, LIAR, &state) == CALADAN_DONE && state.taken == 1);
     looks[LIAR] = (caladan_look){.room = 1, .number = 8, .taken = 9, .misses = 7, .stamp = 50};
     CHECK(caladan_guard_pass(&guard, 102, 0, looks, THREADS, is.judged, THREADS, NULL, 0, &is.refused) == CALADAN_DONE);
-    CHECK(is.judged[LIAR] == CALADAN_AHEAD && caladan_guard_gone(&guard, LIAR, &gone) == CALADAN_LOST && gone.number == 6);
+    CHECK(is.judged[LIAR] == CALADAN_AHEAD && caladan_guard_gone(&guard, LIAR, &gone) == CALADAN_LOST &&
+          gone.number == 6);
     caladan_guard_close(&guard);
 }
 
@@ -257,11 +276,13 @@ static void try_gone(void) {
     pass_each(&handle, 100, looks, &told);
     for (size_t i = 0; i < told.made; i++)
         if (told.actions[i].kind == CALADAN_GRANT && told.actions[i].thread == LIAR) core = told.actions[i].core;
-    CHECK(caladan_thread(&handle, LIAR, &state) == CALADAN_DONE && state.task == 0 && state.sent == 1 && state.taken == 0);
+    CHECK(caladan_thread(&handle, LIAR, &state) == CALADAN_DONE && state.task == 0 && state.sent == 1 &&
+          state.taken == 0);
     CHECK(caladan_room(state.sent, state.taken));
     CHECK(caladan_revoked(&handle, core, &thread) == CALADAN_NO_SUCH);
     CHECK(caladan_gone(&handle, LIAR, &gone) == CALADAN_DONE);
-    CHECK(!gone.busy && gone.room == 0 && gone.number == 6 && gone.taken == 1 && !gone.running && gone.misses == 7 && gone.stamp == 50 && !gone.queued);
+    CHECK(!gone.busy && gone.room == 0 && gone.number == 6 && gone.taken == 1 && !gone.running && gone.misses == 7 &&
+          gone.stamp == 50 && !gone.queued);
     looks[LIAR] = gone;
     pass_each(&handle, 101, looks, &told);
     CHECK(told.answer == CALADAN_DONE && told.judged[LIAR] == CALADAN_KEPT);
@@ -275,7 +296,8 @@ static void try_gone(void) {
     caladan_close(&handle);
 }
 
-/* A thread that is gone, while its sibling waits: its core is freed once, and in a hundred passes nothing is granted to it. */
+/* A thread that is gone, while its sibling waits: its core is freed once, and in a hundred passes nothing is granted to
+ * it. */
 static void try_gone_beside_a_waiting_sibling(void) {
     caladan handle = open_one();
     caladan_look looks[THREADS], gone;
@@ -420,31 +442,47 @@ static void try_calls(void) {
     uint8_t judged[THREADS] = {77}, thread = 77;
     size_t made = 77, unfit = 77;
     CHECK(caladan_version() == 4 && CALADAN_VERSION == 4);
-    CHECK(caladan_pass_each(&closed, 1, 0, looks, THREADS, judged, THREADS, actions, CALADAN_MOST_ACTIONS, &made) == CALADAN_IS_CLOSED && made == 0);
-    CHECK(caladan_pass_each(&handle, 1, 0, looks, THREADS + 1, judged, THREADS, actions, CALADAN_MOST_ACTIONS, &made) == CALADAN_WRONG_COUNT);
-    CHECK(caladan_pass_each(&handle, 1, 0, looks, 0, judged, THREADS, actions, CALADAN_MOST_ACTIONS, &made) == CALADAN_WRONG_COUNT);
-    CHECK(caladan_pass_each(&handle, 1, 0, looks, THREADS, judged, THREADS - 1, actions, CALADAN_MOST_ACTIONS, &made) == CALADAN_NO_ROOM);
-    CHECK(caladan_pass_each(&handle, 1, 0, looks, THREADS, judged, THREADS, actions, CALADAN_MOST_ACTIONS - 1, &made) == CALADAN_NO_ROOM);
+    CHECK(caladan_pass_each(&closed, 1, 0, looks, THREADS, judged, THREADS, actions, CALADAN_MOST_ACTIONS, &made) ==
+              CALADAN_IS_CLOSED &&
+          made == 0);
+    CHECK(caladan_pass_each(&handle, 1, 0, looks, THREADS + 1, judged, THREADS, actions, CALADAN_MOST_ACTIONS, &made) ==
+          CALADAN_WRONG_COUNT);
+    CHECK(caladan_pass_each(&handle, 1, 0, looks, 0, judged, THREADS, actions, CALADAN_MOST_ACTIONS, &made) ==
+          CALADAN_WRONG_COUNT);
+    CHECK(caladan_pass_each(&handle, 1, 0, looks, THREADS, judged, THREADS - 1, actions, CALADAN_MOST_ACTIONS, &made) ==
+          CALADAN_NO_ROOM);
+    CHECK(caladan_pass_each(&handle, 1, 0, looks, THREADS, judged, THREADS, actions, CALADAN_MOST_ACTIONS - 1, &made) ==
+          CALADAN_NO_ROOM);
     CHECK(judged[0] == 77);
     CHECK(caladan_first_unfit(&closed, looks, THREADS, &unfit) == CALADAN_IS_CLOSED && unfit == 77);
     CHECK(caladan_first_unfit(&handle, looks, THREADS + 1, &unfit) == CALADAN_WRONG_COUNT && unfit == 77);
     CHECK(caladan_table(&closed, &machine) == CALADAN_IS_CLOSED && machine.cores == 77);
-    CHECK(caladan_table(&handle, &machine) == CALADAN_DONE && machine.cores == 4 && machine.tasks == 2 && machine.threads == 4 && machine.bandwidth_limit == 1000);
-    CHECK(caladan_table_task(&closed, 0, &row) == CALADAN_IS_CLOSED && caladan_table_task(&handle, 2, &row) == CALADAN_NO_SUCH);
+    CHECK(caladan_table(&handle, &machine) == CALADAN_DONE && machine.cores == 4 && machine.tasks == 2 &&
+          machine.threads == 4 && machine.bandwidth_limit == 1000);
+    CHECK(caladan_table_task(&closed, 0, &row) == CALADAN_IS_CLOSED &&
+          caladan_table_task(&handle, 2, &row) == CALADAN_NO_SUCH);
     CHECK(caladan_table_task(&handle, SIZE_MAX, &row) == CALADAN_NO_SUCH && row.kind == 77);
-    CHECK(caladan_table_task(&handle, 0, &row) == CALADAN_DONE && row.kind == CALADAN_LATENCY_CRITICAL && row.guaranteed == 1 && row.limit == 2);
+    CHECK(caladan_table_task(&handle, 0, &row) == CALADAN_DONE && row.kind == CALADAN_LATENCY_CRITICAL &&
+          row.guaranteed == 1 && row.limit == 2);
     CHECK(row.first_thread == 0 && row.delay == 10 && row.request == 50);
-    CHECK(caladan_table_task(&handle, 1, &row) == CALADAN_DONE && row.kind == CALADAN_BEST_EFFORT && row.first_thread == 2);
-    CHECK(caladan_thread(&closed, 0, &state) == CALADAN_IS_CLOSED && caladan_thread(&handle, THREADS, &state) == CALADAN_NO_SUCH);
+    CHECK(caladan_table_task(&handle, 1, &row) == CALADAN_DONE && row.kind == CALADAN_BEST_EFFORT &&
+          row.first_thread == 2);
+    CHECK(caladan_thread(&closed, 0, &state) == CALADAN_IS_CLOSED &&
+          caladan_thread(&handle, THREADS, &state) == CALADAN_NO_SUCH);
     CHECK(caladan_thread(&handle, SIZE_MAX, &state) == CALADAN_NO_SUCH && state.task == 77);
     CHECK(caladan_thread(&handle, 3, &state) == CALADAN_DONE && state.task == 1 && state.sent == 0 && state.taken == 0);
-    CHECK(caladan_gone(&closed, 0, &look) == CALADAN_IS_CLOSED && caladan_gone(&handle, THREADS, &look) == CALADAN_NO_SUCH);
+    CHECK(caladan_gone(&closed, 0, &look) == CALADAN_IS_CLOSED &&
+          caladan_gone(&handle, THREADS, &look) == CALADAN_NO_SUCH);
     CHECK(caladan_gone(&handle, SIZE_MAX, &look) == CALADAN_NO_SUCH && look.number == 77);
     CHECK(caladan_gone(&handle, 0, &look) == CALADAN_DONE && look.number == 1 && look.taken == 0 && look.room == 0);
-    CHECK(caladan_revoked(&closed, 0, &thread) == CALADAN_IS_CLOSED && caladan_revoked(&handle, 9, &thread) == CALADAN_NO_SUCH && thread == 77);
-    CHECK(!strcmp(caladan_answer_text(CALADAN_LOST), "no page can show that the thread is gone") && !strcmp(caladan_answer_text(200), "no answer"));
-    CHECK(!strcmp(caladan_judgement_text(CALADAN_PLACE_FELL), "its place fell") && !strcmp(caladan_judgement_text(99), "no judgement"));
-    CHECK(!strcmp(caladan_cause_text(CALADAN_FOR_TASK), "for a task") && !strcmp(caladan_why_text(CALADAN_WHY_OVER_CAP), "a task is over its cap"));
+    CHECK(caladan_revoked(&closed, 0, &thread) == CALADAN_IS_CLOSED &&
+          caladan_revoked(&handle, 9, &thread) == CALADAN_NO_SUCH && thread == 77);
+    CHECK(!strcmp(caladan_answer_text(CALADAN_LOST), "no page can show that the thread is gone") &&
+          !strcmp(caladan_answer_text(200), "no answer"));
+    CHECK(!strcmp(caladan_judgement_text(CALADAN_PLACE_FELL), "its place fell") &&
+          !strcmp(caladan_judgement_text(99), "no judgement"));
+    CHECK(!strcmp(caladan_cause_text(CALADAN_FOR_TASK), "for a task") &&
+          !strcmp(caladan_why_text(CALADAN_WHY_OVER_CAP), "a task is over its cap"));
     caladan_close(&handle);
 }
 
@@ -458,27 +496,39 @@ static void try_guard_calls(void) {
     const caladan_action none = {.kind = 7};
     uint8_t judged[THREADS] = {77}, thread = 77;
     size_t unfit = 77;
-    CHECK(caladan_guard_pass_each(&closed, 1, 0, looks, THREADS, judged, THREADS, NULL, 0, &refused) == CALADAN_IS_CLOSED);
-    CHECK(caladan_guard_pass_each(&guard, 1, 0, looks, THREADS + 1, judged, THREADS, NULL, 0, &refused) == CALADAN_WRONG_COUNT);
+    CHECK(caladan_guard_pass_each(&closed, 1, 0, looks, THREADS, judged, THREADS, NULL, 0, &refused) ==
+          CALADAN_IS_CLOSED);
+    CHECK(caladan_guard_pass_each(&guard, 1, 0, looks, THREADS + 1, judged, THREADS, NULL, 0, &refused) ==
+          CALADAN_WRONG_COUNT);
     CHECK(caladan_guard_pass_each(&guard, 1, 0, looks, 0, judged, THREADS, NULL, 0, &refused) == CALADAN_WRONG_COUNT);
-    CHECK(caladan_guard_pass_each(&guard, 1, 0, looks, THREADS, judged, THREADS - 1, NULL, 0, &refused) == CALADAN_NO_ROOM);
-    CHECK(caladan_guard_pass_each(&guard, 1, 0, looks, THREADS, judged, THREADS, &none, 1, &refused) == CALADAN_NO_ACTION);
+    CHECK(caladan_guard_pass_each(&guard, 1, 0, looks, THREADS, judged, THREADS - 1, NULL, 0, &refused) ==
+          CALADAN_NO_ROOM);
+    CHECK(caladan_guard_pass_each(&guard, 1, 0, looks, THREADS, judged, THREADS, &none, 1, &refused) ==
+          CALADAN_NO_ACTION);
     CHECK(judged[0] == 77 && refused.why == 77);
     CHECK(caladan_guard_first_unfit(&closed, looks, THREADS, &unfit) == CALADAN_IS_CLOSED && unfit == 77);
     CHECK(caladan_guard_first_unfit(&guard, looks, THREADS + 1, &unfit) == CALADAN_WRONG_COUNT && unfit == 77);
     CHECK(caladan_guard_table(&closed, &machine) == CALADAN_IS_CLOSED && machine.cores == 77);
-    CHECK(caladan_guard_table(&guard, &machine) == CALADAN_DONE && machine.cores == 4 && machine.tasks == 2 && machine.threads == 4 && machine.bandwidth_limit == 1000);
-    CHECK(caladan_guard_table_task(&closed, 0, &row) == CALADAN_IS_CLOSED && caladan_guard_table_task(&guard, 2, &row) == CALADAN_NO_SUCH);
+    CHECK(caladan_guard_table(&guard, &machine) == CALADAN_DONE && machine.cores == 4 && machine.tasks == 2 &&
+          machine.threads == 4 && machine.bandwidth_limit == 1000);
+    CHECK(caladan_guard_table_task(&closed, 0, &row) == CALADAN_IS_CLOSED &&
+          caladan_guard_table_task(&guard, 2, &row) == CALADAN_NO_SUCH);
     CHECK(caladan_guard_table_task(&guard, SIZE_MAX, &row) == CALADAN_NO_SUCH && row.kind == 77);
-    CHECK(caladan_guard_table_task(&guard, 0, &row) == CALADAN_DONE && row.kind == CALADAN_LATENCY_CRITICAL && row.guaranteed == 1 && row.limit == 2);
+    CHECK(caladan_guard_table_task(&guard, 0, &row) == CALADAN_DONE && row.kind == CALADAN_LATENCY_CRITICAL &&
+          row.guaranteed == 1 && row.limit == 2);
     CHECK(row.first_thread == 0 && row.delay == 10 && row.request == 50);
-    CHECK(caladan_guard_thread(&closed, 0, &state) == CALADAN_IS_CLOSED && caladan_guard_thread(&guard, THREADS, &state) == CALADAN_NO_SUCH);
+    CHECK(caladan_guard_thread(&closed, 0, &state) == CALADAN_IS_CLOSED &&
+          caladan_guard_thread(&guard, THREADS, &state) == CALADAN_NO_SUCH);
     CHECK(caladan_guard_thread(&guard, SIZE_MAX, &state) == CALADAN_NO_SUCH && state.task == 77);
-    CHECK(caladan_guard_thread(&guard, 3, &state) == CALADAN_DONE && state.task == 1 && state.sent == 0 && state.taken == 0);
-    CHECK(caladan_guard_gone(&closed, 0, &look) == CALADAN_IS_CLOSED && caladan_guard_gone(&guard, THREADS, &look) == CALADAN_NO_SUCH);
+    CHECK(caladan_guard_thread(&guard, 3, &state) == CALADAN_DONE && state.task == 1 && state.sent == 0 &&
+          state.taken == 0);
+    CHECK(caladan_guard_gone(&closed, 0, &look) == CALADAN_IS_CLOSED &&
+          caladan_guard_gone(&guard, THREADS, &look) == CALADAN_NO_SUCH);
     CHECK(caladan_guard_gone(&guard, SIZE_MAX, &look) == CALADAN_NO_SUCH && look.number == 77);
-    CHECK(caladan_guard_gone(&guard, 0, &look) == CALADAN_DONE && look.number == 1 && look.taken == 0 && look.room == 0);
-    CHECK(caladan_guard_revoked(&closed, 0, &thread) == CALADAN_IS_CLOSED && caladan_guard_revoked(&guard, 9, &thread) == CALADAN_NO_SUCH && thread == 77);
+    CHECK(caladan_guard_gone(&guard, 0, &look) == CALADAN_DONE && look.number == 1 && look.taken == 0 &&
+          look.room == 0);
+    CHECK(caladan_guard_revoked(&closed, 0, &thread) == CALADAN_IS_CLOSED &&
+          caladan_guard_revoked(&guard, 9, &thread) == CALADAN_NO_SUCH && thread == 77);
     CHECK(caladan_guard_close(&guard) == CALADAN_DONE && caladan_guard_close(&guard) == CALADAN_IS_CLOSED);
 }
 

@@ -29,7 +29,8 @@ static int made_at(caladan *handle, uint64_t now, const recorded *pass) {
     static caladan_action actions[CALADAN_MOST_ACTIONS];
     uint8_t judged[CALADAN_MOST_THREADS];
     size_t made;
-    uint8_t answer = caladan_pass(handle, now, pass->bandwidth, pass->looks, pass->count, judged, sizeof judged, actions, CALADAN_MOST_ACTIONS, &made);
+    uint8_t answer = caladan_pass(handle, now, pass->bandwidth, pass->looks, pass->count, judged, sizeof judged,
+                                  actions, CALADAN_MOST_ACTIONS, &made);
     return answer == CALADAN_DONE ? (int)made : -1;
 }
 
@@ -37,7 +38,8 @@ static int made_at(caladan *handle, uint64_t now, const recorded *pass) {
 static void try_clocks(caladan *handle, uint64_t now, const recorded *pass) {
     uint64_t next = 0;
     CHECK(caladan_next_clock(handle, now, &next) == CALADAN_DONE && next > now);
-    const uint64_t clocks[] = {now, now + 1, now + 2, now + (next - now) / 3, now + (next - now) / 2, next - 2, next - 1};
+    const uint64_t clocks[] = {
+        now, now + 1, now + 2, now + (next - now) / 3, now + (next - now) / 2, next - 2, next - 1};
     for (size_t k = 0; k < sizeof clocks / sizeof *clocks; k++) {
         if (clocks[k] < now || clocks[k] >= next) continue;
         CHECK(made_at(handle, clocks[k], pass) == 0);
@@ -82,14 +84,16 @@ static void try_one(int line, caladan_table_row row, uint64_t now, caladan_look 
     }
     CHECK(made_at(&handle, now, &pass) == 0);
     CHECK(caladan_next_clock(&handle, now, &next) == CALADAN_DONE);
-    if (next != wanted) fprintf(stderr, "line %d: the next clock is %llu\n", line, (unsigned long long)next), failed = 1;
+    if (next != wanted)
+        fprintf(stderr, "line %d: the next clock is %llu\n", line, (unsigned long long)next), failed = 1;
     if (wanted != UINT64_MAX) CHECK(made_at(&handle, wanted - 1, &pass) == 0 && made_at(&handle, wanted, &pass) > 0);
     CHECK(caladan_close(&handle) == CALADAN_DONE);
 }
 #define NEXT(...) try_one(__LINE__, __VA_ARGS__)
 
 static void try_known(void) {
-    const caladan_table_row lc = {.kind = CALADAN_LATENCY_CRITICAL, .guaranteed = 1, .limit = 1, .delay = 10, .request = 50};
+    const caladan_table_row lc = {
+        .kind = CALADAN_LATENCY_CRITICAL, .guaranteed = 1, .limit = 1, .delay = 10, .request = 50};
     const caladan_table_row be = {.kind = CALADAN_BEST_EFFORT, .limit = 1, .delay = 0, .request = 50};
     const uint64_t never = UINT64_MAX;
     NEXT(lc, 105, (caladan_look){.number = 1}, never);
@@ -124,9 +128,10 @@ static void change(caladan *handle, size_t k, uint64_t now, caladan_look *look) 
 }
 
 static void try_made(void) {
-    const caladan_table_row rows[] = {{.kind = CALADAN_LATENCY_CRITICAL, .guaranteed = 1, .limit = 3, .delay = 20, .request = 60},
-                                      {.kind = CALADAN_LATENCY_CRITICAL, .guaranteed = 1, .limit = 2, .delay = 5, .request = 200},
-                                      {.kind = CALADAN_BEST_EFFORT, .limit = 3, .delay = 30}};
+    const caladan_table_row rows[] = {
+        {.kind = CALADAN_LATENCY_CRITICAL, .guaranteed = 1, .limit = 3, .delay = 20, .request = 60},
+        {.kind = CALADAN_LATENCY_CRITICAL, .guaranteed = 1, .limit = 2, .delay = 5, .request = 200},
+        {.kind = CALADAN_BEST_EFFORT, .limit = 3, .delay = 30}};
     caladan handle = CALADAN_CLOSED;
     recorded pass = {.count = 8};
     uint64_t now = 1000;

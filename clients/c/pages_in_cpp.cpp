@@ -47,7 +47,8 @@ int take_turns() {
     caladan_turn_end(&page);
     caladan_look look = {};
     caladan_observe(&page, &look);
-    return look.busy || look.number != RECORDS + 1 || look.queued != RECORDS + 1 ? wrong("another record after a turn") : 0;
+    bool same = !look.busy && look.number == RECORDS + 1 && look.queued == RECORDS + 1;
+    return same ? 0 : wrong("another record after a turn");
 }
 
 int send_and_bury() {
@@ -55,12 +56,14 @@ int send_and_bury() {
     uint64_t command = 0, words[CALADAN_WORDS];
     caladan_ring_send(&sender, 4);
     caladan_ring_send(&sender, CALADAN_PARK);
-    if (!caladan_room(sender.sent, 0) || !caladan_ring_take(&ring, &command) || command != 4) return wrong("another command");
+    if (!caladan_room(sender.sent, 0) || !caladan_ring_take(&ring, &command) || command != 4)
+        return wrong("another command");
     caladan_look gone = {};
     gone.number = 1;
     gone.taken = sender.sent;
     caladan_publisher successor;
-    if (!caladan_bury(&page, &ring, &gone) || caladan_ring_take(&ring, &command)) return wrong("a burial that leaves a command");
+    if (!caladan_bury(&page, &ring, &gone) || caladan_ring_take(&ring, &command))
+        return wrong("a burial that leaves a command");
     if (!caladan_adopt(&successor, &page, words) || words[0] != 2) return wrong("another record of the gone");
     return successor.place == RECORDS + 2 ? 0 : wrong("the place of the burial");
 }

@@ -96,9 +96,11 @@ int main(int argc, char **argv) {
     waitpid(child, NULL, 0);
     for (int again = 0; again < 2; again++) {
         caladan_observe(&both->page, &look);
-        if (!look.busy || look.number % 2 == 0 || look.second != look.number) return wrong("an open page is not busy", look.number);
+        if (!look.busy || look.number % 2 == 0 || look.second != look.number)
+            return wrong("an open page is not busy", look.number);
     }
-    fprintf(stderr, "pages_test: %llu whole looks, %llu busy, last place %llu\n", (unsigned long long)looks, (unsigned long long)busy, (unsigned long long)floor);
+    fprintf(stderr, "pages_test: %llu whole looks, %llu busy, last place %llu\n", (unsigned long long)looks,
+            (unsigned long long)busy, (unsigned long long)floor);
     puts("pages_test: ok");
     return 0;
 }

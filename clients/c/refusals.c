@@ -4,12 +4,15 @@
 #include <stdio.h>
 #include <string.h>
 
-static const char TABLE[] = "cores = 2\nbandwidth_limit = 1000\n\n[[task]]\nkind = \"lc\"\nguaranteed = 1\nlimit = 1\ndelay = 10\nrequest = 50\n";
+static const char TABLE[] = "cores = 2\nbandwidth_limit = 1000\n\n"
+                            "[[task]]\nkind = \"lc\"\nguaranteed = 1\nlimit = 1\ndelay = 10\nrequest = 50\n";
 
 #define WANT(got, wanted) do { unsigned long long g = (got), w = (wanted); \
     if (g != w) { printf("line %d: %s is %llu, not %llu\n", __LINE__, #got, g, w); return 1; } } while (0)
 
-static uint8_t open_text(const char *text, caladan *handle) { return caladan_open((const uint8_t *)text, strlen(text), handle); }
+static uint8_t open_text(const char *text, caladan *handle) {
+    return caladan_open((const uint8_t *)text, strlen(text), handle);
+}
 
 static int closed(void) {
     caladan handle = CALADAN_CLOSED;
@@ -84,7 +87,8 @@ static int opened(void) {
     for (int again = 0; again < 3; again++) {
         WANT(caladan_pass(&handle, 111, 0, &look, 1, judged, 1, actions, 337, &made), CALADAN_NO_ROOM);
         WANT(caladan_pass(&handle, 111, 0, &look, 1, judged, 0, actions, CALADAN_MOST_ACTIONS, &made), CALADAN_NO_ROOM);
-        WANT(caladan_pass(&handle, 111, 0, &look, 0, judged, 1, actions, CALADAN_MOST_ACTIONS, &made), CALADAN_WRONG_COUNT);
+        WANT(caladan_pass(&handle, 111, 0, &look, 0, judged, 1, actions, CALADAN_MOST_ACTIONS, &made),
+             CALADAN_WRONG_COUNT);
         WANT(caladan_pass(&handle, 111, 0, &wrong, 1, judged, 1, actions, CALADAN_MOST_ACTIONS, &made), CALADAN_UNFIT);
         WANT(caladan_pass(&handle, 111, 0, &torn, 1, judged, 1, actions, CALADAN_MOST_ACTIONS, &made), CALADAN_UNFIT);
         WANT(made, 0);

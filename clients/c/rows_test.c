@@ -10,7 +10,8 @@ static const caladan_table_row PLAIN = {.kind = LC, .limit = 1};
 static caladan_table_row rows[MOST_ROWS];
 
 /* Opens so many rows, and sees that the answer is this, at this place. */
-static void try_rows(int line, size_t cores, uint64_t limit, size_t count, uint8_t wanted, size_t row, const char *field) {
+static void try_rows(int line, size_t cores, uint64_t limit, size_t count, uint8_t wanted, size_t row,
+                     const char *field) {
     caladan handle = CALADAN_CLOSED;
     caladan_guard guard = CALADAN_GUARD_CLOSED;
     caladan_audit audit = CALADAN_AUDIT_CLOSED;
@@ -21,7 +22,8 @@ static void try_rows(int line, size_t cores, uint64_t limit, size_t count, uint8
     CHECK(!handle.open && !guard.open && !audit.open);
     for (int k = 0; k < 3; k++)
         if (answers[k] != wanted || wrong[k].row != row || !wrong[k].field || strcmp(wrong[k].field, field)) {
-            fprintf(stderr, "line %d, %d: answer %d, row %zu, field %s\n", line, k, answers[k], wrong[k].row, wrong[k].field ? wrong[k].field : "none");
+            fprintf(stderr, "line %d, %d: answer %d, row %zu, field %s\n", line, k, answers[k], wrong[k].row,
+                    wrong[k].field ? wrong[k].field : "none");
             failed = 1;
         }
     CHECK(caladan_open_rows(cores, limit, rows, count, &handle, NULL) == wanted);
@@ -83,11 +85,13 @@ static void try_opened(void) {
     caladan_table_row row;
     caladan_wrong wrong = {77, "none"};
     plain();
-    rows[0] = (caladan_table_row){.kind = LC, .guaranteed = 2, .limit = 16, .first_thread = 99, .delay = MOST_TICKS, .request = 1};
+    rows[0] = (caladan_table_row){
+        .kind = LC, .guaranteed = 2, .limit = 16, .first_thread = 99, .delay = MOST_TICKS, .request = 1};
     rows[1] = (caladan_table_row){.kind = BE, .limit = 3, .delay = 7, .request = MOST_TICKS};
     CHECK(caladan_open_rows(128, MOST_TICKS, rows, 16, &handle, &wrong) == CALADAN_DONE);
     CHECK(caladan_table(&handle, &machine) == CALADAN_DONE);
-    CHECK(machine.cores == 128 && machine.tasks == 16 && machine.threads == 16 + 3 + 14 && machine.bandwidth_limit == MOST_TICKS);
+    CHECK(machine.cores == 128 && machine.tasks == 16 && machine.threads == 16 + 3 + 14 &&
+          machine.bandwidth_limit == MOST_TICKS);
     for (size_t k = 0, first = 0; k < 16; first += rows[k++].limit) {
         CHECK(caladan_table_task(&handle, k, &row) == CALADAN_DONE && row.first_thread == first);
         CHECK(row.kind == rows[k].kind && row.guaranteed == rows[k].guaranteed && row.limit == rows[k].limit);
@@ -101,9 +105,13 @@ static void try_opened(void) {
 static void try_text(void) {
     char text[CALADAN_ROWS_ROOM + 1];
     text[CALADAN_ROWS_ROOM] = 77;
-    for (int k = 0; k < MOST_ROWS; k++) rows[k] = (caladan_table_row){.kind = 9, .guaranteed = 255, .limit = 255, .delay = UINT64_MAX, .request = UINT64_MAX};
-    CHECK(caladan_rows_text(SIZE_MAX, UINT64_MAX, rows, MOST_ROWS, text) < CALADAN_ROWS_ROOM && text[CALADAN_ROWS_ROOM] == 77);
-    static const char wanted[] = "cores = 2\nbandwidth_limit = 0\n[[task]]\nkind = \"be\"\nguaranteed = 0\nlimit = 10\ndelay = 105\nrequest = 0\n";
+    for (int k = 0; k < MOST_ROWS; k++)
+        rows[k] =
+            (caladan_table_row){.kind = 9, .guaranteed = 255, .limit = 255, .delay = UINT64_MAX, .request = UINT64_MAX};
+    CHECK(caladan_rows_text(SIZE_MAX, UINT64_MAX, rows, MOST_ROWS, text) < CALADAN_ROWS_ROOM &&
+          text[CALADAN_ROWS_ROOM] == 77);
+    static const char wanted[] = "cores = 2\nbandwidth_limit = 0\n"
+                                 "[[task]]\nkind = \"be\"\nguaranteed = 0\nlimit = 10\ndelay = 105\nrequest = 0\n";
     rows[0] = (caladan_table_row){.kind = BE, .limit = 10, .delay = 105};
     CHECK(caladan_rows_text(2, 0, rows, 1, text) == strlen(wanted) && !memcmp(text, wanted, strlen(wanted)));
 }

@@ -7,7 +7,13 @@
 #include <stdlib.h>
 
 /* A row has at most 4 fields before a record's words, and no field of it is longer than a number. */
-enum { MOST_TEXT = 1 << 26, MOST_PASSES = 1 << 20, MOST_FIELDS = 4 + CALADAN_WORDS, FIELD_ROOM = 24, WORDS_OF_VERSION_1 = 7 };
+enum {
+    MOST_TEXT = 1 << 26,
+    MOST_PASSES = 1 << 20,
+    MOST_FIELDS = 4 + CALADAN_WORDS,
+    FIELD_ROOM = 24,
+    WORDS_OF_VERSION_1 = 7
+};
 
 /* An input, and its two parts. */
 typedef struct input {
@@ -158,7 +164,8 @@ static inline bool begin_trace(trace *it, const input *in, bool is_history, cala
     const char *from = in->trace;
     size_t mark = in->trace_length >= 3 && !memcmp(from, "\xef\xbb\xbf", 3) ? 3 : 0;
     uint64_t version;
-    *it = (trace){.rows = {.at = from + mark, .end = from + in->trace_length}, .machine = machine, .is_history = is_history};
+    *it = (trace){
+        .rows = {.at = from + mark, .end = from + in->trace_length}, .machine = machine, .is_history = is_history};
     if (!next_row(&it->rows) || !is_row(&it->rows, is_history ? "caladan-history" : "caladan-signals", 2)) return false;
     if (!read_number(&it->rows, 1, 2, &version) || version == 0) return false;
     it->words = version == 1 ? WORDS_OF_VERSION_1 : CALADAN_WORDS;
@@ -229,14 +236,16 @@ static inline bool read_actions(trace *it, recorded *pass) {
 /* The row `end`, behind which there is none. */
 static inline bool is_end(trace *it) {
     uint64_t passes;
-    return is_row(&it->rows, "end", 2) && read_number(&it->rows, 1, UINT64_MAX, &passes) && passes == it->passes && !next_row(&it->rows);
+    return is_row(&it->rows, "end", 2) && read_number(&it->rows, 1, UINT64_MAX, &passes) && passes == it->passes &&
+           !next_row(&it->rows);
 }
 
 /* Reads the next pass: 1, it is read; 0, the trace has ended as it should; -1, it is refused. */
 static inline int next_pass(trace *it, recorded *pass) {
     if (it->passes == 0 && !next_row(&it->rows)) return -1;
     if (!is_row(&it->rows, "pass", 3)) return is_end(it) ? 0 : -1;
-    if (!read_number(&it->rows, 1, UINT64_MAX, &pass->now) || !read_number(&it->rows, 2, UINT64_MAX, &pass->bandwidth)) return -1;
+    if (!read_number(&it->rows, 1, UINT64_MAX, &pass->now) || !read_number(&it->rows, 2, UINT64_MAX, &pass->bandwidth))
+        return -1;
     if (it->passes++ == MOST_PASSES) return -1;
     pass->count = it->machine.threads;
     pass->made = 0;

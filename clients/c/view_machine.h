@@ -76,7 +76,8 @@ typedef struct state {
     stored store[PLACES][STORES];
     thread thread[THREADS];
 } state;
-_Static_assert(sizeof(state) == 8 * PLACES + 32 * PLACES * STORES + THREADS * (64 + 8 * FOUND), "no bytes between the fields");
+_Static_assert(sizeof(state) == 8 * PLACES + 32 * PLACES * STORES + THREADS * (64 + 8 * FOUND),
+               "no bytes between the fields");
 
 /* The next access of a thread. */
 typedef struct access {

@@ -4,8 +4,9 @@
  *
  * The policy: a core that its thread has left is freed; a free one goes to the thread that has waited longest, those
  * of latency-critical tasks first; and where none is free for one of these, the core that was granted longest ago is
- * revoked for it, if its thread has had it for a while. It knows nothing of guarantees: the guard does. The threads are made ones, in this process: each
- * serves three requests. Prints the actions of each pass, and last 'served 12 of 12'. */
+ * revoked for it, if its thread has had it for a while. It knows nothing of guarantees: the guard does. The threads
+ * are made ones, in this process: each serves three requests. Prints the actions of each pass, and last 'served 12
+ * of 12'. */
 #include "caladan.h"
 #include <stdio.h>
 
@@ -58,7 +59,9 @@ static bool is_before(const choice *it, size_t k, size_t other) {
 static size_t first_waiting(const choice *it) {
     size_t first = THREADS;
     for (size_t k = 0; k < THREADS; k++)
-        if (!it->placed[k] && !it->told[k] && it->record[k].queued && has_left(it, k) && (first == THREADS || is_before(it, k, first))) first = k;
+        if (!it->placed[k] && !it->told[k] && it->record[k].queued && has_left(it, k) &&
+            (first == THREADS || is_before(it, k, first)))
+            first = k;
     return first;
 }
 
@@ -77,9 +80,11 @@ static size_t free_and_grant(choice *it, caladan_guard *guard) {
         }
         caladan_guard_ban(guard, core, &ban);
         if (free && !ban.banned && (k = first_waiting(it)) < THREADS) {
-            add(it, (caladan_action){.kind = CALADAN_GRANT, .core = (uint8_t)core, .thread = (uint8_t)k, .core_class = 3});
+            add(it, (caladan_action){
+                        .kind = CALADAN_GRANT, .core = (uint8_t)core, .thread = (uint8_t)k, .core_class = 3});
             it->placed[k] = it->told[k] = true;
-        } else if (!free && holder.state == CALADAN_CORE_HELD && (oldest == CORES || granted_at[core] < granted_at[oldest])) {
+        } else if (!free && holder.state == CALADAN_CORE_HELD &&
+                   (oldest == CORES || granted_at[core] < granted_at[oldest])) {
             oldest = core;
         }
     }
@@ -102,8 +107,12 @@ static uint8_t choose(choice *it, caladan_guard *guard, const caladan_look *look
         if (holder.state != CALADAN_CORE_FREE) it->placed[holder.thread] = true;
     }
     size_t core = free_and_grant(it, guard), k = first_waiting(it);
-    if (k < THREADS && is_critical(it, k) && it->record[k].oldest + PATIENCE < it->now && core < CORES && granted_at[core] + SLICE < it->now)
-        add(it, (caladan_action){.kind = CALADAN_REVOKE, .core = (uint8_t)core, .cause = CALADAN_FOR_TASK, .task = it->state[k].task});
+    if (k < THREADS && is_critical(it, k) && it->record[k].oldest + PATIENCE < it->now && core < CORES &&
+        granted_at[core] + SLICE < it->now)
+        add(it, (caladan_action){.kind = CALADAN_REVOKE,
+                                 .core = (uint8_t)core,
+                                 .cause = CALADAN_FOR_TASK,
+                                 .task = it->state[k].task});
     return CALADAN_DONE;
 }
 
@@ -112,7 +121,8 @@ static uint8_t offer(choice *it, caladan_guard *guard, const caladan_look *looks
     uint8_t judged[THREADS], answer;
     caladan_refused refused;
     for (;;) {
-        answer = caladan_guard_pass_each(guard, it->now, 0, looks, THREADS, judged, sizeof judged, it->actions, it->made, &refused);
+        answer = caladan_guard_pass_each(guard, it->now, 0, looks, THREADS, judged, sizeof judged, it->actions,
+                                         it->made, &refused);
         if (answer != CALADAN_NOT_PERMITTED) return answer;
         printf("  action %zu: %s\n", refused.place, caladan_why_text(refused.why));
         it->made = refused.place < it->made ? refused.place : 0;
@@ -125,7 +135,8 @@ static void send_each(const choice *it, caladan_guard *guard) {
         const caladan_action *action = &it->actions[i];
         uint8_t to = action->thread;
         if (action->kind == CALADAN_FREE) printf("  free core %d\n", action->core);
-        if (action->kind == CALADAN_GRANT) printf("  core %d to thread %d\n", action->core, to), granted_at[action->core] = it->now;
+        if (action->kind == CALADAN_GRANT)
+            printf("  core %d to thread %d\n", action->core, to), granted_at[action->core] = it->now;
         if (action->kind == CALADAN_REVOKE) {
             caladan_guard_revoked(guard, action->core, &to);
             printf("  core %d is taken from thread %d\n", action->core, to);
@@ -160,7 +171,9 @@ int main(void) {
     caladan_wrong wrong = {0, NULL};
     uint8_t answer = caladan_guard_open_rows(CORES, 1000, ROWS, sizeof ROWS / sizeof *ROWS, &guard, &wrong);
     if (answer) return fprintf(stderr, "row %zu: %s: %s\n", wrong.row, wrong.field, caladan_answer_text(answer)), 2;
-    for (size_t k = 0; k < THREADS; k++) threads[k] = (made_thread){.left = WORK, .shows = {.number = 1, .queued = 1, .oldest = THREADS - k, .stamp = THREADS}};
+    for (size_t k = 0; k < THREADS; k++)
+        threads[k] =
+            (made_thread){.left = WORK, .shows = {.number = 1, .queued = 1, .oldest = THREADS - k, .stamp = THREADS}};
     int served = 0;
     for (uint64_t pass = 0; !answer && pass < PASSES && served < THREADS * REQUESTS; pass++) {
         choice chosen = {.now = 10 * pass + 10};

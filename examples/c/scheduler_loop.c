@@ -68,7 +68,8 @@ static void be_kernel_thread(shared *all, int k) {
 }
 
 /* Sends what the actions say: a grant Run, a revocation Park to the thread that is told to leave. */
-static void send_each(caladan *handle, caladan_sender *senders, const caladan_action *actions, size_t made, uint64_t pass) {
+static void send_each(caladan *handle, caladan_sender *senders, const caladan_action *actions, size_t made,
+                      uint64_t pass) {
     for (size_t i = 0; i < made; i++) {
         const caladan_action *it = &actions[i];
         if (it->kind == CALADAN_GRANT) {
@@ -105,7 +106,8 @@ static uint64_t schedule(shared *all, caladan *handle) {
             if (caladan_thread(handle, (size_t)k, &state)) return 0;
             looks[k].room = caladan_room(state.sent, state.taken);
         }
-        uint8_t answer = caladan_pass_each(handle, clock_now(), 0, looks, THREADS, judged, THREADS, actions, CALADAN_MOST_ACTIONS, &made);
+        uint8_t answer = caladan_pass_each(handle, clock_now(), 0, looks, THREADS, judged, THREADS, actions,
+                                           CALADAN_MOST_ACTIONS, &made);
         if (answer != CALADAN_DONE) {
             fprintf(stderr, "scheduler_loop: pass %llu answers %d\n", (unsigned long long)pass, answer);
             return 0;

@@ -1,5 +1,5 @@
-/* ends_test.c: the end of a piece by a clock of the test's own: who leaves in time is not killed, though he was not looked at
- * since; nobody is killed for fewer looks than sixteen; and it ends, whoever stays. */
+/* ends_test.c: the end of a piece by a clock of the test's own: who leaves in time is not killed, though he was not
+ * looked at since; nobody is killed for fewer looks than sixteen; and it ends, whoever stays. */
 #define _GNU_SOURCE
 #include <stdarg.h>
 #include <stdio.h>

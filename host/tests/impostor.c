@@ -2,7 +2,7 @@
  *
  *   impostor NAME unsealed|short|version|threads|silent [TASK]
  *
- * It listens in CALADAN_FOLDER/NAME for task 0, or TASK, serves one process, and ends after ten seconds at the latest. */
+ * It listens in CALADAN_FOLDER/NAME for task 0, or TASK, serves one process, and ends after ten seconds at most. */
 #define _GNU_SOURCE
 #include <errno.h>
 #include <stdlib.h>
@@ -39,8 +39,10 @@ static void hand_out(int connection, int file) {
         char room[CMSG_SPACE(sizeof(int))];
     } control = {{0}};
     struct iovec part = {&said, sizeof said};
-    struct msghdr message = {.msg_iov = &part, .msg_iovlen = 1, .msg_control = &control, .msg_controllen = sizeof control};
-    control.head = (struct cmsghdr){.cmsg_level = SOL_SOCKET, .cmsg_type = SCM_RIGHTS, .cmsg_len = CMSG_LEN(sizeof file)};
+    struct msghdr message = {
+        .msg_iov = &part, .msg_iovlen = 1, .msg_control = &control, .msg_controllen = sizeof control};
+    control.head =
+        (struct cmsghdr){.cmsg_level = SOL_SOCKET, .cmsg_type = SCM_RIGHTS, .cmsg_len = CMSG_LEN(sizeof file)};
     memcpy(CMSG_DATA(&control.head), &file, sizeof file);
     if (recv(connection, &word, sizeof word, 0) == sizeof word) sendmsg(connection, &message, MSG_NOSIGNAL);
     ftruncate(file, 0) ? (void)0 : (void)0; /* as who would harm a runtime that has mapped it */
@@ -57,7 +59,8 @@ int main(int count, char **words) {
     int folder = make_folder(words[1]), file = false_segment(words[2]);
     int listener = socket(AF_UNIX, SOCK_SEQPACKET, 0);
     socklen_t length = host_address(&address, folder, task);
-    if (folder < 0 || file < 0 || bind(listener, (struct sockaddr *)&address, length) || listen(listener, 1)) return perror("impostor"), 2;
+    if (folder < 0 || file < 0 || bind(listener, (struct sockaddr *)&address, length) || listen(listener, 1))
+        return perror("impostor"), 2;
     int connection = accept(listener, NULL, NULL);
     if (connection >= 0 && !strcmp(words[2], "silent")) printf("silent\n"), fflush(stdout), sleep(8);
     else if (connection >= 0) hand_out(connection, file);

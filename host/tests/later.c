@@ -1,5 +1,5 @@
-/* later.c: preloaded, it tells a program that the wall clock is an hour further on than it is: what waits until a time of
- * that clock waits as it would where the clock is set back by an hour. */
+/* later.c: preloaded, it tells a program that the wall clock is an hour further on than it is: what waits until a time
+ * of that clock waits as it would where the clock is set back by an hour. */
 #define _GNU_SOURCE
 #include <sys/syscall.h>
 #include <time.h>

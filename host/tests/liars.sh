@@ -64,6 +64,25 @@ misses_of_another() { # who shows all the misses that a record may have, and end
     table=$top/host/tables/mix.toml
 }
 
+endless_request() { # by caladan it has the core beside its own banned, also one that is guaranteed; not by assured
+    local policy
+    what="a request that never ends, beside a task that is guaranteed the other core"
+    make_table lc,1,1,1000000 lc,1,1,1000000
+    for policy in caladan assured; do
+        begin -k 2000 -g 20000 --policy $policy
+        go 40 "$bin/misbehave" "$name" 0 30 deaf
+        wait_for 20 only_child_of $last && deaf=$child
+        wait_for 20 counts 'actions_total{kind="ban"}' 1; note $? "$what: by $policy nothing is banned"
+        lc -u 1 -s 1 > "$build/process.lc" 2>&1
+        [ $policy = assured ] && served "$build/process.lc"
+        [ $policy = assured ] || { ! is_served "$build/process.lc"; note $? "$what: by $policy it is served too, and SECURITY says it may not be"; }
+        kill -9 "$deaf"
+        end
+        exactly 0 killed
+    done
+    table=$top/host/tables/mix.toml
+} 2> /dev/null
+
 visitors() { # to connect is not to attach, and to close is to leave
     what="who connects and closes"
     begin -k 2000 -g 100000 -p 5000

@@ -1,4 +1,5 @@
-/* lines_test.c: lines on a standard error that nobody reads hold nobody up; each is written in its order, or counted as lost.
+/* lines_test.c: lines on a standard error that nobody reads hold nobody up; each is written in its order, or counted as
+ * lost.
  *
  *   lines_test [unwaited]     unwaited: whoever shares it has told it to wait for nobody (O_NONBLOCK) */
 #define _GNU_SOURCE
@@ -32,16 +33,21 @@ int main(int count, char **words) {
     FILE *in = fdopen(ends[0], "r");
     int last = -1, number;
     for (uint64_t read = 0; read < LINES - lost; read++) {
-        check(fgets(text, sizeof text, in) && sscanf(text, "caladand: line %d ", &number) == 1 && number > last, "a line is not in its order");
-        check(strlen(text) == strlen("caladand: line ") + strlen(" \n") + 200 + (number > 999 ? 4 : number > 99 ? 3 : number > 9 ? 2 : 1), "a line is cut");
+        check(fgets(text, sizeof text, in) && sscanf(text, "caladand: line %d ", &number) == 1 && number > last,
+              "a line is not in its order");
+        size_t digits = number > 999 ? 4 : number > 99 ? 3 : number > 9 ? 2 : 1;
+        check(strlen(text) == strlen("caladand: line ") + strlen(" \n") + 200 + digits, "a line is cut");
         last = number;
     }
     complain("the last");
     check(fgets(text, sizeof text, in) && !strcmp(text, "caladand: the last\n"), "a line more came than was counted");
     complain("%04095d: it is full", 0); /* the longest path, and what is said of it */
-    check(fgets(text, sizeof text, in) && strlen(text) == strlen("caladand: : it is full\n") + 4095 && strstr(text, "0: it is full\n"), "a long line is cut");
+    check(fgets(text, sizeof text, in) && strlen(text) == strlen("caladand: : it is full\n") + 4095 &&
+              strstr(text, "0: it is full\n"),
+          "a long line is cut");
     complain("%08000d", 0);
-    check(fgets(text, sizeof text, in) && strlen(text) > 4096 && text[strlen(text) - 1] == '\n', "a line without an end");
+    check(fgets(text, sizeof text, in) && strlen(text) > 4096 && text[strlen(text) - 1] == '\n',
+          "a line without an end");
     end_lines();
     check(lost_lines() == lost, "a line was lost that had room");
     return 0;

@@ -18,6 +18,11 @@ order_of_moves() { # see host/tests/moves_test.c
     timeout 60 "$bin/moves_test" > "$build/process.moves" 2>&1; note $? "$what: $(cat "$build/process.moves")"
 }
 
+just_left() { # see host/tests/pass_test.c
+    what="who may be sent a command"
+    timeout 60 "$bin/pass_test" > "$build/process.pass" 2>&1; note $? "$what: $(cat "$build/process.pass")"
+}
+
 awake() { # who has threads pinned that run is granted nothing for a while, each time after the second
     what="a process whose threads do not sleep when they are pinned"
     start -k 2000 -g 20000
@@ -40,20 +45,31 @@ first_in_first_out() { # a class in which the kernel puts aside who spins
     wrap=()
     wait $scheduler; note $? "$what: its status"
     says "is put aside for 50 ms of each second"
+    what="a scheduler in SCHED_FIFO that makes a pass each 20 microseconds"
+    wrap=(chrt -f 1)
+    start -s 1 -g 20000
+    wrap=()
+    wait $scheduler
+    says "is put aside for 50 ms of each second"
     what="a scheduler in the normal class"
     start -g 100000
     stop
     ! grep -q "put aside" "$build/said"; note $? "$what: $(cat "$build/said")"
 }
 
-has_child() { # a child of a process that hands in a request ends, and harms nobody
+has_child() { # a child of a process hands in a request: it is refused, and harms nobody
     what="the child of a process that is attached"
     begin -k 2000 -g 100000
     go 30 "$bin/load" be -n "$name" -u 1 -k 200 -s 2 -f
     lc -s 1 > "$build/process.lc" 2>&1
     served "$build/process.lc"
-    wait $last; note $? "$what: it did not end, or the process failed: $(cat "$build/process.$processes")"
+    wait $last; note $? "$what: it was not refused, or the process failed: $(cat "$build/process.$processes")"
     end
+}
+
+notices_closing() { # see host/tests/watch_test.c
+    what="a runtime that has no connection any more"
+    timeout 60 "$bin/watch_test" > "$build/process.watch" 2>&1; note $? "$what: $(cat "$build/process.watch")"
 }
 
 closes_all() { # a process that closes all its files keeps its task and works, or loses it and notices that

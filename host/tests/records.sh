@@ -98,6 +98,13 @@ installed() { # what is installed stands by itself
     refuses "there is no scheduler of that name" "$build/prefix/load" lc -n installed -u 0
 }
 
+other_compiler() { # which refuses what is gcc's alone
+    what="a compiler that does not know -Wno-tsan"
+    printf '#!/bin/sh\ncase " $* " in *" -Wno-tsan "*) echo "unknown word" >&2; exit 1 ;; esac\nexec %s "$@"\n' "${CC:-cc}" > "$build/other_cc"
+    chmod +x "$build/other_cc"
+    make -s -C "$top/host" CC="$build/other_cc" OUT="$build/other" CFLAGS=-O0 "$build/other/folder.o" > "$build/make.log" 2>&1; note $? "$what: $(tail -n 3 "$build/make.log")"
+}
+
 announced() { # whoever started it is told when processes can attach
     what="a scheduler that tells when it is ready"
     command -v python3 > /dev/null || { skip "$what, for want of python3"; return; }

@@ -1,5 +1,5 @@
-/* slow.c: runs a command for which a folder lies on a disk that sleeps: each opening, write, sync and renaming of its files
- * there takes so long. Who decides is a process beside it, which the kernel asks for each such call.
+/* slow.c: runs a command for which a folder lies on a disk that sleeps: each opening, write, sync and renaming of its
+ * files there takes so long. Who decides is a process beside it, which the kernel asks for each such call.
  *
  *   slow FOLDER MILLISECONDS COMMAND WORD.. */
 #define _GNU_SOURCE
@@ -84,8 +84,10 @@ static bool pass_on(int to, int *file, bool is_sender) {
     } control = {{0}};
     char byte = 0;
     struct iovec part = {&byte, 1};
-    struct msghdr message = {.msg_iov = &part, .msg_iovlen = 1, .msg_control = &control, .msg_controllen = sizeof control};
-    control.head = (struct cmsghdr){.cmsg_level = SOL_SOCKET, .cmsg_type = SCM_RIGHTS, .cmsg_len = CMSG_LEN(sizeof *file)};
+    struct msghdr message = {
+        .msg_iov = &part, .msg_iovlen = 1, .msg_control = &control, .msg_controllen = sizeof control};
+    control.head =
+        (struct cmsghdr){.cmsg_level = SOL_SOCKET, .cmsg_type = SCM_RIGHTS, .cmsg_len = CMSG_LEN(sizeof *file)};
     if (is_sender) return memcpy(CMSG_DATA(&control.head), file, sizeof *file), sendmsg(to, &message, 0) == 1;
     if (recvmsg(to, &message, MSG_CMSG_CLOEXEC) != 1 || CMSG_FIRSTHDR(&message) == NULL) return false;
     return memcpy(file, CMSG_DATA(CMSG_FIRSTHDR(&message)), sizeof *file), true;

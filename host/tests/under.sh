@@ -87,7 +87,7 @@ stopped() { # one that is stopped leaves no core, and is killed for it; one that
     lc -s 1 > "$build/process.lc" 2>&1
     wait $last
     [ $? = 137 ]; note $? "$what: it was not killed"
-    says "of task 1 is killed: thread [0-9]+ did not leave core"
+    says "of task 1 is killed: thread [0-9]+ did not leave core [01] in [0-9]+ ms; it is stopped, by SIGSTOP or a debugger"
     stop
     what="a process that stands under, and is stopped"
     start -k 500 -g 20000 -u 1
@@ -101,6 +101,28 @@ stopped() { # one that is stopped leaves no core, and is killed for it; one that
     kill -0 "$child"; note $? "$what: it was killed: $(grep killed "$build/said")"
     stop $last
     exactly 0 killed
+} 2> /dev/null
+
+frozen() { # nor does one in a frozen group, and it ends only when that is thawed: it is written off
+    local group=/sys/fs/cgroup/freezer/caladan-$$
+    what="a best-effort process that is frozen, as docker pause does it"
+    { [ -d /sys/fs/cgroup/freezer ] && mkdir "$group"; } 2> /dev/null || { skip "$what, for want of rights, or of its folder"; return; }
+    start -k 500 -g 20000
+    go 30 sh -c 'echo 0 > "$0/cgroup.procs" && exec "$@"' "$group" "$bin/load" be -n "$name" -u 1 -k 200 -s 25
+    local best=$last
+    wait_for 20 child_of $best
+    wait_for 20 counts 'actions_total{kind="grant"}' 2; note $? "$what: it was granted no cores"
+    echo FROZEN > "$group/freezer.state"
+    go 60 "$bin/load" lc -n "$name" -u 0 -k 200 -q 2000 -s 50
+    wait_for 40 grep -q "of task 1 is written off" "$build/said"; note $? "$what: it is not written off: $(cat "$build/said")"
+    says "of task 1 is killed: thread [0-9]+ did not leave core [01] in [0-9]+ ms; it is frozen, as docker pause does it"
+    wait_for 10 counts 'actions_total{kind="grant"}' 3; note $? "$what: the other one is granted nothing"
+    kill -TERM $last
+    echo THAWED > "$group/freezer.state"
+    wait $best
+    [ $? = 137 ]; note $? "$what: it was not killed when it was thawed"
+    stop
+    rmdir "$group"
 } 2> /dev/null
 
 pieces_on() { od -A n -v -t u8 -j $(($1 * 128)) -N 8 "$counter" | tr -d ' '; } # pieces_on PROCESSOR: best-effort ones, so far

@@ -3,7 +3,7 @@
 ghost use Rattle.cal_assured.specs.Histories.{NothingIsLegal, PrefixesAreLegal};
 ghost use Rattle.cal_assured.specs.Histories.{OnePassMoreIsLegal};
 
-/// Nothing is a legal history.
+/// The empty history is legal.
 pub fn nothing_is_legal()
     ensures { NothingIsLegal }
 {}

@@ -3,8 +3,8 @@
 ghost use Rattle.cal_policy.specs.Assured.Turns.{TurnsAreInOrder, TasksHaveTheirPlace};
 ghost use Rattle.cal_policy.specs.Assured.Turns.{PlacesHaveTheirTask};
 
-/// After any actions the turns come in a strict order: no task has its turn before itself, who
-/// comes before one comes before all that come after that one, and of two tasks one comes first.
+/// After any actions the turns come in a strict order: no task has its turn before itself; a task
+/// that comes before another comes before all that follow that one; of two tasks one is first.
 pub fn turns_are_in_order()
     ensures { TurnsAreInOrder }
 {}

@@ -1,4 +1,4 @@
-//! Whom the bandwidth figure costs a core, and who gets back a step of its cap.
+//! Which task the bandwidth figure costs a core, and which cap rises by a step.
 
 ghost use Rattle.std.specs.Prelude.{◌<◌, length};
 ghost use Rattle.cal_policy.specs.Explain.Walks.{IsWalk};

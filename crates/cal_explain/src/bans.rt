@@ -4,9 +4,10 @@ ghost use Rattle.std.specs.Prelude.{◌<◌};
 ghost use Rattle.cal_machine.specs.TableTasks.{threads_of_table};
 ghost use Rattle.cal_policy.specs.Explain.Walks.{IsWalk};
 
+use crate::claims::write_lacked;
 use crate::telling::{above_word, write_holder};
-use cal_policy::Holder;
 use cal_policy::explain::{BanReason, PassWalk};
+use cal_policy::{Holder, Policy};
 use std::io;
 use std::io::Write;
 
@@ -33,6 +34,12 @@ fn write_reason<W: Write>(
     requires sibling { sibling < walk.now.config.now.cores }
 {
     match walk.ban_reason(core) {
+        BanReason::Due { thread } if gives_way(walk, core) => {
+            write!(writer, "no ban for core {core}, where ")?;
+            write_long(walk, thread, core, writer)?;
+            write!(writer, ": core {sibling} is free, ")?;
+            write_lacked(walk, writer)
+        }
         BanReason::Due { thread } => {
             write!(writer, "a ban for core {core} is due: ")?;
             write_long(walk, thread, core, writer)?;
@@ -51,6 +58,14 @@ fn write_reason<W: Write>(
         BanReason::SiblingBanned => write!(writer, "banned already"),
         BanReason::SiblingStays => write_stays(walk, core, sibling, writer),
     }
+}
+
+/// Whether a ban of a core's sibling gives way under the walk's policy.
+fn gives_way(walk: &PassWalk<'_>, core: u8) -> bool
+    requires walk { IsWalk walk.now }
+    requires core { core < walk.now.config.now.cores }
+{
+    walk.policy() == Policy::Assured && walk.is_free_and_lacked_beside(core)
 }
 
 /// Writes for how long a thread's request has run, by its kept record, and how long it may.

@@ -31,7 +31,7 @@ pub fn write_candidate<W: Write>(
 }
 
 /// The name of a class in docs/POLICY.md.
-fn class_name(class: CoreClass) -> &'static str {
+pub fn class_name(class: CoreClass) -> &'static str {
     match class {
         CoreClass::Sibling => "sibling",
         CoreClass::RecentlyUsed => "recently used",
@@ -74,7 +74,7 @@ fn write_no_class<W: Write>(
 }
 
 /// Writes why a task takes no core from another, which is latency-critical.
-fn write_no_preemption<W: Write>(
+pub fn write_no_preemption<W: Write>(
     walk: &PassWalk<'_>,
     task: usize,
     other: usize,

@@ -6,7 +6,7 @@ ghost use Rattle.cal_policy.specs.Explain.Walks.{IsWalk};
 
 use crate::telling::write_holder;
 use cal_policy::explain::{BannedFor, CoreState, PassWalk};
-use cal_policy::{Holder, Placement};
+use cal_policy::{Holder, Placement, Policy};
 use std::io;
 use std::io::Write;
 
@@ -90,10 +90,24 @@ fn write_ban_end<W: Write>(
             "; ends: its record is at a request begun at {}",
             kept.started
         )
+    } else if walk.policy() == Policy::Assured && walk.shortage().are_wanted {
+        write_wanted(walk, writer)
     } else {
         write!(
             writer,
             "; stays: its record is on core {sibling}, at that request"
         )
     }
+}
+
+/// Writes that a ban ends since open cores are wanted.
+fn write_wanted<W: Write>(walk: &PassWalk<'_>, writer: &mut W) -> io::Result<()>
+    requires { IsWalk walk.now }
+{
+    let shortage = walk.shortage();
+    let (open, lacking) = (shortage.open_cores, shortage.lacking);
+    write!(
+        writer,
+        "; ends: a short task waits, and {open} open are fewer than {lacking} lacking"
+    )
 }

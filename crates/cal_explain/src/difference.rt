@@ -22,6 +22,7 @@ pub fn tell_illegal<W: Write>(
     writer: &mut W,
 ) -> Result<(), ExplainFault> {
     let (alloc, config, history) = (explainer.alloc, explainer.config, explainer.history);
+    let policy = explainer.policy;
     if pass >= history.len() {
         return Ok(());
     }
@@ -34,9 +35,9 @@ pub fn tell_illegal<W: Write>(
         writeln!(writer, "the pass may not be given its looks")?;
         return Ok(());
     }
-    let walk = PassWalk::begin(alloc, config, before, &entry.input)?;
+    let walk = PassWalk::begin_by(alloc, config, policy, before, &entry.input)?;
     let deciding = tell_difference(walk, entry.actions.as_slice(), writer)?;
-    let mut again = PassWalk::begin(alloc, config, before, &entry.input)?;
+    let mut again = PassWalk::begin_by(alloc, config, policy, before, &entry.input)?;
     walk_to(&mut again, deciding)?;
     tell_turn(&again, explainer.scope, writer)?;
     Ok(())
@@ -68,12 +69,24 @@ fn walk_to(walk: &mut PassWalk<'_>, turn: Turn) -> Result<(), ExplainFault>
 {
     for n in 0..TURN_BOUND {
         let _ = n;
-        if walk.turn() == turn || walk.turn() == Turn::End {
+        if is_at(walk, turn) || walk.turn() == Turn::End {
             break;
         }
         walk.take()?;
     }
     Ok(())
+}
+
+/// Whether a walk is at this turn. A task has its turn by its place under the assured policy.
+fn is_at(walk: &PassWalk<'_>, turn: Turn) -> bool
+    requires { IsWalk walk.now }
+{
+    match (walk.turn(), turn) {
+        (Turn::Placed { place }, Turn::LatencyCritical { task } | Turn::BestEffort { task }) => {
+            walk.placed(place) == Some(task)
+        }
+        (now, _) => now == turn,
+    }
 }
 
 /// The turn that would make such an action.

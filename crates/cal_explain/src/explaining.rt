@@ -4,6 +4,7 @@ ghost use Rattle.cal_policy.specs.Explain.Walks.{IsWalk};
 
 use crate::bandwidth::tell_bandwidth;
 use crate::bans::tell_ban;
+use crate::claims::tell_placed;
 use crate::cores::{tell_free, tell_unban};
 use crate::fault::ExplainFault;
 use crate::grants::tell_grant;
@@ -55,7 +56,9 @@ fn part_of(turn: Turn) -> Option<Part> {
         Turn::Unban { .. } => Some(Part::Unbans),
         Turn::Ban { .. } => Some(Part::Bans),
         Turn::Bandwidth => Some(Part::Bandwidth),
-        Turn::LatencyCritical { .. } | Turn::BestEffort { .. } => Some(Part::Grants),
+        Turn::LatencyCritical { .. } | Turn::BestEffort { .. } | Turn::Placed { .. } => {
+            Some(Part::Grants)
+        }
         Turn::End => None,
     }
 }
@@ -107,6 +110,10 @@ fn has_turn(walk: &PassWalk<'_>, scope: Scope) -> bool
         Turn::BestEffort { task } => {
             !config.is_latency_critical(task as usize) && scope.has_task(task as usize)
         }
+        Turn::Placed { place } => match walk.placed(place) {
+            Some(task) => scope.has_task(task as usize),
+            None => false,
+        },
         Turn::End => false,
     }
 }
@@ -123,6 +130,7 @@ pub fn tell_turn<W: Write>(walk: &PassWalk<'_>, scope: Scope, writer: &mut W) ->
         Turn::LatencyCritical { task } | Turn::BestEffort { task } => {
             tell_grant(walk, task as usize, scope, writer)
         }
+        Turn::Placed { place } => tell_placed(walk, place, scope, writer),
         Turn::End => Ok(()),
     }
 }

@@ -7,8 +7,8 @@ ghost use Rattle.cal_policy.specs.Explain.Walks.{IsWalk};
 use crate::candidates::write_candidate;
 use crate::scope::Scope;
 use crate::telling::{above_word, kind_word};
-use cal_policy::Holder;
 use cal_policy::explain::{PassWalk, TaskState};
+use cal_policy::{Holder, Policy};
 use std::io;
 use std::io::Write;
 
@@ -33,7 +33,7 @@ pub fn tell_grant<W: Write>(
 }
 
 /// Writes a task's delay and threshold, what it has, and what it may have.
-fn tell_task<W: Write>(
+pub fn tell_task<W: Write>(
     walk: &PassWalk<'_>,
     task: usize,
     state: TaskState,
@@ -66,7 +66,7 @@ fn tell_task<W: Write>(
 }
 
 /// Writes for each thread of a task whether it may be granted a core.
-fn tell_threads<W: Write>(walk: &PassWalk<'_>, task: usize, writer: &mut W) -> io::Result<()>
+pub fn tell_threads<W: Write>(walk: &PassWalk<'_>, task: usize, writer: &mut W) -> io::Result<()>
     requires walk { IsWalk walk.now }
     requires task { task < length walk.now.config.now.tasks }
 {
@@ -93,7 +93,11 @@ fn tell_thread<W: Write>(
     requires thread { thread < threads_of_table walk.now.config.now }
 {
     let state = walk.thread(thread);
-    write!(writer, "    thread {thread}: delay {}; ", state.delay)?;
+    write!(writer, "    thread {thread}: delay {}", state.delay)?;
+    if walk.policy() == Policy::Assured {
+        write_lateness(walk, thread, writer)?;
+    }
+    write!(writer, "; ")?;
     if state.has_core {
         write_core_of(walk, thread, writer)?;
         writeln!(writer)
@@ -104,6 +108,21 @@ fn tell_thread<W: Write>(
     } else {
         writeln!(writer, "may be granted a core")
     }
+}
+
+/// Writes whether a thread is late, and whether it is in flight.
+fn write_lateness<W: Write>(walk: &PassWalk<'_>, thread: usize, writer: &mut W) -> io::Result<()>
+    requires walk { IsWalk walk.now }
+    requires thread { thread < threads_of_table walk.now.config.now }
+{
+    let lateness = walk.lateness(thread);
+    if lateness.is_late {
+        write!(writer, ", late")?;
+    }
+    if lateness.is_in_flight {
+        write!(writer, ", in flight")?;
+    }
+    Ok(())
 }
 
 /// Writes which core a thread has.

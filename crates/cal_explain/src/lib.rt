@@ -8,6 +8,7 @@
 mod bandwidth;
 mod bans;
 mod candidates;
+mod claims;
 mod cores;
 mod difference;
 mod explaining;

@@ -1,7 +1,7 @@
 //! A pass of a history explained, or the first that is not the policy's.
 
 ghost use Rattle.std.specs.Prelude.{◌≡◌, ◌≢◌, IfErr, IfOk};
-ghost use Rattle.cal_policy.specs.Verdict.{IsVerdict};
+ghost use Rattle.cal_policy.specs.Policies.{IsVerdictBy};
 ghost use Rattle.cal_explain.specs.Comes.{ComesOf};
 
 use crate::difference::tell_illegal;
@@ -10,7 +10,7 @@ use crate::fault::ExplainFault;
 use crate::scope::Scope;
 use cal_machine::Config;
 use cal_policy::explain::PassWalk;
-use cal_policy::{Auditor, PassEntry, Verdict, is_input, orderly};
+use cal_policy::{Auditor, PassEntry, Policy, Verdict, is_input, orderly};
 use cal_trace::write_kept;
 use std::alloc::{AllocError, Global};
 use std::io::Write;
@@ -35,6 +35,8 @@ pub struct Explainer<'a> {
     pub alloc: Global,
     /// The task table that the history goes by.
     pub config: &'a Config,
+    /// Whose passes they are to be.
+    pub policy: Policy,
     /// The passes of the history, all from its first on.
     pub history: &'a [PassEntry],
     /// What of a pass is told.
@@ -73,7 +75,7 @@ impl Explainer<'_> {
         let (now, bandwidth) = (entry.input.now, entry.input.bandwidth);
         writeln!(writer, "pass {pass} now {now} bandwidth {bandwidth}")?;
         write_kept(entry.input.seen.as_slice(), writer)?;
-        let walk = PassWalk::begin(self.alloc, self.config, before, &entry.input)?;
+        let walk = PassWalk::begin_by(self.alloc, self.config, self.policy, before, &entry.input)?;
         tell_pass(walk, self.scope, writer)?;
         Ok(Explained::Done)
     }
@@ -81,25 +83,54 @@ impl Explainer<'_> {
     /// Writes whether the history is legal, and of one that is not why its first illegal pass is
     /// none of the policy's; answers the verdict.
     pub fn explain_verdict<W: Write>(&self, writer: &mut W) -> Result<Verdict, ExplainFault>
-        ensures { IfOk result (IsVerdict self.now.config.now self.now.history.now) }
+        ensures { IfOk result (IsVerdictBy self.now.policy self.now.config.now
+            self.now.history.now) }
     {
-        let verdict = audited(self.alloc, self.config, self.history)?;
+        let verdict = audited(self.alloc, self.config, self.policy, self.history)?;
         match verdict {
             Verdict::Legal => writeln!(writer, "legal")?,
             Verdict::Illegal { pass } => {
                 writeln!(writer, "illegal pass {pass}")?;
+                self.tell_maker(writer)?;
                 tell_illegal(self, pass as usize, writer)?;
             }
         }
         Ok(verdict)
     }
+
+    /// Of an illegal history, writes that the other policy made it, where the whole of it is legal
+    /// under that one.
+    fn tell_maker<W: Write>(&self, writer: &mut W) -> Result<(), ExplainFault> {
+        let other = other_than(self.policy);
+        if audited(self.alloc, self.config, other, self.history)? == Verdict::Legal {
+            let name = other.name();
+            writeln!(
+                writer,
+                "the policy {name} made this history: the whole of it is legal under that one"
+            )?;
+        }
+        Ok(())
+    }
 }
 
-/// The verdict on a history.
-fn audited(alloc: Global, config: &Config, history: &[PassEntry]) -> Result<Verdict, AllocError>
-    ensures { IfOk result (IsVerdict config.now history.now) }
+/// The other policy.
+fn other_than(policy: Policy) -> Policy {
+    match policy {
+        Policy::Caladan => Policy::Assured,
+        Policy::Assured => Policy::Caladan,
+    }
+}
+
+/// The verdict on a history by this policy.
+fn audited(
+    alloc: Global,
+    config: &Config,
+    policy: Policy,
+    history: &[PassEntry],
+) -> Result<Verdict, AllocError>
+    ensures { IfOk result (IsVerdictBy policy config.now history.now) }
 {
-    let mut auditor = Auditor::open(alloc, config)?;
+    let mut auditor = Auditor::open_by(alloc, config, policy)?;
     for entry in history {
         auditor.next(config, entry);
     }

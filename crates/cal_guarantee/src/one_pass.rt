@@ -1,4 +1,4 @@
-//! One pass: who is short and waits does so up to its own turn, and how cores come to it.
+//! One pass: a short task that waits does so up to its own turn; and how cores come to it.
 
 ghost use Rattle.cal_guarantee.specs.OnePass.{ShortLastsToTheTurn, WaitsLastToTheGrants};
 ghost use Rattle.cal_guarantee.specs.OnePass.{WaitsLastToTheTurn, FewCoresAreKept};

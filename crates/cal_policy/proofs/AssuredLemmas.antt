@@ -13,6 +13,7 @@ pub mod Lengths
 pub mod NoneToTake
 pub mod Numbering
 pub mod Pairs
+pub mod Ranks
 pub mod Sent
 pub mod TurnOrder
 pub mod Turns

@@ -1,4 +1,5 @@
 -- The turns of a pass follow one another.
+pub mod Assured
 use Rattle.std.proofs.Common.{◌≡◌, ℕ, ◌+◌, ◌++◌, List, [], ap, sym, ◌∙◌, append_assoc}
 use Rattle.std.proofs.lemmas.List.{append-nil}
 use Rattle.cal_policy.specs.declared.history.action.Action.{Action}

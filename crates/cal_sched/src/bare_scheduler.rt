@@ -290,7 +290,7 @@ impl BareScheduler {
         self.book.policy()
     }
 
-    /// The state that its passes so far leave, for who counts what they did.
+    /// The state that its passes so far leave, for callers that count what they did.
     pub fn board(&self) -> &Board
         ensures agrees { IsStateAfter result.now self.now.history }
         ensures ready { IsReady self.now.table result.now }

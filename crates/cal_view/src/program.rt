@@ -34,8 +34,8 @@ use std::thread::Threads;
 ///
 /// The input is what the reader gives, or the files that the words name. The answer goes to
 /// `output`, or to a file where the words name one, and help to `output`; what is wrong with the
-/// words (`clap`'s text) or the one line of a fault goes to `errors`. Where whoever reads the answer
-/// has gone there is no line.
+/// words (`clap`'s text) or the one line of a fault goes to `errors`. If the reader of the answer
+/// has gone, there is no line.
 pub fn run_program<H: Files + Threads + Sync, R: Read + Drop, W: Write, E: Write>(
     rt: &H,
     alloc: Global,

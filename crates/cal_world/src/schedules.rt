@@ -142,7 +142,7 @@ pub fn revocations_in_events_leave_guarantees()
     revocations_leave_guarantees();
 }
 
-/// Each revocation has a cause of the policy's. This the policy alone promises: so it is said of
+/// Each revocation has a cause of the policy's. Only the policy promises this, so the law is about
 /// legal lists.
 pub fn revocations_in_events_have_cause_by()
     ensures { OfLegalListsBy RevocationsHaveCauseBy }

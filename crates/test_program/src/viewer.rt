@@ -1,5 +1,4 @@
-//! The spans of worked histories, and whole runs of caladan_view.
+//! The spans of worked histories.
 
-mod runs;
 mod spans;
 mod worked_histories;

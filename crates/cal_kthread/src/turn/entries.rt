@@ -9,8 +9,8 @@ use crate::turn::done::{Publication, Taken, Theft, Worked};
 use cal_machine::{Past, Request};
 
 /// What a turn did, step by step. It stands for the entries that the turn adds to a journal: five at
-/// most, since none both serves a request and gives up its core. Who keeps them makes them of it, one
-/// by one (`arrival`, `taking`, `theft`, `work`, `publication`).
+/// most, since none both serves a request and gives up its core. A journal makes its entries of
+/// it, one by one (`arrival`, `taking`, `theft`, `work`, `publication`).
 #[derive(Clone, Copy, Debug, PartialEq, Eq)]
 pub struct TurnEntries {
     /// The request that arrived, if one came.

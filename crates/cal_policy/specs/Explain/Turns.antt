@@ -1,4 +1,5 @@
--- The turns of a pass, and what each makes.
+-- The turns of a pass, and what each makes. PolicyTurns.antt has them by policy; those here are of
+-- Caladan's.
 use Rattle.std.specs.Prelude.{ℕ, ◌+◌, ◌<◌, nat_lt, if◌then◌else◌, List, [], length}
 use Rattle.cal_machine.specs.Table.{Table}
 use Rattle.cal_machine.specs.declared.task.Kind.TheVariants as kinds
@@ -10,7 +11,7 @@ use Rattle.cal_policy.specs.declared.explain.turn.Part.TheVariants as parts
 use Rattle.cal_policy.specs.declared.explain.turn.Turn.{Turn}
 use Rattle.cal_policy.specs.declared.explain.turn.Turn.TheVariants.{Free, Unban, Ban, Bandwidth}
 use Rattle.cal_policy.specs.declared.explain.turn.Turn.TheVariants.{LatencyCritical, BestEffort}
-use Rattle.cal_policy.specs.declared.explain.turn.Turn.TheVariants.{End}
+use Rattle.cal_policy.specs.declared.explain.turn.Turn.TheVariants.{Placed, End}
 use Rattle.cal_policy.specs.History.Lists.{in_turn}
 use Rattle.cal_policy.specs.Setting.{Setting}
 use Rattle.cal_policy.specs.Pass.{pass_of, followed}
@@ -47,7 +48,7 @@ bounded_of s = followed (banned_of s) (bandwidth_part s)
 abbrev pub granted_of : Setting → List Action
 granted_of s = followed (bounded_of s) (grants_of_kind kinds.LatencyCritical s)
 
--- the turn's core or task is the table's
+-- the turn's core, task or place is the table's
 abbrev pub IsTurn : Table → Turn → Type 0
 IsTurn table (Free core) = core < table.cores
 IsTurn table (Unban core) = core < table.cores
@@ -55,6 +56,7 @@ IsTurn table (Ban core) = core < table.cores
 IsTurn table Bandwidth = Unit {0}
 IsTurn table (LatencyCritical task) = task < length table.tasks
 IsTurn table (BestEffort task) = task < length table.tasks
+IsTurn table (Placed place) = place < length table.tasks
 IsTurn table End = Unit {0}
 
 -- the first turn of each pass
@@ -68,7 +70,8 @@ next_in_part many turn k following = if nat_lt (k + 1) many then turn (k + 1) el
 
 -- the turn that comes next: a turn of each core whether it becomes free, then one of each whether its
 -- ban ends, one of each whether its sibling is banned, the turn of the bandwidth figure, a turn of each
--- task for the latency-critical ones, one of each for the best-effort ones, and the end, which stays
+-- task for the latency-critical ones, one of each for the best-effort ones, and the end, which stays;
+-- a pass of this policy has no turns by place
 abbrev pub next_turn : Table → Turn → Turn
 next_turn table (Free core) = next_in_part table.cores Free core (Unban 0)
 next_turn table (Unban core) = next_in_part table.cores Unban core (Ban 0)
@@ -77,6 +80,7 @@ next_turn table Bandwidth = LatencyCritical 0
 next_turn table (LatencyCritical task) =
     next_in_part (length table.tasks) LatencyCritical task (BestEffort 0)
 next_turn table (BestEffort task) = next_in_part (length table.tasks) BestEffort task End
+next_turn table (Placed place) = End
 next_turn table End = End
 
 -- the actions of the pass that come before a turn; at the end all of them
@@ -89,6 +93,7 @@ made_before s (LatencyCritical task) = followed (bounded_of s)
     (λ acts. in_turn (grant_of_kind_at kinds.LatencyCritical s) acts task)
 made_before s (BestEffort task) = followed (granted_of s)
     (λ acts. in_turn (grant_of_kind_at kinds.BestEffort s) acts task)
+made_before s (Placed place) = pass_of s
 made_before s End = pass_of s
 
 -- the actions that a turn makes after those
@@ -99,4 +104,5 @@ made_in s acts (Ban core) = bans_at s acts core
 made_in s acts Bandwidth = bandwidth_part s acts
 made_in s acts (LatencyCritical task) = grant_of_kind_at kinds.LatencyCritical s acts task
 made_in s acts (BestEffort task) = grant_of_kind_at kinds.BestEffort s acts task
+made_in s acts (Placed place) = []
 made_in s acts End = []

@@ -2,11 +2,15 @@
 
 ghost use Rattle.std.specs.Prelude.{◌≡◌, ◌++◌, List};
 ghost use Rattle.cal_machine.specs.Table.{IsTable};
+ghost use Rattle.cal_policy.specs.Explain.AssuredTurns as assured;
+ghost use Rattle.cal_policy.specs.Explain.PolicyTurns.{made_after_by, made_before_by};
+ghost use Rattle.cal_policy.specs.Explain.PolicyTurns.{next_turn_by};
 ghost use Rattle.cal_policy.specs.Explain.Turns as turns;
 ghost use Rattle.cal_policy.specs.Explain.Turns.{IsTurn, made_before, made_in, next_turn};
 ghost use Rattle.cal_policy.specs.Setting.{Setting};
 
 use crate::history::action::{Action, Cause};
+use crate::policy::Policy;
 use cal_machine::Config;
 
 /// The parts of a pass, in their order.
@@ -58,11 +62,14 @@ pub enum Turn {
     LatencyCritical { task: u8 },
     /// What the task gets, if it is best-effort.
     BestEffort { task: u8 },
+    /// What the task in this place of the order gets, in a pass of `Policy::Assured`. It has these
+    /// turns in place of those of the latency-critical and the best-effort tasks.
+    Placed { place: u8 },
     /// The pass is made.
     End,
 }
 
-/// The turn after this one.
+/// The turn after this one, in a pass of `Policy::Caladan`.
 pub fn turn_after(config: &Config, turn: Turn) -> Turn
     requires table { IsTable config.now }
     requires turn { IsTurn config.now turn }
@@ -87,6 +94,40 @@ pub fn turn_after(config: &Config, turn: Turn) -> Turn
         Turn::LatencyCritical { .. } => Turn::BestEffort { task: 0 },
         Turn::BestEffort { task } if task + 1 < tasks => Turn::BestEffort { task: task + 1 },
         Turn::BestEffort { .. } => Turn::End,
+        Turn::Placed { .. } => Turn::End,
         Turn::End => Turn::End,
+    }
+}
+
+/// The turn after this one, in a pass of `Policy::Assured`.
+fn assured_turn_after(config: &Config, turn: Turn) -> Turn
+    requires table { IsTable config.now }
+    requires turn { IsTurn config.now turn }
+    ensures next { result ≡ assured.next_turn config.now turn }
+    ensures turn { IsTurn config.now result }
+{
+    let tasks = config.tasks() as u8;
+    match turn {
+        Turn::Bandwidth => Turn::Placed { place: 0 },
+        Turn::Placed { place } if place + 1 < tasks => Turn::Placed { place: place + 1 },
+        Turn::Placed { .. } | Turn::LatencyCritical { .. } | Turn::BestEffort { .. } => Turn::End,
+        Turn::Free { .. } | Turn::Unban { .. } | Turn::Ban { .. } | Turn::End => {
+            turn_after(config, turn)
+        }
+    }
+}
+
+/// The turn after this one, in a pass of this policy.
+pub fn turn_after_by(config: &Config, policy: Policy, turn: Turn) -> Turn
+    requires table { IsTable config.now }
+    requires turn { IsTurn config.now turn }
+    ensures next { result ≡ next_turn_by policy config.now turn }
+    ensures follows { (s : Setting) → s.table ≡ config.now →
+        made_before_by policy s result ≡ made_after_by policy s turn }
+    ensures turn { IsTurn config.now result }
+{
+    match policy {
+        Policy::Caladan => turn_after(config, turn),
+        Policy::Assured => assured_turn_after(config, turn),
     }
 }

@@ -1,29 +1,36 @@
 //! A pass made turn by turn, which can be asked at each turn how things stand.
 
-ghost use Rattle.std.specs.Prelude.{◌≡◌, ◌<◌, ◌++◌, IfOk, OnOk, length, option_to_list};
+ghost use Rattle.std.specs.Prelude.{◌≡◌, ◌<◌, ◌++◌, [], IfOk, OnOk, length, option_to_list};
 ghost use Rattle.std.specs.Option.{IfSome};
-ghost use Rattle.cal_machine.specs.Table.{Table, IsTable};
-ghost use Rattle.cal_machine.specs.declared.task.Kind.TheVariants as kinds;
+ghost use Rattle.cal_machine.specs.Table.{IsTable};
 ghost use Rattle.cal_policy.specs.Board.{NamesTable};
 ghost use Rattle.cal_policy.specs.State.{IsReady, IsOfTable, Stands};
-ghost use Rattle.cal_policy.specs.Explain.Turns.{IsTurn, made_in, first_turn, next_turn};
+ghost use Rattle.cal_policy.specs.Explain.PolicyTurns.{next_turn_by};
+ghost use Rattle.cal_policy.specs.Explain.Turns.{IsTurn, first_turn};
 ghost use Rattle.cal_policy.specs.Explain.Walks.{IsWalk, Walks, begun_on, setting_of};
 ghost use Rattle.cal_policy.specs.Judgement.Judging.{IsInput};
 ghost use Rattle.cal_policy.specs.Judgement.Orderly.{IsOrderly};
-ghost use Rattle.cal_policy.specs.Pass.AtHand.{setting_in, Within};
+ghost use Rattle.cal_policy.specs.Pass.AtHand.{setting_in};
 ghost use Rattle.cal_policy.specs.Pass.Coupled.{both_of, BothName};
-ghost use Rattle.cal_policy.specs.Pass.Grants.{grant_of_kind_at};
-ghost use Rattle.cal_policy.specs.Setting.{Begun, Setting, setting};
+ghost use Rattle.cal_policy.specs.Policies.{pass_by};
+ghost use Rattle.cal_policy.specs.Setting.{Begun, Setting, setting, setting_at};
+ghost use Rattle.cal_policy.specs.declared.pass.terms.Terms.{Terms};
+ghost use Rattle.cal_policy.specs.declared.explain.turn.Turn.TheVariants.{Placed, End};
+ghost use Rattle.cal_policy.specs.declared.policy.Policy.TheVariants.{Caladan, Assured};
+ghost use Rattle.cal_policy.specs.Explain.AssuredTurns.{placed_task};
 
 use crate::board::Board;
 use crate::board::replay::board_of;
-use crate::explain::turn::{Turn, turn_after};
+use crate::explain::order::Order;
+use crate::explain::turn::{Turn, turn_after_by};
 use crate::history::action::Action;
 use crate::history::entry::PassEntry;
 use crate::history::input::Input;
 use crate::pass::Pass;
-use crate::pass::coupled::{Coupled, neither};
+use crate::pass::assured::turns::no_places;
+use crate::pass::coupled::Coupled;
 use crate::pass::terms::Terms;
+use crate::policy::Policy;
 use cal_machine::Config;
 use std::alloc::{AllocError, Global};
 
@@ -37,6 +44,8 @@ pub struct PassWalk<'a> {
     pub(crate) board: Box<Board>,
     made: Vec<Action>,
     turn: Turn,
+    /// Of the tasks, once it is fixed.
+    order: Order,
 }
 
 /// Appends an action, if there is one, and brings the board up to it.
@@ -81,70 +90,58 @@ fn make_both(
     Ok(())
 }
 
-/// One action at most, as two at most.
-fn only(action: Option<Action>) -> Coupled
-    ensures both { both_of result ≡ option_to_list action }
-    ensures names { (table : Table) → IfSome action (NamesTable table) → BothName table result }
+/// The state where the pass on this input begins.
+fn begun_board(
+    alloc: Global,
+    config: &Config,
+    history: &[PassEntry],
+    input: &Input,
+) -> Result<Box<Board>, AllocError>
+    requires orderly { IsOrderly config.now history.now }
+    requires input { IsInput config.now history.now input.now }
+    ensures stands { IfOk result (λ board. (terms : Terms) → Stands board.value
+        (setting_at config.now terms (begun_on history.now input.entry.now)) []) }
+    ensures ready { IfOk result (λ board. IsReady config.now board.value) }
 {
-    Coupled {
-        first: action,
-        second: None,
-    }
-}
-
-impl Pass<'_> {
-    /// What the task gets, if it is latency-critical.
-    fn critical_due(&self, board: &Board, task: usize) -> Option<Action>
-        requires at_hand { IsOfTable self.now.config.now board.now }
-        requires task { task < length self.now.config.now.tasks }
-        ensures due { Within self.now board.now (λ s acts. option_to_list result
-            ≡ grant_of_kind_at kinds.LatencyCritical s acts task) }
-        ensures names { IfSome result (NamesTable self.now.config.now) }
-    {
-        if self.config.is_latency_critical(task) {
-            self.grant_due(board, task)
-        } else {
-            None
-        }
-    }
-
-    /// What the task gets, if it is best-effort.
-    fn best_effort_due(&self, board: &Board, task: usize) -> Option<Action>
-        requires at_hand { IsOfTable self.now.config.now board.now }
-        requires task { task < length self.now.config.now.tasks }
-        ensures due { Within self.now board.now (λ s acts. option_to_list result
-            ≡ grant_of_kind_at kinds.BestEffort s acts task) }
-        ensures names { IfSome result (NamesTable self.now.config.now) }
-    {
-        if self.config.is_latency_critical(task) {
-            None
-        } else {
-            self.grant_due(board, task)
-        }
-    }
-
-    /// What a turn makes.
-    fn due_in(&self, board: &Board, turn: Turn) -> Coupled
-        requires at_hand { IsOfTable self.now.config.now board.now }
-        requires turn { IsTurn self.now.config.now turn }
-        ensures due { Within self.now board.now (λ s acts. both_of result ≡ made_in s acts turn) }
-        ensures names { BothName self.now.config.now result }
-    {
-        match turn {
-            Turn::Free { core } => only(self.free_due(board, core)),
-            Turn::Unban { core } => only(self.unban_due(board, core)),
-            Turn::Ban { core } => self.ban_beside(board, core),
-            Turn::Bandwidth => self.bandwidth_due(board),
-            Turn::LatencyCritical { task } => only(self.critical_due(board, task as usize)),
-            Turn::BestEffort { task } => only(self.best_effort_due(board, task as usize)),
-            Turn::End => neither(),
-        }
-    }
+    config.limits();
+    let mut board = Box::new(alloc, board_of(config, history))?;
+    board.begin_fit(input.seen.as_slice());
+    Ok(board)
 }
 
 impl<'a> PassWalk<'a> {
-    /// Before the first turn of the pass on this input after these passes. It goes over the whole
-    /// history once. Fails only when out of memory.
+    /// Before the first turn of the policy's pass on this input after these passes. It goes over the
+    /// whole history once. Fails only when out of memory.
+    pub fn begin_by(
+        alloc: Global,
+        config: &'a Config,
+        policy: Policy,
+        history: &[PassEntry],
+        input: &Input,
+    ) -> Result<PassWalk<'a>, AllocError>
+        requires orderly { IsOrderly config.now history.now }
+        requires input { IsInput config.now history.now input.now }
+        ensures walk { IfOk result IsWalk }
+        ensures policy { IfOk result (λ walk. walk.terms.policy ≡ policy) }
+        ensures first { IfOk result (λ walk. walk.turn ≡ first_turn) }
+        ensures begun { IfOk result (λ walk. Walks walk (begun_on history.now input.entry.now)) }
+        // The pass that it goes over is the one on that input after those passes.
+        ensures setting { IfOk result (λ walk. setting_of walk (begun_on history.now
+            input.entry.now) ≡ setting config.now history.now input.entry.now) }
+    {
+        config.limits();
+        let board = begun_board(alloc, config, history, input)?;
+        Ok(PassWalk {
+            config,
+            terms: Terms::of(config, input).by(policy),
+            board,
+            made: Vec::new(alloc),
+            turn: Turn::Free { core: 0 },
+            order: no_places(),
+        })
+    }
+
+    /// `begin_by` of `Policy::Caladan`.
     pub fn begin(
         alloc: Global,
         config: &'a Config,
@@ -154,22 +151,20 @@ impl<'a> PassWalk<'a> {
         requires orderly { IsOrderly config.now history.now }
         requires input { IsInput config.now history.now input.now }
         ensures walk { IfOk result IsWalk }
+        ensures policy { IfOk result (λ walk. walk.terms.policy ≡ Caladan) }
         ensures first { IfOk result (λ walk. walk.turn ≡ first_turn) }
         ensures begun { IfOk result (λ walk. Walks walk (begun_on history.now input.entry.now)) }
-        // The pass that it goes over is the one on that input after those passes.
         ensures setting { IfOk result (λ walk. setting_of walk (begun_on history.now
             input.entry.now) ≡ setting config.now history.now input.entry.now) }
     {
-        config.limits();
-        let mut board = Box::new(alloc, board_of(config, history))?;
-        board.begin_fit(input.seen.as_slice());
-        Ok(PassWalk {
-            config,
-            terms: Terms::of(config, input),
-            board,
-            made: Vec::new(alloc),
-            turn: Turn::Free { core: 0 },
-        })
+        PassWalk::begin_by(alloc, config, Policy::Caladan, history, input)
+    }
+
+    /// The policy whose pass it goes over.
+    pub fn policy(&self) -> Policy
+        ensures { result ≡ self.now.terms.policy }
+    {
+        self.terms.policy
     }
 
     /// The task table that the pass goes by.
@@ -201,9 +196,23 @@ impl<'a> PassWalk<'a> {
         self.turn
     }
 
+    /// The task that has the turn in this place of the order, in a pass of `Policy::Assured`.
+    pub fn placed(&self, place: u8) -> Option<u8>
+        requires walk { IsWalk self.now }
+        requires place { place < length self.now.config.now.tasks }
+        ensures task { IfSome result (λ t. t < length self.now.config.now.tasks) }
+        ensures placed { self.now.terms.policy ≡ Assured → self.now.turn ≡ Placed place →
+            (h : Begun) → Walks self.now h → result ≡ placed_task (setting_of self.now h) place }
+    {
+        self.config.limits();
+        self.order[place as usize]
+    }
+
     /// The actions of the pass that come before the turn; at `Turn::End` all of them.
     pub fn made(&self) -> &[Action]
-        ensures { result.now ≡ self.now.made.items }
+        ensures made { result.now ≡ self.now.made.items }
+        ensures all { self.now.turn ≡ End → (h : Begun) → Walks self.now h →
+            result.now ≡ pass_by self.now.terms.policy (setting_of self.now h) }
     {
         self.made.as_slice()
     }
@@ -216,6 +225,7 @@ impl<'a> PassWalk<'a> {
         ensures stands { (h : Begun) → Walks self.now h →
             Stands self.now.board.value (setting_in result h) self.now.made.items }
         ensures setting { (h : Begun) → setting_in result h ≡ setting_of self.now h }
+        ensures policy { result.terms.now.policy ≡ self.now.terms.policy }
     {
         Pass {
             config: self.config,
@@ -228,14 +238,18 @@ impl<'a> PassWalk<'a> {
     pub fn take(&mut self) -> Result<(), AllocError>
         requires walk { IsWalk self.old }
         ensures walk { IsWalk self.new }
-        ensures next { OnOk result (self.new.turn ≡ next_turn self.old.config.now self.old.turn) }
+        ensures next { OnOk result (self.new.turn
+            ≡ next_turn_by self.old.terms.policy self.old.config.now self.old.turn) }
         ensures table { self.new.config.now ≡ self.old.config.now }
+        ensures policy { self.new.terms.policy ≡ self.old.terms.policy }
         ensures goes_on { OnOk result ((h : Begun) → Walks self.old h → Walks self.new h) }
         ensures setting { (h : Begun) → setting_of self.new h ≡ setting_of self.old h }
     {
-        let both = self.pass().due_in(&self.board, self.turn);
+        let both = self.pass().due_by(&self.board, &self.order, self.turn);
         make_both(self.config, &mut self.board, &mut self.made, both)?;
-        self.turn = turn_after(self.config, self.turn);
+        let order = self.pass().order_after(&self.board, self.turn, self.order);
+        self.order = order;
+        self.turn = turn_after_by(self.config, self.terms.policy, self.turn);
         Ok(())
     }
 }

@@ -29,8 +29,8 @@ pub fn write_history<W: Write>(history: &[PassEntry], writer: &mut W) -> Result<
     Ok(())
 }
 
-/// Writes the first row of a history, for who writes one pass by pass: then come the rows of each
-/// pass, and then the last row.
+/// Writes the first row of a history, for a caller that writes it pass by pass: then come the rows
+/// of each pass, and then the last row.
 ///
 /// Of errors and of memory the same holds as for `write_history`, here and in the two calls below.
 pub fn write_history_header<W: Write>(writer: &mut W) -> Result<(), WriteFault>

@@ -32,11 +32,11 @@ pub struct ArrivalWords<'a> {
 /// The subcommand with its options.
 pub fn arrival_word<'a>(alloc: Global) -> Result<Command<'a>, AllocError> {
     let command = Command::new(alloc, "arrivals")
-        .about("Make arrivals of a load, at random by a seed")
+        .about("Make random arrivals of a given load")
         .after_long_help(help_texts::ARRIVALS)
         .arg(input_word(alloc))?
         .arg(task_word(alloc).required(true))?
-        .arg(load_word(alloc).help("The work that comes, as a part of its turns, as 0.7"))?;
+        .arg(load_word(alloc).help("The work that comes, over its turns, such as 0.7"))?;
     with_run_words(alloc, command)?
         .arg(table_word(alloc))?
         .arg(summary_word(alloc)?)?
@@ -65,7 +65,7 @@ fn some_words<'a>(alloc: Global, name: &'a str, value: &'a str) -> Arg<'a> {
 pub fn task_word<'a>(alloc: Global) -> Arg<'a> {
     some_words(alloc, "task", "TASK")
         .value_parser(clap::value_parser!(u64))
-        .help("A task that requests come to")
+        .help("A task that gets requests")
 }
 
 /// Their loads.
@@ -98,7 +98,7 @@ fn ticks_word<'a>(alloc: Global) -> Arg<'a> {
 }
 
 fn seed_word<'a>(alloc: Global) -> Arg<'a> {
-    let help = "The seed: the same makes the same";
+    let help = "The seed of the random numbers";
     number_word(alloc, "seed", "SEED", help).default_value("1")
 }
 

@@ -180,11 +180,11 @@ fn program<'a>(alloc: Global) -> Result<Command<'a>, AllocError> {
     let program = bare_program(alloc)?;
     let program = program.subcommand(history_word(alloc)?)?;
     let program = program.subcommand(timeline_word(alloc)?)?;
-    let about = "Write who had which core from when to when, and the bans, as CSV";
+    let about = "Write which thread had which core when, and the bans, as CSV";
     let program = program.subcommand(facts_word(alloc, "spans", about, help_texts::SPANS)?)?;
-    let about = "Write what each pass finds of each task and leaves it with, as CSV";
+    let about = "Write how each task stands in each pass, as CSV";
     let program = program.subcommand(facts_word(alloc, "series", about, help_texts::SERIES)?)?;
-    let about = "Write what came of each request of a run, as CSV";
+    let about = "Write how each request of a run fared, as CSV";
     let program = program.subcommand(facts_word(alloc, "requests", about, help_texts::REQUESTS)?)?;
     let program = program.subcommand(measure_word(alloc)?)?;
     let program = program.subcommand(compare_word(alloc)?)?;
@@ -262,9 +262,10 @@ fn explain_word<'a>(alloc: Global) -> Result<Command<'a>, AllocError> {
         .about("Say why a pass does what it does")
         .after_long_help(help_texts::EXPLAIN)
         .arg(input_word(alloc))?
+        .arg(policy_word(alloc))?
         .arg(pass_word(alloc))?
         .arg(task_word(alloc)?)?
-        .arg(number_word(alloc, "core", "CORE", "Tell of this core alone"))?
+        .arg(number_word(alloc, "core", "CORE", "Show this core only"))?
         .arg(output_word(alloc))
 }
 
@@ -274,7 +275,7 @@ fn pass_word<'a>(alloc: Global) -> Arg<'a> {
 }
 
 fn task_word<'a>(alloc: Global) -> Result<Arg<'a>, AllocError> {
-    number_word(alloc, "task", "TASK", "Tell of this task alone").conflicts_with("core")
+    number_word(alloc, "task", "TASK", "Show this task only").conflicts_with("core")
 }
 
 /// An option that takes a value.
@@ -316,13 +317,13 @@ fn compare_word<'a>(alloc: Global) -> Result<Command<'a>, AllocError> {
 
 /// The names of the tasks.
 pub fn names_word<'a>(alloc: Global) -> Arg<'a> {
-    let help = "What the tasks are called, in their order";
+    let help = "The names of the tasks, in order";
     value_word(alloc, "names", "NAME,..", help)
 }
 
 /// What a clock tick is.
 pub fn tick_word<'a>(alloc: Global) -> Arg<'a> {
-    value_word(alloc, "tick", "UNIT", "What a clock tick is, as ns")
+    value_word(alloc, "tick", "UNIT", "The unit of a tick, such as ns")
 }
 
 fn write_input_word<'a>(alloc: Global) -> Result<Arg<'a>, AllocError> {

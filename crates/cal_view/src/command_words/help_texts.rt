@@ -6,14 +6,14 @@ use cal_engine::help_with_a_run;
 /// Of the program as a whole.
 pub const PROGRAM: &str = "\
 Each subcommand reads one input, a file or the standard input: a task table
-(TOML), the line ---, and signals, a history or arrivals (CSV). With -o its
-answer goes to a file, which is there only once the answer is whole.
+(TOML), the line ---, and signals, a history or arrivals (CSV). With -o the
+answer goes to a file, which appears only once the answer is complete.
 `caladan_view SUBCOMMAND --help` says what is read and written, with a whole
-input to copy; `man caladan-viewer` has all of it. caladan_draw draws runs.
+input to copy; `man caladan-viewer` has the rest. caladan_draw draws runs.
 
 Exit status: 0 done, 1 an illegal history explained or an objective missed, 2
-bad arguments or rejected input, 3 memory or output was refused. A fault has one
-line on the standard error, and of a rejected input the lines below it say why.";
+bad arguments or rejected input, 3 memory or output was refused. A fault is one
+line on the standard error; below it, lines say why an input was rejected.";
 
 /// Of the subcommand `history`.
 pub const HISTORY: &str = help_with_a_run!(
@@ -46,9 +46,9 @@ pub const TIMELINE: &str = help_with_a_run!(
 Input: a task table (TOML), the line ---, and a history (CSV), or
 arrivals (CSV), as `caladan_sim lockstep` reads.
 Output: trace events (JSON), which https://ui.perfetto.dev and
-chrome://tracing open. Of arrivals they are of the run that
-`caladan_sim lockstep` makes: its history, its requests from arrival to answer,
-as they come and at work, and arrows from each request to its turns.
+chrome://tracing open. For arrivals they show the run that
+`caladan_sim lockstep` makes: its history, each request from arrival to answer,
+the turns that worked at it, and arrows from the request to these turns.
 Exit status: 0 done, 2 rejected input, 3 memory or output was refused.",
     "caladan_view timeline > timeline.json",
     "\
@@ -71,10 +71,10 @@ Output: CSV with a row for each stretch of passes in which a core is `held`,
 `leaving` or `banned`: the core; the thread that has it, or for which it is
 banned, and its task; the class of its grant; of a core that is being left the
 cause, `ban`, `bandwidth` or `preempt`, and by which core or for which task; of
-a ban when the request was begun that it is for; from which pass to which, and
-their clocks. A stretch holds after its first pass, until before the other one;
-where it goes on at the end there is none. First come the spans that ended, as
-they did, and then those that go on, by core; and so the bans.
+a ban when its request was begun; the first pass and the last, and their clocks.
+A stretch holds after its first pass, until its last; the last is empty if the
+stretch goes on at the end. First come the spans that ended, in that order, then
+those that go on, by core; then the bans, in the same way.
 Exit status: 0 done, 2 rejected input, 3 memory or output was refused.",
     "caladan_view spans",
     "\
@@ -102,8 +102,8 @@ Input: a task table (TOML), the line ---, and arrivals (CSV), as
 Output: CSV with a row for each pass and task: the pass, its clock, its
 bandwidth figure and the table's limit; the task, its delay as the pass finds
 it, and whether that is above its threshold (1) or not (0); after the actions of
-the pass how many cores it holds, is leaving, and both together, and of a
-best-effort task its cap; and its limit.
+the pass the cores that it holds, that it is leaving, and both together, and the
+cap of a best-effort task; and its limit.
 Exit status: 0 done, 2 rejected input, 3 memory or output was refused.",
     "caladan_view series",
     "\
@@ -130,11 +130,10 @@ pub const REQUESTS: &str = help_with_a_run!(
 Input: a task table (TOML), the line ---, and arrivals (CSV), as
 `caladan_sim lockstep` reads. A history has no requests.
 Output: CSV with a row for each request, in the order of the arrivals: its id,
-its task and the thread to which it comes, the clock at which it does, and how
-many turns of work it takes. Where it was answered: by which thread, when it was
-begun and when answered, and for how long it was worked at. Where it is pending:
-for how long it has waited by the run's last clock. `measure` says when a
-request is begun and answered.
+its task, the thread to which it comes, its clock of arrival, and its turns of
+work. If it was answered: by which thread, when it was begun and when answered,
+and for how long it was worked at. If it is pending: for how long, by the run's
+last clock. `measure --help` says when a request is begun and answered.
 Exit status: 0 done, 2 rejected input, 3 memory or output was refused.",
     "caladan_view requests",
     "\
@@ -163,31 +162,33 @@ pub const MEASURE: &str = help_with_a_run!(
 Input: a task table (TOML), the line ---, and arrivals (CSV), as
 `caladan_sim lockstep` reads; or a history (CSV), as `caladan_sim audit` does.
 Output: the numbers of each task's requests and cores, in the run that
-`caladan_sim lockstep` makes, in clock ticks; with --csv as CSV. Of a history
-they are those of its cores, and one that is not legal has none. A turn takes
-its time: it ends at the clock of its thread's next turn, and the last one at
+`caladan_sim lockstep` makes, in clock ticks; with --csv as CSV. For a history
+they are those of its cores; an illegal one is refused.
+
+Requests. A turn ends at the clock of its thread's next turn, the last one at
 the run's last clock. A request arrives at the clock of its turn, is begun with
-the first turn that works at it, and answered at the end of the one that serves
-it. `response` is from arrival to answer, and of a request that is left more
-than the time up to the run's last clock: its ranks go over all requests, those
-left after the others, and where one falls on a request that is left there is
-`>` and for how long that one has waited. Of those served `wait` is from arrival
-until begun, `service` the time of the turns that worked, and `slowdown` the
-response over it; the rest of a response are interruptions. There is the least,
-by nearest rank the median, 90, 99 and 99.9 of 100, and the greatest; (7) beside
-a rank says that it is of 7 times, where it takes 100 or 1,000. With --csv `>`
-and this count have columns of their own. The mean counts what is left with the
-time so far. A dash means there was nothing to measure.
-Of threads: requests stolen, requests suspended, and the part worked of the core
-time held or left. Of cores: the grants to the task's threads by class; the
-cores that it lost, to bans, to the bandwidth limit, to congested tasks; those
-that others lost for it; cuts and raises of its cap; the bans for its threads;
-the most cores that it held after a pass, and how many it held, and was leaving,
-over the run's clock; and the part of the run's clock for which it was
-congested. `machine` is of the machine's core time: the parts held, being left,
-banned and empty, and free to be granted; for which part of the clock the
-bandwidth figure was over the limit; and the clocks of the passes and of the
-turns. A state lasts from its pass's clock to the next pass's.
+the first turn that works at it, and answered at the end of the turn that serves
+it; one that is not answered is left. `response` is from arrival to answer, over
+all requests. Those left rank after the others: `>20` says that the rank falls
+on one that has waited 20 ticks by the end. Over the requests served, `wait` is
+from arrival until begun, `service` the time of the turns that worked, and
+`slowdown` response over service; the rest of a response are interruptions. Each
+has its least, the median, 90, 99 and 99.9 of 100 by nearest rank, and its
+greatest. (7) beside a rank says that it is of only 7 times; it should have 100,
+or 1,000 for 99.9. The mean counts requests left with their time so far. A dash
+means that there is nothing to measure. With --csv `>` and the count of times
+have columns of their own.
+
+Cores. `thefts` are requests stolen, `suspensions` requests suspended, and
+`share worked` is the time worked over the core time held or being left. Then
+come the grants to the task's threads by class; the cores that it lost, to bans,
+to the bandwidth limit, to congested tasks; those that others lost for it; cuts
+and raises of its cap; the bans for its threads; the most cores that it held
+after a pass, and the mean held and being left; and the share of the clock for
+which it was congested. `machine` has the shares of all core time: held, being
+left, banned with nobody on the core, and free; the share of the clock with the
+bandwidth figure over its limit; and the clocks of the passes and of the turns.
+A state lasts from its pass's clock to the next pass's.
 Exit status: 0 done, 2 rejected input, 3 memory or output was refused.",
     "caladan_view measure",
     "\
@@ -270,18 +271,18 @@ these lines arrivals (CSV). With --arrivals each other file is a task table, and
 the named one has the arrivals; no line --- is needed.
 Output: the numbers that `caladan_view measure` gives of each table's
 run on the arrivals, a column for each table; beside each column but the first
-how much it is above or below the first; with --csv as CSV. A missing task, and
-a change that cannot be computed, is shown as a dash.
+its change from the first; with --csv as CSV. A missing task, and a change that
+cannot be computed, is shown as a dash.
 With --vary the input is that of `measure`, or one table with --arrivals, and
 there is a column for each value: the table with that value at the key. Keys are
 cores, bandwidth_limit, and of task 1 task.1.kind, task.1.guaranteed,
-task.1.limit, task.1.delay and task.1.request. A value is written as in a table.
-To have the table as it is among the columns, name its own value, best as the
-first. With several policies each table has a column for each of them.
-The arrivals are given for the first table, or for the one that is varied. In
-each other table a request stays with its task, on the same one of its threads,
-or, where the task has fewer, on that one modulo its limit. --write-input N
-writes table N and the arrivals that it gets, which `measure` reads.
+task.1.limit, task.1.delay and task.1.request. Write a value as in a table. To
+keep the given table among the columns, name its own value, best as the first.
+With several policies each table has a column for each of them.
+The arrivals are for the first table, or for the one that is varied. In each
+other table a request stays with its task, on the thread of the same number
+among the task's, modulo the limit. --write-input N writes table N and the
+arrivals that it gets, which `measure` reads.
 Exit status: 0 done, 2 rejected input, 3 memory or output was refused. A table
 that is refused, or that the arrivals do not fit, is named by its number, from
 0, or by its value.",
@@ -372,15 +373,14 @@ pub const EXPLAIN: &str = help_with_a_run!(
     "\
 Input: a task table (TOML), the line ---, and a history or signals
 (CSV).
-Output: with --pass the turns of the pass in their order, how things
+Output: with --pass the steps of the pass in their order: how things
 stand at each, and below it, after an arrow, what the policy does there. The
-parts are those of docs/POLICY.md, \"A pass\". Of a history that is not legal it
-is what the policy does on the pass's looks after the passes before it. With
---task it is of the cores that the task holds or leaves, and of this task; with
---core of this core, and of each task's claim to it.
-Without --pass `legal`; or `illegal pass P`, what the policy does in that pass,
-what the file has, the first action that differs, and how things stand at its
-turn.
+parts are those of docs/POLICY.md, \"A pass\". For a history, it is what the
+policy would do on the recorded looks. --task shows only the task, and the cores
+that it holds or leaves; --core only the core, and each task's claim to it.
+Without --pass: `legal`; or `illegal pass P`, a line if the other policy made
+the history, what the policy does in that pass, what the file has, the first
+action that differs, and how things stand at that step.
 Exit status: 0 done, 1 the history is not legal, 2 rejected input or no such
 pass, task or core, 3 memory or output was refused.",
     "caladan_view explain --pass 0",
@@ -421,17 +421,17 @@ Output: arrivals (CSV), which `measure`, `compare` and
 Pass p has the clock p times the ticks, from p = 1, with a bandwidth figure of
 0, and turn p comes half a turn later.
 A task's load is the work asked for, over the turns times its limit. Requests
-come by chance each for itself (poisson), as far apart as can be (even), or so
-many at once (bursts:N), each to one of the task's threads by chance. One that
-comes to a turn that is taken comes in the thread's next. With several tasks
---load, --service and --pattern are given once, or once for each --task, in the
-same order. What comes to a task depends on its number, its limit, its own
-words, the turns and the seed.
-With --summary, of each task: how many requests came, how many of these stand
+come each at a random time (poisson), as far apart as can be (even), or N at
+once (bursts:N), each to a random thread of the task. A thread gets at most one
+request before a turn: a second one comes before its next free turn. With
+several tasks give --load, --service and --pattern once, or once for each
+--task, in the same order. The arrivals of a task depend on its number, its
+limit, its own options, the turns and the seed.
+With --summary, for each task: how many requests came, how many of these stand
 before a later turn than they came to, how many found no turn and are left out,
-and the load of all others.
-Exit status: 0 done, 2 rejected input or a word that it refuses, which is named,
-3 memory or output was refused.",
+and the load of the others.
+Exit status: 0 done, 2 rejected input or a bad option, which is named, 3 memory
+or output was refused.",
     "caladan_view arrivals --task 0 --load 0.5 --pattern even --turns 4",
     "\
 END
@@ -455,18 +455,18 @@ end,9"
 pub const SWEEP: &str = help_with_a_run!(
     "\
 Input: a task table (TOML); what follows a line --- is not read.
-Output: for each load a row: at which ranks of all requests of the task how many
-clock ticks went by from arrival to answer, their mean, how many came, were
-later or left out, as `arrivals --summary` has them, and were served; its mean
-cores held; and which part of the machine best-effort tasks held. Each run is on
-the arrivals that `arrivals` makes with these words, and its numbers are those
-of `measure`. One task has the loads; each other --task has one.
-With --vary a row for each value, as in `compare`, on arrivals made for the
-table that it gives; with several policies a row for each.
+Output: a row for each load: the task's response in clock ticks, from arrival to
+answer, at four ranks and in the mean; how many requests came, were later or
+left out, as in `arrivals --summary`, and were served; the cores that the task
+held in the mean; and the share of the machine that best-effort tasks held. Each
+run is on the arrivals that `arrivals` makes with these options, and its numbers
+are those of `measure`. One task has the loads; each other --task has one.
+With --vary there is a row for each value, as in `compare`, on arrivals made for
+that table; with several policies a row for each.
 --slo is an objective for a task: p50, p90, p99, p99.9 or max, in ticks.
 Exit status: 0 done, 1 a run of the last load misses the objective, or nothing
-is answered at its rank, 2 rejected input or a word that it refuses, which is
-named, 3 memory or output was refused.",
+is answered at its rank, 2 rejected input or a bad option, which is named, 3
+memory or output was refused.",
     "caladan_view sweep --load 0.3,0.6 --pattern even --turns 20",
     "\
 END
@@ -487,11 +487,11 @@ pub const CHECK: &str = help_with_a_run!(
     "\
 Input: a task table (TOML) alone, or a task table, the line ---, and
 signals, arrivals or a history (CSV).
-Output: a line that says what it is, and below it a note for each task that
-may have to wait for its guaranteed cores, since a latency-critical task that
-may have more than its own comes first. Of an input that is refused,
-standard error has the line of its fault, and below it where it is, what stands
-there, what is wanted, and what to do about it where that is plain.
+Output: a line that says what the input is, and a note for each task that by
+caladan may have to wait for its guaranteed cores, since a latency-critical task
+that may have more than its own comes first. If the input is refused, standard
+error has the line of its fault, and below it where it is, what stands there,
+what is wanted, and what to do about it if that is plain.
 Exit status: 0 accepted, 2 rejected input, 3 memory or output was refused.",
     "caladan_view check",
     "\

@@ -10,7 +10,7 @@ const POLICIES: [&str; 2] = ["caladan", "assured"];
 
 /// The option for one policy.
 pub fn policy_word<'a>(alloc: Global) -> Arg<'a> {
-    let help = "By which policy: caladan, assured [default: caladan]";
+    let help = "The policy: caladan, assured [default: caladan]";
     named_word(alloc, "NAME", help)
 }
 

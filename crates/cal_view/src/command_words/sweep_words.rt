@@ -13,11 +13,11 @@ use std::alloc::{AllocError, Global};
 /// The subcommand with its options.
 pub fn sweep_word<'a>(alloc: Global) -> Result<Command<'a>, AllocError> {
     let command = Command::new(alloc, "sweep")
-        .about("Run a table at one load after the other")
+        .about("Run a table at rising loads")
         .after_long_help(help_texts::SWEEP)
         .arg(input_word(alloc))?
         .arg(task_word(alloc).default_value("0"))?
-        .arg(load_word(alloc).help("Loads that rise, as 0.1,0.3,..,0.9"))?;
+        .arg(load_word(alloc).help("Rising loads, such as 0.1,0.3,..,0.9"))?;
     with_run_words(alloc, command)?
         .arg(policies_word(alloc))?
         .arg(vary_word(alloc))?
@@ -29,7 +29,7 @@ pub fn sweep_word<'a>(alloc: Global) -> Result<Command<'a>, AllocError> {
 }
 
 fn slo_word<'a>(alloc: Global) -> Arg<'a> {
-    let help = "What the last load is to keep, as task.0.p99=65";
+    let help = "What the last load must keep, such as task.0.p99=65";
     value_word(alloc, "slo", "OBJECTIVE", help)
 }
 

@@ -56,7 +56,7 @@ fn put_note(config: &Config, t: usize, before: usize, text: &mut String) -> Resu
     let (guaranteed, limit) = (config.task(before).guaranteed, config.task(before).limit);
     write!(
         text,
-        "note: task {t} may have to wait for the cores that it is guaranteed ({own}): "
+        "note: by caladan, task {t} may have to wait for the cores that it is guaranteed ({own}): "
     )?;
     write!(
         text,

@@ -1,11 +1,11 @@
 //! A pass of an input explained.
 
 use crate::jobs::input::JobInput;
-use cal_engine::decided_run;
+use cal_engine::decided_run_by;
 use cal_explain::{ExplainFault, Explained, Explainer, Scope};
 use cal_input::{RunFault, read_parts};
 use cal_machine::Config;
-use cal_policy::{PassEntry, Verdict};
+use cal_policy::{PassEntry, Policy, Verdict};
 use cal_trace::{FaultKind, read_history};
 use std::alloc::Global;
 use std::io::Write;
@@ -36,10 +36,11 @@ enum Unexplained {
     NoInput { pass: usize },
 }
 
-/// Explains a pass of an input of a task table and a history, or signals, which are decided first;
-/// without one, it writes whether the history is legal, and explains its first illegal pass.
-/// Answers the exit status: 0, 1 where the history is illegal, 2 where there is no such pass, task
-/// or core, or the pass cannot be explained. Nothing is written before the whole input was accepted.
+/// Explains a pass of an input of a task table and a history, or of signals, which are decided first,
+/// by the policy asked for; without a pass it writes whether the history is legal, and explains its
+/// first illegal pass. Answers the exit status: 0, 1 where the history is illegal, 2 where there is no
+/// such pass, task or core, or the pass cannot be explained. Nothing is written before the whole input
+/// was accepted.
 pub fn answer_explain<W: Write, E: Write>(
     input: &JobInput<'_>,
     asked: Asked,
@@ -47,7 +48,8 @@ pub fn answer_explain<W: Write, E: Write>(
     errors: &mut E,
 ) -> Result<u8, RunFault> {
     let alloc = input.alloc;
-    let (config, history) = passes_of(alloc, input.bytes())?;
+    let policy = input.policy();
+    let (config, history) = passes_of(alloc, policy, input.bytes())?;
     let scope = match scope_of(&config, asked) {
         Ok(scope) => scope,
         Err(reason) => return Ok(refuse(reason, errors)),
@@ -55,6 +57,7 @@ pub fn answer_explain<W: Write, E: Write>(
     let explainer = Explainer {
         alloc,
         config: &config,
+        policy,
         history: history.as_slice(),
         scope,
     };
@@ -91,10 +94,14 @@ fn refuse<E: Write>(reason: Unexplained, errors: &mut E) -> u8 {
     2
 }
 
-/// The task table of an input and its passes: those that its signals lead to or, where what follows
-/// the table has not their header, those of a history.
-fn passes_of(alloc: Global, input: &[u8]) -> Result<(Config, Vec<PassEntry>), RunFault> {
-    match decided_run(alloc, input) {
+/// The task table of an input and its passes: those that its signals lead to by this policy or, where
+/// what follows the table has not their header, those of a history.
+fn passes_of(
+    alloc: Global,
+    policy: Policy,
+    input: &[u8],
+) -> Result<(Config, Vec<PassEntry>), RunFault> {
+    match decided_run_by(alloc, policy, input) {
         Ok(run) => Ok(run),
         Err(RunFault::Trace(fault)) if fault.kind == FaultKind::Header => {
             recorded_run(alloc, input)

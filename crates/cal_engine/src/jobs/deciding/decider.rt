@@ -1,4 +1,4 @@
-//! Who decides passes one after the other.
+//! Decides passes one after the other.
 
 ghost use Rattle.std.specs.Prelude.{◌≡◌, ◌<◌, ◌+◌, ◌^◌, ◌++◌, ◌∷◌, [], List, length};
 ghost use Rattle.std.specs.Prelude.{IfOk, IfErr, OnOk};

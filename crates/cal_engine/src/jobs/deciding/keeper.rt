@@ -1,4 +1,4 @@
-//! Who keeps something of the passes that are decided.
+//! What keeps something of the passes that are decided.
 
 ghost use Rattle.std.specs.Prelude.{◌≡◌, ◌<◌, ◌+◌, ◌^◌, ◌++◌, ◌∷◌, [], List, length, IfErr, OnOk};
 ghost use Rattle.cal_policy.specs.declared.history.entry.PassEntry.{PassEntry as EntryOfPass};
@@ -6,8 +6,8 @@ ghost use Rattle.cal_policy.specs.declared.history.entry.PassEntry.{PassEntry as
 use cal_input::RunFault;
 use cal_policy::PassEntry;
 
-/// Who keeps something of the passes that signals lead to: each is handed over as soon as it was
-/// decided. What nobody keeps is kept by nobody.
+/// Keeps something of the passes that signals lead to: it is handed each one as soon as that is
+/// decided.
 pub trait Keeper {
     /// What it keeps of these passes.
     ghost keeps: { Self → List EntryOfPass → Type 0 };

@@ -33,7 +33,7 @@ impl ReportLines {
         }
     }
 
-    /// The whole report, by who decided the passes. The fault is `Memory`.
+    /// The whole report, by the decider of the passes. The fault is `Memory`.
     pub(crate) fn end(mut self, config: &Config, decider: &Decider) -> Result<Vec<u8>, RunFault>
         requires { IsReady config.now (board_in decider.now.book) }
         ensures text { (h : List EntryOfPass) → HasLines h self →

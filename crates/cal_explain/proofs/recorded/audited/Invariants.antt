@@ -1,9 +1,10 @@
 use Rattle.std.proofs.Common.{take}
-use Rattle.cal_policy.specs.Auditor.{IsAuditOf, IsAuditorOf}
+use Rattle.cal_policy.specs.Auditor.{IsAuditorOf}
+use Rattle.cal_policy.specs.Policies.{IsAuditBy}
 use Rattle.cal_explain.proofs.recorded.audited.Given as goal
 
 abbrev pub invariant-loop-entry : goal.invariant-loop-entry
 invariant-loop-entry l = record {
-  audits : IsAuditOf l.config (take l.entry-index l.history) l.auditor;
+  audits : IsAuditBy l.fn.policy l.config (take l.entry-index l.history) l.auditor;
   of : IsAuditorOf l.config l.auditor;
 }

@@ -28,7 +28,7 @@ use crate::pass::coupled::{Coupled, neither};
 
 impl Pass<'_> {
     /// Whether the sibling of a core is free, and open cores are lacked.
-    fn is_free_and_lacked_beside(&self, board: &Board, core: u8) -> bool
+    pub fn is_free_and_lacked_beside(&self, board: &Board, core: u8) -> bool
         requires at_hand { IsOfTable self.now.config.now board.now }
         requires core { core < self.now.config.now.cores }
         ensures { Within self.now board.now (λ s acts. result
@@ -58,7 +58,7 @@ impl Pass<'_> {
     }
 
     /// The ban that a core gives rise to, and where the banned core is held its revocation.
-    fn ban_beside_unless_lacked(&self, board: &Board, core: u8) -> Coupled
+    pub fn ban_beside_unless_lacked(&self, board: &Board, core: u8) -> Coupled
         requires at_hand { IsOfTable self.now.config.now board.now }
         requires core { core < self.now.config.now.cores }
         ensures due { Within self.now board.now (λ s acts. both_of result

@@ -20,7 +20,7 @@ use crate::pass::Pass;
 impl Pass<'_> {
     /// What a task that waits gets. What is asked of it is asked once, and no core is looked for
     /// where it does not wait.
-    fn turn_due(&self, board: &Board, task: usize) -> Option<Action>
+    pub fn turn_due(&self, board: &Board, task: usize) -> Option<Action>
         requires at_hand { IsOfTable self.now.config.now board.now }
         requires task { task < length self.now.config.now.tasks }
         ensures due { Within self.now board.now (λ s acts. option_to_list result

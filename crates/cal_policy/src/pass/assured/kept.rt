@@ -103,7 +103,7 @@ impl Pass<'_> {
     }
 
     /// Whether an open core is kept from the task; `lacked` says whether each is lacked by others.
-    fn is_kept(&self, board: &Board, task: usize, core: u8, lacked: bool) -> bool
+    pub fn is_kept(&self, board: &Board, task: usize, core: u8, lacked: bool) -> bool
         requires at_hand { IsOfTable self.now.config.now board.now }
         requires task { task < length self.now.config.now.tasks }
         requires core { core < self.now.config.now.cores }

@@ -30,7 +30,13 @@ use crate::pass::choice::{Candidate, first_class};
 impl Pass<'_> {
     /// The class of a core that the task may take; `lacked` says whether each open core is lacked
     /// by others.
-    fn open_class(&self, board: &Board, task: usize, core: u8, lacked: bool) -> Option<CoreClass>
+    pub fn open_class(
+        &self,
+        board: &Board,
+        task: usize,
+        core: u8,
+        lacked: bool,
+    ) -> Option<CoreClass>
         requires at_hand { IsOfTable self.now.config.now board.now }
         requires task { task < length self.now.config.now.tasks }
         requires core { core < self.now.config.now.cores }
@@ -209,7 +215,7 @@ impl Pass<'_> {
     }
 
     /// The class of a core that another task holds.
-    fn held_class(&self, board: &Board, task: usize, core: u8) -> Option<CoreClass>
+    pub fn held_class(&self, board: &Board, task: usize, core: u8) -> Option<CoreClass>
         requires at_hand { IsOfTable self.now.config.now board.now }
         requires task { task < length self.now.config.now.tasks }
         requires core { core < self.now.config.now.cores }
@@ -241,7 +247,7 @@ impl Pass<'_> {
     /// Whether a core may be revoked for the task: it is latency-critical, and more of its threads
     /// press than cores are coming to it and helpers on their way; `unhelped` says how many press
     /// beyond those that have a helper.
-    fn may_revoke_for(&self, board: &Board, task: usize, unhelped: usize) -> bool
+    pub fn may_revoke_for(&self, board: &Board, task: usize, unhelped: usize) -> bool
         requires at_hand { IsOfTable self.now.config.now board.now }
         requires task { task < length self.now.config.now.tasks }
         ensures { Within self.now board.now (λ s acts.

@@ -23,7 +23,7 @@ use crate::pass::unbans::shows_still;
 
 impl Pass<'_> {
     /// The end of the core's ban, where it has one that ends.
-    fn ban_end(&self, board: &Board, core: u8) -> Option<Action>
+    pub fn ban_end(&self, board: &Board, core: u8) -> Option<Action>
         requires at_hand { IsOfTable self.now.config.now board.now }
         requires core { core < self.now.config.now.cores }
         ensures due { Within self.now board.now (λ s acts. option_to_list result

@@ -1,0 +1,10 @@
+pub mod Beside
+pub mod Cores
+pub mod Differing
+pub mod Ending
+pub mod Evenly
+pub mod Leaving
+pub mod PaceOne
+pub mod Rounding
+pub mod Showing
+pub mod Turning

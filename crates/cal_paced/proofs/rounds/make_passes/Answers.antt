@@ -1,0 +1,44 @@
+use Rattle.std.proofs.Common.{◌≡◌, ◌+◌, ◌*◌, ℕ, refl, subst, sym, ◌∙◌, arith}
+use Rattle.std.proofs.Math.Nat.{mul_comm}
+use Rattle.cal_run.specs.Parts.{HasPassed, SchedulerSeat}
+use Rattle.cal_paced.proofs.Rounding.{times-next}
+use Rattle.cal_paced.proofs.rounds.make_passes.Goals as goal
+
+pub loop-p-init : goal.loop-p-init
+loop-p-init g c = record {
+  suits = c.requires.suits;
+  passed = let P : ℕ → Type 0 = λ n. HasPassed c.args.given.now n c.args.scheduler.now in subst P (mul_comm c.args.pace c.args.r) c.requires.passed;
+  seat = refl;
+  collected = λ journals held. held;
+}
+
+pub make_pass-requires-clause-suits : goal.make_pass-requires-clause-suits
+make_pass-requires-clause-suits g c =
+    let P : SchedulerSeat → Type 0 = λ s. g.C.Collector.suits c.loop-p.collector s.table in
+    subst P (sym c.loop-p.invariant.seat) c.loop-p.invariant.suits
+
+pub loop-p-preserved : goal.loop-p-preserved
+loop-p-preserved g c =
+    let P : SchedulerSeat → Type 0 = λ s. g.C.Collector.suits c.make_pass.new.self s.table in
+    record {
+      suits = subst P c.loop-p.invariant.seat c.in_ok-make_pass.ensures.suits;
+      passed = c.in_ok-make_pass.ensures.passed;
+      seat = c.make_pass.ensures.seat ∙ c.loop-p.invariant.seat;
+      collected = λ journals held. c.in_ok-make_pass.ensures.collected journals (c.loop-p.invariant.collected journals held);
+    }
+
+pub returns-clause-suits : goal.returns-clause-suits
+returns-clause-suits g c = c.loop-p.invariant.suits
+
+pub returns-clause-passed : goal.returns-clause-passed
+returns-clause-passed g c =
+    let end = c.loop-p-test.false in
+    let high = c.loop-p.auto.p-end in
+    let more = times-next c.args.pace c.args.r in
+    let turned = mul_comm c.args.pace c.args.r in
+    let all : c.loop-p.p ≡ c.args.pace * (c.args.r + 1) = omega (arith, end, high, more, turned) in
+    let P : ℕ → Type 0 = λ n. HasPassed c.args.given.now n c.loop-p.scheduler in
+    subst P all c.loop-p.invariant.passed
+
+pub returns-clause-collected : goal.returns-clause-collected
+returns-clause-collected g c = c.loop-p.invariant.collected

@@ -1,0 +1,97 @@
+use Rattle.std.proofs.Common.{◌≡◌, ◌<◌, ◌≤◌, ◌+◌, ◌*◌, ◌++◌, ℕ, List, Some, length, map, get_or, refl, sym, ap, subst, ◌∙◌, arith}
+use Rattle.std.specs.Prelude.{slice_index}
+use Rattle.std.specs.List.{slice_get}
+use Rattle.std.proofs.lemmas.List.{get_or_read, length-set}
+use Rattle.std.proofs.lemmas.Option.{slice_get-get_or}
+use Rattle.cal_kthread.specs.Turn.Entries.{entries_of}
+use Rattle.cal_kthread.specs.declared.journal.entry.Entry.{Entry}
+use Rattle.cal_kthread.specs.declared.kernel_thread.TheConstants.{MOST_ENTRIES}
+use Rattle.cal_trace.specs.declared.arrivals.reading.TheConstants.{MOST_TURNS}
+use Rattle.cal_run.specs.Workers.GivenTurns.{request_at, turns_given}
+use Rattle.cal_run.specs.declared.workers.worker.Worker.{Worker}
+use Rattle.cal_run.proofs.CollectorLemmas.Few.{few_entries}
+use Rattle.cal_run.proofs.CollectorLemmas.Journals.{journal_at_place, journals_after}
+use Rattle.cal_run.proofs.WorkersLemmas.Turns.{all_turned, may_turn, none_turned, one_turned}
+use Rattle.cal_paced.specs.Rounds.{IsTurnBy}
+use Rattle.cal_paced.specs.Shares.{share}
+use Rattle.cal_paced.proofs.Turning.{all-stood, below-set, none-stood, one-stood}
+use Rattle.cal_paced.proofs.rounds.shared_turns.Goals as goal
+
+pub loop-k-init : goal.loop-k-init
+loop-k-init g c = record {
+  turned = none_turned c.args.given.now c.args.r c.args.workers.now c.requires.made;
+  stood = none-stood c.args.plan.now c.args.given.now c.args.r c.args.workers.now c.args.keeping.now.saved.items;
+  kept = c.requires.kept;
+  below = c.requires.below;
+  cores = c.requires.cores;
+  misses = refl;
+  suits = λ table held. held;
+  collected = λ history held. held;
+}
+
+pub shared_turn-requires-clause-made : goal.shared_turn-requires-clause-made
+shared_turn-requires-clause-made g c = may_turn _ _ c.loop-k.k _ c.loop-k.workers _ c.loop-k.invariant.turned (slice_get-get_or c.loop-k.workers c.loop-k.k c.index-workers-k.result
+    (let a = c.loop-k-test.true in let b = c.loop-k.auto.workers in omega (arith, a, b)))
+
+pub shared_turn-requires-clause-some : goal.shared_turn-requires-clause-some
+shared_turn-requires-clause-some g c = (c.args.plan.now, map (λ (w : Worker). w.thread) c.args.workers.now, c.of-interference.ensures)
+
+pub shared_turn-requires-clause-beside : goal.shared_turn-requires-clause-beside
+shared_turn-requires-clause-beside g c = let same = c.of-interference.ensures.beside in let low = c.requires.plan.beside in omega (arith, same, low)
+
+pub loop-k-preserved : goal.loop-k-preserved
+loop-k-preserved g c =
+    let workers = c.loop-k.workers in
+    let before = c.args.workers.now in
+    let saved = c.loop-k.keeping.saved.items in
+    let k : ℕ = c.loop-k.k in
+    let was = get_or workers k c.index-workers-k.result in
+    let is = c.shared_turn.new.worker in
+    let o : ℕ = c.index.result.now in
+    let s : ℕ = c.shared_turn.new.saved in
+    let entries = c.in_ok-entries.entries in
+    let low = c.loop-k-test.true in
+    let many = c.loop-k.auto.workers in
+    let kept = c.loop-k.invariant.kept in
+    let at : slice_get workers k ≡ Some was = slice_get-get_or workers k c.index-workers-k.result (omega (arith, low, many)) in
+    let within : k < length saved = omega (arith, low, many, kept) in
+    let there : slice_get saved k ≡ Some o = slice_get-get_or saved k 0 within ∙ ap Some (sym (get_or_read saved k o within c.index.ensures 0)) in
+    let made = c.in_ok-entries.ensures.made in
+    let handed = c.in_ok-entries.ensures.handed in
+    let given = c.args.given.now in
+    let r : ℕ = c.args.r in
+    let few : length is.thread.journal ≤ 5 * (r + 1) = few_entries c.turns_add_up.ensures (turns_given given.requests given.turns was.number) (r + 1) is.thread.journal made.turns in
+    let some : r < length given.turns = c.requires.given in
+    let most : length given.turns ≤ MOST_TURNS = c.requires.fits.1.few_turns in
+    let fits : length is.thread.journal ≤ MOST_ENTRIES = omega arith in
+    let P : List Entry → Type 0 = λ l. length l ≤ MOST_ENTRIES in
+    let number : was.number ≡ k = (c.loop-k.invariant.turned.left k was (omega arith) at).number in
+    let threads = map (λ (w : Worker). w.thread) before in
+    let T : ℕ → Type 0 = λ n. IsTurnBy (slice_index given.turns r) (request_at given.requests n r) (share c.args.plan.now threads was.thread)
+    (record { thread = was.thread; saved = o }) (record { thread = is.thread; saved = s }) in
+    record {
+      turned = one_turned given r k before workers _ is c.loop-k.invariant.turned at made c.shared_turn.ensures.seat;
+      stood = one-stood c.args.plan.now given r k before workers c.args.keeping.now.saved.items saved was is o s c.loop-k.invariant.stood at there
+          (subst T number (c.in_ok-entries.ensures.shares c.args.plan.now threads c.of-interference.ensures));
+      kept = length-set saved k s ∙ kept;
+      below = below-set saved k s (omega (arith, low, many, kept)) c.loop-k.invariant.below c.shared_turn.ensures.below;
+      cores = c.loop-k.invariant.cores;
+      misses = c.loop-k.invariant.misses;
+      suits = λ table held. c.in_ok-add_turn.ensures.suits table (c.loop-k.invariant.suits table held);
+      collected = λ history held.
+          let Q : List (List Entry) → Type 0 = λ l. g.C.Collector.holds c.add_turn.new.self history l in
+          subst Q (journals_after workers k is (was.thread.journal ++ entries_of entries) handed)
+          (c.in_ok-add_turn.ensures.collected history _ was.thread.journal (c.loop-k.invariant.collected history held) (journal_at_place workers k was at) (subst P handed fits));
+    }
+
+pub returns-clause-made : goal.returns-clause-made
+returns-clause-made g c = all_turned c.args.given.now c.args.r c.loop-k.k c.args.workers.now c.loop-k.workers c.loop-k.invariant.turned
+    (let a = c.loop-k-test.false in let b = c.loop-k.auto.workers in omega (arith, a, b))
+
+pub returns-clause-shares : goal.returns-clause-shares
+returns-clause-shares g c =
+    all-stood c.args.plan.now c.args.given.now c.args.r c.loop-k.k c.args.workers.now c.loop-k.workers c.args.keeping.now.saved.items c.loop-k.keeping.saved.items c.requires.kept c.loop-k.invariant.stood
+    (let a = c.loop-k-test.false in let b = c.loop-k.auto.workers in omega (arith, a, b))
+
+pub returns-clause-suits : goal.returns-clause-suits
+returns-clause-suits g c = c.loop-k.invariant.suits

@@ -1,0 +1,7 @@
+pub mod Pace
+pub mod Figures
+pub mod Shares
+pub mod Rounds
+pub mod Making
+pub mod Paced
+pub mod Laws

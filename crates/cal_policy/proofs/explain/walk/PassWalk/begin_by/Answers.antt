@@ -1,0 +1,34 @@
+use Rattle.std.proofs.Common.{◌≡◌, ℕ, List, [], Option, None, sym, ap, subst, ◌∙◌, arith, rules}
+use Rattle.std.proofs.lemmas.Grind.{common_steps}
+use Rattle.cal_policy.specs.Explain.Walks.{begun_on}
+use Rattle.cal_policy.specs.Setting.{Begun, setting_at}
+use Rattle.cal_policy.specs.State.{Stands}
+use Rattle.cal_policy.specs.declared.history.action.Action.{Action}
+use Rattle.cal_policy.specs.declared.pass.terms.Terms.{Terms}
+use Rattle.cal_policy.proofs.ExplainLemmas.Assured.{begun_made, begun_order}
+use Rattle.cal_policy.proofs.ListLemmas.OneMore.{get_or_same}
+use Rattle.cal_policy.proofs.explain.walk.PassWalk.begin_by.Goals as goal
+
+pub returns-clause-walk : goal.returns-clause-walk
+returns-clause-walk c = record {
+  table = first_of (search rules, grind (arith, common_steps));
+  turn = first_of (search rules, grind (arith, common_steps));
+  order = λ p lt. rw (c.no_places.ensures, get_or_same {X = Option ℕ} 16 p None) tt;
+}
+
+pub returns-clause-begun : goal.returns-clause-begun
+returns-clause-begun c =
+    let s = setting_at c.args.config.now c.by.result (begun_on c.args.history.now c.args.input.now) in
+    let nothing : c.new.result.items ≡ [] = first_of (search rules, grind (arith, common_steps)) in
+    let P : List Action → Type 0 = λ made. Stands c.in_ok-board.board.value s made in
+    record {
+      made = begun_made c.by.result.policy s c.new.result.items nothing;
+      stands = subst P (sym nothing) (c.in_ok-board.ensures.stands c.by.result);
+      order = begun_order c.by.result.policy s c.no_places.result;
+    }
+
+pub returns-clause-setting : goal.returns-clause-setting
+returns-clause-setting c =
+    let table = c.args.config.now in
+    let begun : Begun = begun_on c.args.history.now c.args.input.now in
+    ap (λ (t : Terms). setting_at table t begun) c.by.ensures ∙ sym (c.of.ensures c.args.history.now)
