@@ -1,5 +1,6 @@
 -- The passes of the second policy, `assured`.
 pub mod AsKept
+pub mod BooksNoMore
 pub mod Counting
 pub mod Done
 pub mod Fits
@@ -10,6 +11,7 @@ pub mod LastHeld
 pub mod LegalOrderly
 pub mod Legality
 pub mod Lengths
+pub mod NextTurn
 pub mod NoneToTake
 pub mod Numbering
 pub mod Pairs

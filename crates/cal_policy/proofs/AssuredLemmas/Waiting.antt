@@ -1,5 +1,5 @@
 -- Threads that do not wait do not press.
-use Rattle.std.proofs.Common.{◌≡◌, ℕ, ◌+◌, ◌<◌, ◌≤◌, Bool, true, false, not, ◌&&◌, cond, eqb, nat_lt, List, [], length, Option, Some, None, refl, sym, ap, ◌∙◌, arith, ⊎_elim}
+use Rattle.std.proofs.Common.{◌≡◌, ℕ, ◌+◌, ◌<◌, ◌≤◌, Bool, true, false, not, ◌&&◌, cond, eqb, nat_lt, List, [], length, Option, Some, None, refl, sym, ap, ◌∙◌, arith}
 use Rattle.std.specs.Option.{is_some}
 use Rattle.std.proofs.lemmas.Bool.Decides.{nat_tests}
 use Rattle.std.proofs.Math.Bool.{and-false}
@@ -8,7 +8,7 @@ use Rattle.cal_machine.specs.TableTasks.{owner_of, thread_of, delay_of, limit_of
 use Rattle.cal_machine.specs.ThreadSet.{has_thread}
 use Rattle.cal_policy.specs.declared.history.action.Action.{Action}
 use Rattle.cal_policy.specs.declared.board.Board.{Board}
-use Rattle.cal_policy.specs.Assured.AtTurn.{IsCalm, IsPlaced}
+use Rattle.cal_policy.specs.Assured.AtTurn.{IsCalm}
 use Rattle.cal_policy.specs.Assured.Grants.{grant_in_place}
 use Rattle.cal_policy.specs.Assured.InFlight.{is_in_flight, is_late, presses, pressing}
 use Rattle.cal_policy.specs.Assured.Order.{place_of, task_in_place}
@@ -58,7 +58,14 @@ calm_task b s acts st sets t most none =
     let has : Bool = is_some (thread_choice s x t) in
     ap (λ n. (nat_lt (surplus s x t) n && books) && has) calm ∙ below_nothing (surplus s x t) books has
 
-unless_waits : (b : Bool) (l : List Action) → b ≡ false → cond b l [] ≡ []
+-- and so no short one
+pub calm_short : (b : Board) (s : Setting) (acts : List Action) → Stands b s acts → KeepsSets b.keeping → (t : ℕ) →
+    first_thread s.table.tasks t + limit_of s.table t ≤ 128 →
+    ((j : ℕ) → first_thread s.table.tasks t ≤ j → j < first_thread s.table.tasks t + limit_of s.table t → has_thread b.keeping.waiting j ≡ false) →
+    waits_short s (so_far s acts) t ≡ false
+calm_short b s acts st sets t most none = ap (λ w. is_short s.table (so_far s acts) t && w) (calm_task b s acts st sets t most none) ∙ and-false (is_short s.table (so_far s acts) t)
+
+pub unless_waits : (b : Bool) (l : List Action) → b ≡ false → cond b l [] ≡ []
 unless_waits true l e = cc
 unless_waits false l e = refl
 
@@ -80,17 +87,6 @@ calm_waits s x t calm =
     let books : Bool = may_book s x t in
     let has : Bool = is_some (thread_choice s x t) in
     ap (λ n. (nat_lt (surplus s x t) n && books) && has) none ∙ below_nothing (surplus s x t) books has
-
--- what is given to the task that was found in a place is what is due there
-calm_gives : (s : Setting) (acts : List Action) (there : Option ℕ) → ((t : ℕ) → there ≡ Some t → IsCalm s t) → [] ≡ grant_in_place s acts there
-calm_gives s acts None calm = refl
-calm_gives s acts (Some t) calm = sym (unless_waits (waits s (so_far s acts) t) _ (calm_waits s (so_far s acts) t (calm t refl)))
-
-pub placed_gives : (s : Setting) (acts : List Action) (there found : Option ℕ) → IsPlaced s there found → grant_in_place s acts found ≡ grant_in_place s acts there
-placed_gives s acts there found placed = ⊎_elim
-    (λ same. ap (grant_in_place s acts) same)
-    (λ h. ap (grant_in_place s acts) h.0 ∙ calm_gives s acts there h.1)
-    placed
 
 -- and where no thread of a task waits it is calm
 pub is_calm : (b : Board) (s : Setting) (acts : List Action) → Stands b s acts → KeepsSets b.keeping → (t first count : ℕ) →

@@ -21,13 +21,12 @@ ghost use Rattle.cal_policy.specs.Explain.AssuredTurns.{placed_task};
 
 use crate::board::Board;
 use crate::board::replay::board_of;
-use crate::explain::order::Order;
+use crate::explain::order::{Order, no_places};
 use crate::explain::turn::{Turn, turn_after_by};
 use crate::history::action::Action;
 use crate::history::entry::PassEntry;
 use crate::history::input::Input;
 use crate::pass::Pass;
-use crate::pass::assured::turns::no_places;
 use crate::pass::coupled::Coupled;
 use crate::pass::terms::Terms;
 use crate::policy::Policy;

@@ -16,6 +16,7 @@ use crate::board::Board;
 use crate::history::action::Action;
 use crate::history::action_list::Actions;
 use crate::pass::Pass;
+use crate::pass::assured::turns::{NO_TURN, next_turn};
 
 impl Pass<'_> {
     /// What a task that waits gets. What is asked of it is asked once, and no core is looked for
@@ -39,27 +40,6 @@ impl Pass<'_> {
         };
         let core = self.choose_for(board, task, unhelped);
         self.chosen(task, thread, core)
-    }
-
-    /// Gives the task, if there is one, what it gets.
-    fn take_turn(&self, board: &mut Board, out: &mut Actions, task: Option<u8>)
-        requires of_table { IsOfTable self.now.config.now board.old }
-        requires task { IfSome task (λ t. t < length self.now.config.now.tasks) }
-        requires room { length out.old < MOST_ACTIONS }
-        ensures acts { (h : Begun) → let s = setting_in self.now h in Stands board.old s out.old →
-            (out.new ≡ out.old ++ rules.grant_in_place s out.old task)
-            × Stands board.new s out.new }
-        ensures ready { IsReady self.now.config.now board.new }
-        ensures length { length out.new ≤ length out.old + 1 }
-    {
-        let Some(task) = task else {
-            return;
-        };
-        if self.none_may_take(board) {
-            return;
-        }
-        let action = self.turn_due(board, task as usize);
-        self.make(board, out, action);
     }
 
     /// Whether no thread shows a request that waits: then no task waits.
@@ -88,9 +68,17 @@ impl Pass<'_> {
         if self.none_may_take(board) {
             return;
         }
-        let places = self.places(board);
-        for place in 0..self.config.tasks() {
-            self.take_turn(board, out, places[place]);
+        let mut turns = self.turns(board);
+        for _ in 0..self.config.tasks() {
+            let Some(task) = next_turn(&turns, self.config.tasks()) else {
+                return;
+            };
+            if self.none_may_take(board) {
+                return;
+            }
+            turns[task] = NO_TURN;
+            let action = self.turn_due(board, task);
+            self.make(board, out, action);
         }
     }
 }

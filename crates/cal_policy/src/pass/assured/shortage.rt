@@ -128,17 +128,26 @@ impl Pass<'_> {
         self.is_short(board, task) && self.waits(board, task)
     }
 
-    /// Whether some short task waits.
+    /// Whether some short task waits. Only tasks with a thread that waits are asked.
     pub fn some_waits_short(&self, board: &Board) -> bool
         requires at_hand { IsOfTable self.now.config.now board.now }
         ensures { Within self.now board.now (λ s acts. result
             ≡ rules.some_waits_short s (so_far s acts)) }
     {
-        for task in 0..self.config.tasks() {
+        let threads = self.config.threads();
+        // The threads of the tasks below `reached` are those below `first`.
+        let mut reached = 0;
+        let mut first = 0;
+        while let Some(waiting) = board.keeping.waiting.next(first, threads) {
+            let task = self.config.task_of(waiting);
             if self.waits_short(board, task) {
                 return true;
             }
+            let (begin, count) = self.config.threads_of(task);
+            reached = task + 1;
+            first = begin + count;
         }
+        let _ = reached;
         false
     }
 

@@ -1,39 +1,22 @@
 -- Each place gives what is due to its task.
-use Rattle.std.proofs.Common.{◌≡◌, ◌<◌, ◌++◌, ℕ, List, length, refl, sym, ap, ◌∙◌, arith}
-use Rattle.std.proofs.lemmas.List.{append-nil}
-use Rattle.cal_policy.specs.declared.history.action.Action.{Action}
-use Rattle.cal_policy.specs.Assured.Grants.{grant_in_place}
+use Rattle.std.proofs.Common.{◌++◌, length, refl, sym, ap, ◌∙◌, arith}
+use Rattle.std.proofs.lemmas.List.{append-nil, length-set}
+use Rattle.cal_policy.specs.declared.pass.assured.turns.TheConstants.{NO_TURN}
 use Rattle.cal_policy.specs.Assured.Order.{task_in_place}
-use Rattle.cal_policy.specs.History.Lists.{in_turn}
 use Rattle.cal_policy.specs.Pass.AtHand.{setting_in}
 use Rattle.cal_policy.specs.Setting.{so_far}
+use Rattle.cal_policy.proofs.AssuredLemmas.NextTurn.{by_place, come_first, come_last, come_idle, come_next}
 use Rattle.cal_policy.proofs.AssuredLemmas.NoneToTake.{none_in_place}
-use Rattle.cal_policy.proofs.AssuredLemmas.Waiting.{nothing_in_place, placed_gives}
-use Rattle.cal_policy.proofs.PassLemmas.PartSoFar.{Reached_one, Reached_skip}
+use Rattle.cal_policy.proofs.AssuredLemmas.Waiting.{nothing_in_place}
+use Rattle.cal_policy.proofs.PassLemmas.PartSoFar.{Reached_skip}
 use Rattle.cal_policy.proofs.pass.Pass.grant_in_turn.Goals as goal
-
-pub loop-place-preserved : goal.loop-place-preserved
-loop-place-preserved c =
-    let i = c.loop-place.invariant in
-    let few = c.requires.of_table.accepted.tasks in
-    let low : c.loop-place.place < 16 = omega (arith, few) in record {
-      acts = λ h st.
-          let s = setting_in c.args.self.now h in
-          let f : List Action → ℕ → List Action = λ made place. grant_in_place s made (task_in_place s (so_far s c.args.out.now) place) in
-          Reached_one f s c.args.out.now _ _ c.loop-place.board _ c.loop-place.place (i.acts h st)
-          (λ now. let made = c.take_turn.ensures.acts h now in
-          (made.0 ∙ ap (λ l. c.loop-place.out ++ l) (placed_gives s c.loop-place.out _ _ (c.places-places.ensures.places h c.args.out.now st c.loop-place.place low)), made.1));
-      ready = c.take_turn.ensures.ready;
-      length = omega (arith, c.take_turn.ensures.length, i.length);
-    }
 
 -- where no task waits none is given anything
 pub returns-then-none_waits-clause-acts : goal.returns-then-none_waits-clause-acts
 returns-then-none_waits-clause-acts c = λ h st.
     let s = setting_in c.args.self.now h in
     let out = c.args.out.now in
-    let f : List Action → ℕ → List Action = λ made place. grant_in_place s made (task_in_place s (so_far s out) place) in
-    Reached_skip f s out out c.args.board.now 0 (length s.table.tasks) (omega arith)
+    Reached_skip (by_place s out) s out out c.args.board.now 0 (length s.table.tasks) (omega arith)
     (λ place a b. nothing_in_place s out (so_far s out) place (task_in_place s (so_far s out) place) refl (c.if-none_waits.ensures refl h out st))
     (sym (append-nil out), st)
 
@@ -42,15 +25,46 @@ pub returns-then-none_may_take-clause-acts : goal.returns-then-none_may_take-cla
 returns-then-none_may_take-clause-acts c = λ h st.
     let s = setting_in c.args.self.now h in
     let out = c.args.out.now in
-    let f : List Action → ℕ → List Action = λ made place. grant_in_place s made (task_in_place s (so_far s out) place) in
-    Reached_skip f s out out c.args.board.now 0 (length s.table.tasks) (omega arith)
+    Reached_skip (by_place s out) s out out c.args.board.now 0 (length s.table.tasks) (omega arith)
     (λ place a b. none_in_place s out (task_in_place s (so_far s out) place) (c.if-none_may_take.ensures refl h out st))
     (sym (append-nil out), st)
 
-pub returns-clause-acts : goal.returns-clause-acts
-returns-clause-acts c = λ h st.
+pub loop-init : goal.loop-init
+loop-init c = record {
+  acts = λ h st.
+      let s = setting_in c.args.self.now h in
+      let out = c.args.out.now in
+      come_first s out c.args.board.now NO_TURN c.turns-turns.result (sym (append-nil out), st) (c.turns-turns.ensures h out st);
+  ready = c.requires.of_table.ready;
+  all = c.turns-turns.type_inv.1.0.1;
+  length = omega arith;
+}
+
+-- where no task has a turn left none is given anything more
+pub returns-in_default-clause-acts : goal.returns-in_default-clause-acts
+returns-in_default-clause-acts c = λ h st.
     let s = setting_in c.args.self.now h in
-    let f : List Action → ℕ → List Action = λ made place. grant_in_place s made (task_in_place s (so_far s c.args.out.now) place) in
-    let all : c.loop-place.place ≡ length c.args.self.now.config.now.tasks = omega arith in
-    let r = c.loop-place.invariant.acts h st in
-    (r.0 ∙ ap (λ n. c.args.out.now ++ in_turn f c.args.out.now n) all, r.1)
+    come_last s c.args.out.now c.loop.out c.loop.board NO_TURN c.loop.turns c.loop.counter (c.loop.invariant.acts h st)
+    (λ t lt. c.in_default.ensures.none t (omega (arith, lt, c.tasks.ensures.count)))
+
+pub returns-then-none_may_take-2-clause-acts : goal.returns-then-none_may_take-2-clause-acts
+returns-then-none_may_take-2-clause-acts c = λ h st.
+    let s = setting_in c.args.self.now h in
+    let come = c.loop.invariant.acts h st in
+    come_idle s c.args.out.now c.loop.out c.loop.board NO_TURN c.loop.turns c.loop.counter come
+    (λ place. none_in_place s c.loop.out (task_in_place s (so_far s c.args.out.now) place) (c.if-none_may_take-2.ensures refl h c.loop.out come.made.1))
+
+pub loop-preserved : goal.loop-preserved
+loop-preserved c =
+    let i = c.loop.invariant in
+    let few = c.requires.of_table.accepted.tasks in record {
+      acts = λ h st.
+          let s = setting_in c.args.self.now h in
+          come_next s c.args.out.now c.loop.out c.make.new.out c.loop.board c.make.new.board NO_TURN c.loop.turns c.loop.counter c.in-Some.task few i.all (i.acts h st)
+          (omega (arith, c.in-Some.ensures.next, c.tasks.ensures.count)) c.in-Some.ensures.has
+          (λ u lt. c.in-Some.ensures.least u (omega (arith, lt, c.tasks.ensures.count)))
+          (λ now. (c.make.ensures.out ∙ ap (λ l. c.loop.out ++ l) (c.turn_due-action.ensures.due h c.loop.out now), c.make.ensures.stands s now));
+      ready = c.make.ensures.ready;
+      all = length-set c.loop.turns c.in-Some.task 885443715538058477568 ∙ i.all;
+      length = omega (arith, c.make.ensures.length, i.length);
+    }
