@@ -142,10 +142,12 @@ def named(crate, function):
 
 
 def path_of(edit):
-    """By what a check names the function of an edit: as the edit does, or by its whole path where a module has that
-    name too, which would stand for all functions in it."""
+    """By what a check names the function of an edit: as the edit does; where a module has that name too, which would
+    stand for all functions in it, with what it stands in. A method stands in its type, wherever its file is."""
     modules = {it for one in functions(edit.crate) for it in module_of(one.file)}
-    return named(edit.crate, edit.function)[0].path if edit.function in modules else edit.function
+    if edit.function not in modules:
+        return edit.function
+    return "::".join(named(edit.crate, edit.function)[0].path.split("::")[-2:])
 
 
 def function_at(crate, file, line):
