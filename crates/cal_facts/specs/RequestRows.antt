@@ -3,7 +3,8 @@ use Rattle.std.specs.Prelude.{◌-◌, ◌++◌, ℕ, List, [], ◌∷◌, codes
 use Rattle.std.specs.List.{concat, flat_map}
 use Rattle.cal_kthread.specs.declared.journal.entry.Entry.{Entry}
 use Rattle.cal_machine.specs.Table.{Table}
-use Rattle.cal_measure.specs.Clocks.{clock_of, run_end}
+use Rattle.cal_came.specs.Came.{clock_of}
+use Rattle.cal_measure.specs.Clocks.{run_end}
 use Rattle.cal_trace.specs.declared.arrivals.Arrival.{Arrival}
 use Rattle.cal_trace.specs.declared.arrivals.Arrivals.{Arrivals}
 use Rattle.cal_facts.specs.Cells.{cell, task_in}

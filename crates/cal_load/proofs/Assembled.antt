@@ -1,7 +1,9 @@
 -- Passes, turns and requests, put together as arrivals.
-use Rattle.std.proofs.Common.{ℕ, List, sym, subst, arith}
+use Rattle.std.proofs.Common.{◌≡◌, ◌<◌, ◌≤◌, ℕ, List, Some, length, get_or, slice_get, sym, subst, arith}
+use Rattle.std.proofs.lemmas.Option.{slice_get-get_or}
+use Rattle.cal_came.specs.Came.{clock_of}
 use Rattle.cal_load.specs.Built.{AreBuilt}
-use Rattle.cal_load.specs.Clocks.{IsTiming, ArePassesOf, AreTurnsOf}
+use Rattle.cal_load.specs.Clocks.{IsTiming, ArePassesOf, AreTurnsOf, turn_clock}
 use Rattle.cal_load.specs.declared.clocks.Timing.{Timing}
 use Rattle.cal_machine.specs.Table.{Table}
 use Rattle.cal_machine.specs.Tasks.{threads_in}
@@ -39,3 +41,14 @@ assembled_spelled threads timing thread passes turns requests is of_passes of_tu
   turns = turn_words timing turns is of_turns;
   ids = record { at = λ k a e. (built.ids.at k a e).1 };
 }
+
+-- what is no later than the clock of a request's turn by the timing is no later than that of its turn
+pub came_before : (table : Table) (timing : Timing) (thread : ℕ) (passes : List GivenPass) (turns : List ℕ) (requests : List Arrival) (arrival : Arrival) (i clock : ℕ)
+    → AreTurnsOf timing turns → AreBuilt (threads_in table.tasks) timing.turns thread requests → slice_get requests i ≡ Some arrival → clock ≤ turn_clock timing arrival.turn
+    → clock ≤ clock_of turns arrival
+came_before table timing thread passes turns requests arrival i clock of_turns built at le =
+    let own = (built.each.at i arrival at).turn in
+    let long = of_turns.long in
+    let within : arrival.turn < length turns = omega (arith, own, long) in
+    let is : get_or turns arrival.turn 0 ≡ turn_clock timing arrival.turn = of_turns.each arrival.turn (get_or turns arrival.turn 0) (slice_get-get_or turns arrival.turn 0 within) in
+    subst (λ (n : ℕ). clock ≤ n) (sym is) le

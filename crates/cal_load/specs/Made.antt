@@ -1,5 +1,6 @@
 -- Arrivals that are made.
 use Rattle.std.specs.Prelude.{◌≡◌, ◌<◌, ◌≤◌, ◌+◌, ℕ, List, [], ◌∷◌, ◌++◌, length, Some, slice_get}
+use Rattle.cal_came.specs.Came.{AreCameOf}
 use Rattle.cal_load.specs.Built.{AreBuilt}
 use Rattle.cal_load.specs.Clocks.{ArePassesOf, AreTurnsOf}
 use Rattle.cal_load.specs.Counts.{came_in}
@@ -64,12 +65,13 @@ pub record AreGathered (table : Table) (loads : List TaskLoad) (turns n : ℕ)
   pub few : gathered.came ≤ MOST_REQUESTS
 
 -- arrivals by these loads for a table: a file can hold them, they fit the table; each load of a task
--- that the table has is counted, and requests are those of the counts
+-- that the table has is counted, requests are those of the counts, and each came at some clock
 pub record IsMadeOf (table : Table) (loads : List TaskLoad) (made : Made) : Type 0 where
   pub fits : FitsTable table made.arrivals
   pub spelled : AreSpelled made.arrivals
   pub counts : AreCountsOf loads (length table.tasks) made.counts.items
   pub counted : AreCountedBy table loads made.counts.items made.arrivals.requests
+  pub came : AreCameOf made.arrivals made.came.items
 
 -- their passes and turns are those of this timing
 pub record IsTimedBy (timing : Timing) (arrivals : Arrivals) : Type 0 where

@@ -1,7 +1,7 @@
 //! The passes and the turns of arrivals: how many there are, and how far apart.
 
-ghost use Rattle.std.specs.Prelude.{◌≡◌, IfOk};
-ghost use Rattle.cal_load.specs.Clocks.{ArePassesOf, AreTurnsOf, IsTiming};
+ghost use Rattle.std.specs.Prelude.{◌≡◌, ◌<◌, IfOk};
+ghost use Rattle.cal_load.specs.Clocks.{ArePassesOf, AreTurnsOf, IsTiming, turn_clock};
 
 use cal_trace::{GivenPass, MOST_TURNS};
 use std::alloc::{AllocError, Global};
@@ -46,6 +46,15 @@ pub(crate) fn passes_of(alloc: Global, timing: Timing) -> Result<Vec<GivenPass>,
     Ok(passes)
 }
 
+/// The clock of a turn: half a turn after its pass.
+pub(crate) fn clock_at(timing: Timing, turn: u64) -> u64
+    requires is { IsTiming timing }
+    requires turn { turn < timing.turns }
+    ensures { result ≡ turn_clock timing turn }
+{
+    timing.ticks * (turn + 1) + timing.ticks / 2
+}
+
 /// The clocks of the turns: each half a turn after its pass. Fails only when out of memory.
 pub(crate) fn turns_of(alloc: Global, timing: Timing) -> Result<Vec<u64>, AllocError>
     requires { IsTiming timing }
@@ -53,7 +62,7 @@ pub(crate) fn turns_of(alloc: Global, timing: Timing) -> Result<Vec<u64>, AllocE
 {
     let mut turns = Vec::new(alloc);
     for turn in 0..timing.turns {
-        turns.push(timing.ticks * (turn + 1) + timing.ticks / 2)?;
+        turns.push(clock_at(timing, turn))?;
     }
     Ok(turns)
 }

@@ -34,6 +34,10 @@ pub enum Why {
     NothingComes,
     /// It is no key of a table with values.
     NotAVariation,
+    /// It is no turn of a run, or its end: a number of at most so many turns.
+    NotATurn(u64),
+    /// There are no turns from this one up to that.
+    NoTurns(u64, u64),
 }
 
 /// The reason in words.
@@ -75,6 +79,8 @@ shares, as 90%:1,10%:20",
             Why::NotAVariation => f.write_str(
                 "a key is varied as task.0.delay=10,20: the key, =, and its values",
             ),
+            Why::NotATurn(turns) => write!(f, "a turn is a number up to {turns}, the run's end"),
+            Why::NoTurns(first, after) => write!(f, "no turns are from {first} up to {after}"),
         }
     }
 }

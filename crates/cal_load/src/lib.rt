@@ -7,6 +7,7 @@
 
 mod asked;
 mod clocks;
+mod comings;
 mod decimal;
 mod fault;
 mod loads;

@@ -13,10 +13,12 @@ ghost use Rattle.cal_load.specs.declared.making.TaskLoad.{TaskLoad};
 ghost use Rattle.cal_trace.specs.History.Ranges.{Each};
 
 use crate::clocks::{Timing, passes_of, turns_of};
+use crate::comings::came_of;
 use crate::fault::{LoadFault, Why, refused};
 use crate::loads::FLAG;
 use crate::making::{Coming, TaskLoad};
-use crate::requests::put_queues;
+use crate::requests::{put_queues, put_turns};
+use cal_came::Came;
 use cal_machine::{Config, Listed};
 use cal_trace::{Arrival, Arrivals};
 use rand_core::SeedableRng;
@@ -37,8 +39,12 @@ pub struct Count {
     pub came: u64,
     /// How many of these come before a later turn than they came to, which was taken.
     pub later: u64,
+    /// How many of these were moved by more than one turn.
+    pub far: u64,
     /// How many found no turn any more, and are left out.
     pub left_out: u64,
+    /// The turn to which the first of these came.
+    pub left_from: Option<u64>,
     /// The turns that all others take.
     pub work: u64,
 }
@@ -75,6 +81,9 @@ impl<'a> ArrivalPlan<'a> {
 pub struct Made {
     /// The arrivals.
     pub arrivals: Arrivals,
+    /// When each request came, in their order: at the clock of the turn to which it came, which may
+    /// be before its own.
+    pub came: Vec<Came>,
     /// What came to each task that has a load.
     pub counts: Vec<Count>,
 }
@@ -93,6 +102,8 @@ fn generator(seed: u64, task: usize) -> Xoshiro256PlusPlus {
 #[derive(Drop)]
 struct Gathered {
     requests: Vec<Arrival>,
+    /// The turn to which each of them came.
+    came_to: Vec<u64>,
     counts: Vec<Count>,
     /// How many requests came in all.
     came: u64,
@@ -105,7 +116,9 @@ fn count_of(load: &TaskLoad, coming: &Coming) -> Count
       load = load.now.load;
       came = coming.now.came;
       later = coming.now.later;
+      far = coming.now.far;
       left_out = coming.now.left_out;
+      left_from = coming.now.left_from;
       work = coming.now.work;
     } }
 {
@@ -114,7 +127,9 @@ fn count_of(load: &TaskLoad, coming: &Coming) -> Count
         load: load.load,
         came: coming.came,
         later: coming.later,
+        far: coming.far,
         left_out: coming.left_out,
+        left_from: coming.left_from,
         work: coming.work,
     }
 }
@@ -127,6 +142,7 @@ impl Gathered {
     {
         Gathered {
             requests: Vec::new(alloc),
+            came_to: Vec::new(alloc),
             counts: Vec::new(alloc),
             came: 0,
         }
@@ -150,6 +166,7 @@ impl Gathered {
             return Ok(false);
         }
         put_queues(&mut self.requests, first, coming.queues.as_slice())?;
+        put_turns(&mut self.came_to, coming.queues.as_slice())?;
         self.counts.push(count_of(load, coming))?;
         Ok(true)
     }
@@ -207,12 +224,15 @@ pub fn made_arrivals<'a>(
     let Some(gathered) = all_that_come(alloc, config, plan, timing.turns)? else {
         return Err(refused(FLAG, word, Why::TooMany(MOST_REQUESTS)));
     };
+    let requests = gathered.requests.as_slice();
+    let came = came_of(alloc, timing, requests, gathered.came_to.as_slice())?;
     Ok(Made {
         arrivals: Arrivals {
             passes: Listed::new(passes_of(alloc, timing)?),
             turns: Listed::new(turns_of(alloc, timing)?),
             requests: Listed::new(gathered.requests),
         },
+        came,
         counts: gathered.counts,
     })
 }

@@ -70,6 +70,8 @@ pub struct Slot {
     pub turn: u64,
     /// How many turns it takes.
     pub work: u64,
+    /// The turn to which it came: that one, or an earlier one.
+    pub came_to: u64,
 }
 
 /// What comes to a thread, turn by turn.
@@ -97,6 +99,7 @@ impl Queue {
         self.slots.push(Slot {
             turn,
             work: slot.work,
+            came_to: slot.came_to,
         })?;
         self.free = turn + 1;
         Ok(Some(turn))
@@ -112,8 +115,12 @@ pub struct Coming {
     pub came: u64,
     /// How many come before a later turn than they came to, which was taken.
     pub later: u64,
+    /// How many of these were moved by more than one turn.
+    pub far: u64,
     /// How many found no turn any more, and are left out.
     pub left_out: u64,
+    /// The turn to which the first of these came.
+    pub left_from: Option<u64>,
     /// The turns that all others take.
     pub work: u64,
     /// How many turns each thread makes.
@@ -138,7 +145,9 @@ impl Coming {
             queues,
             came: 0,
             later: 0,
+            far: 0,
             left_out: 0,
+            left_from: None,
             work: 0,
             turns,
         })
@@ -163,7 +172,15 @@ impl Coming {
         for _k in 0..load.at_once() {
             let work = next_turns(rng, load.service.as_slice());
             let thread = rng.random_range(0..threads as u64) as usize;
-            self.give(thread, Slot { turn, work })?;
+            let came_to = turn;
+            self.give(
+                thread,
+                Slot {
+                    turn,
+                    work,
+                    came_to,
+                },
+            )?;
         }
         Ok(())
     }
@@ -181,9 +198,14 @@ impl Coming {
         let taken = self.queues[thread].take(slot, self.turns)?;
         self.came = self.came.saturating_add(1);
         match taken {
-            None => self.left_out = self.left_out.saturating_add(1),
+            None => {
+                self.left_out = self.left_out.saturating_add(1);
+                self.left_from = self.left_from.or(Some(slot.turn));
+            }
             Some(turn) => {
-                self.later = self.later.saturating_add(u64::from(turn > slot.turn));
+                let by = turn.saturating_sub(slot.turn);
+                self.later = self.later.saturating_add(u64::from(by > 0));
+                self.far = self.far.saturating_add(u64::from(by > 1));
                 self.work = self.work.saturating_add(slot.work);
             }
         }

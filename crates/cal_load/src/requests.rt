@@ -48,6 +48,22 @@ fn put_queue(requests: &mut Vec<Arrival>, thread: u8, queue: &Queue) -> Result<(
     Ok(())
 }
 
+/// Puts the turns to which the requests of a thread came.
+fn put_turns_of(came_to: &mut Vec<u64>, queue: &Queue) -> Result<(), AllocError> {
+    for slot in queue.slots.as_slice() {
+        came_to.push(slot.came_to)?;
+    }
+    Ok(())
+}
+
+/// Puts the turns to which the requests of some threads came, thread by thread.
+pub fn put_turns(came_to: &mut Vec<u64>, queues: &[Queue]) -> Result<(), AllocError> {
+    for queue in queues {
+        put_turns_of(came_to, queue)?;
+    }
+    Ok(())
+}
+
 /// Puts what comes to some threads, of which this is the first.
 pub fn put_queues(
     requests: &mut Vec<Arrival>,

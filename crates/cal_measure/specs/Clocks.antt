@@ -1,27 +1,13 @@
--- When the requests of a run arrived, and when the run ended.
-use Rattle.std.specs.Prelude.{◌≡◌, ℕ, ◌-◌, ◌==◌, nat_eq, List, length, Option, Some, None}
-use Rattle.std.specs.Prelude.{slice_index_or, slice_get, max, if◌then◌else◌}
-use Rattle.std.specs.Option.{unwrap_or}
+-- When the requests of a run came, and when the run ended.
+use Rattle.std.specs.Prelude.{◌≡◌, ℕ, ◌-◌, nat_eq, List, length, Option, Some, None}
+use Rattle.std.specs.Prelude.{slice_index_or, slice_get, max}
 use Rattle.std.specs.HashMap.{get}
+use Rattle.cal_came.specs.Came.{clock_told}
+use Rattle.cal_came.specs.declared.came.Came.{Came}
 use Rattle.cal_policy.specs.History.Lists.{last_of}
-use Rattle.cal_trace.specs.declared.arrivals.Arrival.{Arrival}
 use Rattle.cal_trace.specs.declared.arrivals.Arrivals.{Arrivals}
 use Rattle.cal_trace.specs.declared.arrivals.GivenPass.{GivenPass}
 use Rattle.cal_measure.specs.declared.clocks.ArrivalClocks.{ArrivalClocks}
-
--- when the request of an arrival came: the clock of its turn
-abbrev pub clock_of : List ℕ → Arrival → ℕ
-clock_of turns arrival = slice_index_or turns arrival.turn 0
-
--- an arrival of the request of this name: when it came
-abbrev pub clock_told : List ℕ → ℕ → List Arrival → Arrival → Option ℕ
-clock_told turns id before arrival =
-    if arrival.request.id == id then Some (clock_of turns arrival) else None
-
--- when the request of this name arrived. A run is given each name once; of one that it was not
--- given nothing is asked
-abbrev pub arrived_at : List ℕ → List Arrival → ℕ → ℕ
-arrived_at turns requests id = unwrap_or (last_of (clock_told turns id) requests) 0
 
 -- the clock of the last turn, 0 where there is none
 abbrev pub last_clock : List ℕ → ℕ
@@ -46,8 +32,6 @@ run_end arrivals = max (last_clock arrivals.turns) (last_pass arrivals.passes)
 abbrev pub turns_last : Arrivals → ℕ
 turns_last arrivals = run_end arrivals - slice_index_or arrivals.turns 0 (run_end arrivals)
 
--- the clocks are those of these requests
-pub record AreClocksOf (turns : List ℕ) (requests : List Arrival)
-    (clocks : ArrivalClocks) : Type 0 where
-  pub same : (id : ℕ) →
-      get nat_eq clocks.clocks id ≡ last_of (clock_told turns id) requests
+-- the clocks are those at which these requests came
+pub record AreClocksOf (came : List Came) (clocks : ArrivalClocks) : Type 0 where
+  pub same : (id : ℕ) → get nat_eq clocks.clocks id ≡ last_of (clock_told id) came

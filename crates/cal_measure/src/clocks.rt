@@ -1,29 +1,20 @@
-//! When each request of a run arrived, and when the run ended.
+//! When each request of a run came, and when the run ended.
 
 ghost use Rattle.std.specs.Prelude.{◌≡◌, ℕ, IfOk, List};
-ghost use Rattle.cal_trace.specs.declared.arrivals.Arrival.{Arrival};
-ghost use Rattle.cal_measure.specs.Clocks.{AreClocksOf, arrived_at, clock_of, last_clock};
-ghost use Rattle.cal_measure.specs.Clocks.{last_pass, run_end, turns_last};
+ghost use Rattle.cal_came.specs.Came.{came_at};
+ghost use Rattle.cal_came.specs.declared.came.Came.{Came as CameOf};
+ghost use Rattle.cal_measure.specs.Clocks.{AreClocksOf, last_clock, last_pass, run_end};
+ghost use Rattle.cal_measure.specs.Clocks.{turns_last};
 
-use cal_trace::{Arrival, Arrivals, GivenPass};
+use cal_came::Came;
+use cal_trace::{Arrivals, GivenPass};
 use std::alloc::{AllocError, Global};
 use std::collections::HashMap;
 
-/// The clock at which each request arrived, by its name.
+/// The clock at which each request came, by its name.
 #[derive(Drop)]
 pub struct ArrivalClocks {
     clocks: HashMap<u64, u64>,
-}
-
-/// When the request of an arrival came, in clock ticks: the clock of its turn; 0 where there is no
-/// such turn.
-pub fn clock_of(turns: &[u64], arrival: &Arrival) -> u64
-    ensures { result ≡ clock_of turns.now arrival.now }
-{
-    match turns.get(arrival.turn as usize) {
-        Some(clock) => *clock,
-        None => 0,
-    }
 }
 
 /// The clock of the last turn; 0 where there is none.
@@ -68,26 +59,20 @@ pub fn turns_last(arrivals: &Arrivals) -> u64
 }
 
 impl ArrivalClocks {
-    /// The clocks of these requests, which came before turns of these clocks. Fails only when out
-    /// of memory.
-    pub fn of(
-        alloc: Global,
-        turns: &[u64],
-        requests: &[Arrival],
-    ) -> Result<ArrivalClocks, AllocError>
-        ensures { IfOk result (AreClocksOf turns.now requests.now) }
+    /// The clocks at which these requests came. Fails only when out of memory.
+    pub fn of(alloc: Global, came: &[Came]) -> Result<ArrivalClocks, AllocError>
+        ensures { IfOk result (AreClocksOf came.now) }
     {
         let mut clocks = HashMap::new(alloc);
-        for request in requests {
-            clocks.insert(request.request.id, clock_of(turns, request))?;
+        for one in came {
+            clocks.insert(one.id, one.clock)?;
         }
         Ok(ArrivalClocks { clocks })
     }
 
-    /// When the request of this name arrived, in clock ticks; 0 where none has it.
+    /// When the request of this name came, in clock ticks; 0 where none has it.
     pub fn of_request(&self, id: u64) -> u64
-        ensures { (turns : List ℕ) (requests : List Arrival) →
-            AreClocksOf turns requests self.now → result ≡ arrived_at turns requests id }
+        ensures { (came : List CameOf) → AreClocksOf came self.now → result ≡ came_at came id }
     {
         match self.clocks.get(&id) {
             Some(clock) => *clock,

@@ -19,6 +19,7 @@ use crate::thread_work::ThreadWork;
 use crate::thread_work::each::end_works;
 use crate::thread_work::totals::ThreadTotals;
 use crate::work::TaskWork;
+use cal_came::Counted;
 use cal_kthread::RequestList;
 use cal_machine::{Config, Listed};
 use cal_trace::Arrivals;
@@ -27,7 +28,7 @@ use std::alloc::{AllocError, Global};
 /// What is told of a run that has ended, for its requests to be measured.
 #[derive(Drop)]
 pub struct EndedRun {
-    /// When its requests arrived.
+    /// When its requests came.
     pub clocks: ArrivalClocks,
     /// What the turns of each kernel thread came to, in thread order.
     pub threads: Vec<ThreadTotals>,
@@ -110,24 +111,22 @@ fn work_of_threads(config: &Config, threads: &[ThreadTotals], task: usize) -> Ta
 }
 
 impl EndedRun {
-    /// That of a run on these arrivals, whose threads' turns came to this, and with whose threads
-    /// these requests were left, each in thread order. Fails only when out of memory.
+    /// That of a run on these arrivals, counted so, whose threads' turns came to this, and with whose
+    /// threads these requests were left, each in thread order. Fails only when out of memory.
     pub fn of(
         alloc: Global,
         arrivals: &Arrivals,
+        counted: &Counted,
         works: Vec<ThreadWork>,
         left: Listed<RequestList>,
     ) -> Result<EndedRun, AllocError>
-        ensures clocks { IfOk result (λ run.
-            AreClocksOf arrivals.now.turns arrivals.now.requests run.clocks) }
+        ensures clocks { IfOk result (λ run. AreClocksOf counted.now.came run.clocks) }
         ensures threads { IfOk result (λ run. (journals : List (List EntryOf)) →
             AllZip IsThreadWorkOf journals works.items →
             AreTotalsOfEach (run_end arrivals.now) journals run.threads.items) }
         ensures left { IfOk result (λ run. run.left ≡ left) }
     {
-        let turns = arrivals.turns.as_slice();
-        let requests = arrivals.requests.as_slice();
-        let clocks = ArrivalClocks::of(alloc, turns, requests)?;
+        let clocks = ArrivalClocks::of(alloc, counted.came.as_slice())?;
         let threads = end_works(alloc, works, run_end(arrivals))?;
         Ok(EndedRun {
             clocks,
@@ -136,20 +135,21 @@ impl EndedRun {
         })
     }
 
-    /// What came of the requests of a task. Fails only when out of memory.
+    /// What came of the requests of a task, counted so. Fails only when out of memory.
     pub fn requests_of(
         &self,
         alloc: Global,
         config: &Config,
         arrivals: &Arrivals,
+        counted: &Counted,
         task: usize,
     ) -> Result<TaskRequests, AllocError>
         requires fits { FitsTable config.now arrivals.now }
-        requires clocks { AreClocksOf arrivals.now.turns arrivals.now.requests self.now.clocks }
+        requires clocks { AreClocksOf counted.now.came self.now.clocks }
         requires task { task < length config.now.tasks }
         ensures { IfOk result (λ numbers. (journals : List (List EntryOf)) →
             AreTotalsOfEach (run_end arrivals.now) journals self.now.threads.items →
-            AreRequestsOf config.now arrivals.now journals self.now.left task numbers) }
+            AreRequestsOf config.now arrivals.now counted.now journals self.now.left task numbers) }
     {
         let requests = arrivals.requests.as_slice();
         let threads = self.threads.as_slice();
@@ -160,6 +160,6 @@ impl EndedRun {
             left: task_left(alloc, config, left, task)?,
             work: work_of_threads(config, threads, task),
         };
-        requests_of_share(alloc, arrivals, &self.clocks, &share)
+        requests_of_share(alloc, arrivals, counted, &self.clocks, &share)
     }
 }

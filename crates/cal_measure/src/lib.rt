@@ -19,13 +19,14 @@ mod spans;
 mod spread;
 mod states;
 mod thread_work;
+mod times;
 mod totals;
 mod turns;
 mod walk;
 mod work;
 
 pub use actions::LossKind;
-pub use clocks::{ArrivalClocks, clock_of, last_clock, run_end, turns_last};
+pub use clocks::{ArrivalClocks, last_clock, run_end, turns_last};
 pub use cores::{MachineCores, TaskActions, TaskCores};
 pub use ended_run::EndedRun;
 pub use ends::{TimedTurn, timed_of};

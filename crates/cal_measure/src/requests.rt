@@ -1,32 +1,28 @@
 //! What came of the requests of a task.
 
-ghost use Rattle.std.specs.Prelude.{◌≡◌, ◌<◌, ◌==◌, ℕ, List, length, map, IfOk};
-ghost use Rattle.std.specs.Prelude.{[], option_map};
+ghost use Rattle.std.specs.Prelude.{◌≡◌, ◌<◌, ◌==◌, ◌++◌, List, length, IfOk, OnOk};
 ghost use Rattle.std.specs.List.{All};
 ghost use Rattle.cal_machine.specs.TableTasks.{owner_of, threads_of_table};
 ghost use Rattle.cal_trace.specs.declared.arrivals.Arrival.{Arrival};
+ghost use Rattle.cal_came.specs.declared.came.Came.{Came};
 ghost use Rattle.cal_measure.specs.Clocks.{AreClocksOf, run_end};
-ghost use Rattle.cal_measure.specs.Requests.{AreOfServices, given_to, left_at};
-ghost use Rattle.cal_measure.specs.Requests.{left_of_task};
-ghost use Rattle.cal_measure.specs.Requests.{response_of};
-ghost use Rattle.cal_measure.specs.Requests.{slowdown_of, slowdowns_of, so_far_of, wait_of};
-ghost use Rattle.cal_measure.specs.Requests.{worked_of};
-ghost use Rattle.cal_measure.specs.Services.{clocked};
-ghost use Rattle.cal_measure.specs.Shares.{thousandths_of};
-ghost use Rattle.cal_measure.specs.Spread.{IsSpread};
+ghost use Rattle.cal_measure.specs.Requests.{AreOfServices, given_to, if_within, left_at};
+ghost use Rattle.cal_measure.specs.Requests.{left_of_task, requests_within, services_within};
+ghost use Rattle.cal_measure.specs.Turns.{one_of};
 
 use crate::clocks::{ArrivalClocks, run_end};
-use crate::services::Service;
-use crate::shares::thousandths;
-use crate::spread::{Spread, spread_of};
-use crate::totals::total_of;
-use crate::work::{TaskWork, put_number};
+use crate::services::{Service, put_one};
+use crate::spread::Spread;
+use crate::times::{TaskTimes, times_of};
+use crate::work::TaskWork;
+use cal_came::{Counted, Window, is_within};
 use cal_kthread::RequestList;
 use cal_machine::{Config, Request};
 use cal_trace::{Arrival, Arrivals};
 use std::alloc::{AllocError, Global};
 
-/// What came of the requests of a task. Times are in clock ticks.
+/// What came of the requests of a task. Times are in clock ticks, and those of the requests that came
+/// within the window of what is counted.
 #[derive(Clone, Copy, Debug, PartialEq, Eq)]
 pub struct TaskRequests {
     /// How many came to its threads.
@@ -35,110 +31,21 @@ pub struct TaskRequests {
     pub served: usize,
     /// How many of them were left.
     pub left: usize,
-    /// Of all of them, the times from arrival to answer; those left are pending, for the time from
-    /// their arrival to the run's last clock.
+    /// Of all of them, the times from when they came to their answer; those left are pending, for
+    /// the time from when they came to the run's last clock.
     pub response: Spread,
     /// All these times together.
     pub together: u128,
-    /// Of those served, the times from arrival until they were begun.
+    /// Of those served, the times from when they came until they were begun.
     pub wait: Spread,
     /// Of those served, how long they were worked at.
     pub service: Spread,
     /// Of those served that were worked at for some time, how many thousandths of that they took.
     pub slowdown: Spread,
-    /// Of those left, the times from arrival to the run's last clock.
+    /// Of those left, the times from when they came to the run's last clock.
     pub so_far: Spread,
     /// What its threads did in their turns.
     pub work: TaskWork,
-}
-
-/// How long each of these requests took, from its arrival to its answer. Fails only when out of
-/// memory.
-fn responses(
-    alloc: Global,
-    clocks: &ArrivalClocks,
-    services: &[Service],
-) -> Result<Vec<u64>, AllocError>
-    ensures { IfOk result (λ times. (turns : List ℕ) (requests : List Arrival) →
-        AreClocksOf turns requests clocks.now →
-        times.items ≡ map (response_of turns requests) services.now) }
-{
-    let mut times = Vec::new(alloc);
-    for service in services {
-        times.push(
-            service
-                .answered
-                .saturating_sub(clocks.of_request(service.id)),
-        )?;
-    }
-    Ok(times)
-}
-
-/// How long each of these requests waited, from its arrival until it was begun. Fails only when out
-/// of memory.
-fn waits(
-    alloc: Global,
-    clocks: &ArrivalClocks,
-    services: &[Service],
-) -> Result<Vec<u64>, AllocError>
-    ensures { IfOk result (λ times. (turns : List ℕ) (requests : List Arrival) →
-        AreClocksOf turns requests clocks.now →
-        times.items ≡ map (wait_of turns requests) services.now) }
-{
-    let mut times = Vec::new(alloc);
-    for service in services {
-        times.push(service.begun.saturating_sub(clocks.of_request(service.id)))?;
-    }
-    Ok(times)
-}
-
-/// For how long each of these requests was worked at. Fails only when out of memory.
-fn works(alloc: Global, services: &[Service]) -> Result<Vec<u64>, AllocError>
-    ensures { IfOk result (λ times. times.items ≡ map worked_of services.now) }
-{
-    let mut times = Vec::new(alloc);
-    for service in services {
-        times.push(service.worked)?;
-    }
-    Ok(times)
-}
-
-/// How many thousandths of a time another one is, up to the greatest clock; of no time nothing.
-fn thousandths_clocked(part: u64, whole: u64) -> Option<u64>
-    ensures { result ≡ option_map clocked (thousandths_of part whole) }
-{
-    match thousandths(part as u128, whole as u128) {
-        Some(share) => Some(share.min(u64::MAX as u128) as u64),
-        None => None,
-    }
-}
-
-/// The slowdown of a request, in thousandths, where it was worked at for some time.
-fn slowdown(clocks: &ArrivalClocks, service: &Service) -> Option<u64>
-    ensures { (turns : List ℕ) (requests : List Arrival) → AreClocksOf turns requests clocks.now →
-        result ≡ slowdown_of turns requests service.now }
-{
-    let response = service
-        .answered
-        .saturating_sub(clocks.of_request(service.id));
-    thousandths_clocked(response, service.worked)
-}
-
-/// The slowdowns of these requests. Fails only when out of memory.
-fn slowdowns(
-    alloc: Global,
-    clocks: &ArrivalClocks,
-    services: &[Service],
-) -> Result<Vec<u64>, AllocError>
-    ensures { IfOk result (λ slowdowns. (turns : List ℕ) (requests : List Arrival) →
-        AreClocksOf turns requests clocks.now →
-        slowdowns.items ≡ slowdowns_of turns requests services.now) }
-{
-    let mut slowdowns = Vec::new(alloc);
-    for service in services {
-        put_number(&mut slowdowns, slowdown(clocks, service))?;
-    }
-    Ok(slowdowns)
 }
 
 /// The requests that were left with a thread.
@@ -171,25 +78,6 @@ pub(crate) fn task_left(
     Ok(requests)
 }
 
-/// How long each of these requests has waited by a clock, from its arrival on. Fails only when out
-/// of memory.
-fn so_far(
-    alloc: Global,
-    clocks: &ArrivalClocks,
-    end: u64,
-    left: &[Request],
-) -> Result<Vec<u64>, AllocError>
-    ensures { IfOk result (λ times. (turns : List ℕ) (requests : List Arrival) →
-        AreClocksOf turns requests clocks.now →
-        times.items ≡ map (so_far_of turns requests end) left.now) }
-{
-    let mut times = Vec::new(alloc);
-    for request in left {
-        times.push(end.saturating_sub(clocks.of_request(request.id)))?;
-    }
-    Ok(times)
-}
-
 /// Whether a request comes to a thread of this task.
 fn is_for(config: &Config, task: usize, arrival: &Arrival) -> bool
     requires { arrival.now.thread < threads_of_table config.now }
@@ -213,13 +101,6 @@ pub(crate) fn given_to(config: &Config, requests: &[Arrival], task: usize) -> us
     count
 }
 
-/// What these times come to, all of which are known. Takes no memory.
-fn spread_of_known(alloc: Global, times: Vec<u64>) -> Spread
-    ensures { IsSpread times.items [] result }
-{
-    spread_of(times, Vec::new(alloc))
-}
-
 /// What is told of the requests of a task.
 #[derive(Drop)]
 pub(crate) struct TaskShare {
@@ -233,32 +114,111 @@ pub(crate) struct TaskShare {
     pub(crate) work: TaskWork,
 }
 
-/// What came of the requests of a task, of which this is told, in a run on these arrivals. Fails
-/// only when out of memory.
+/// A request that was served, where it came within a window.
+fn service_within(clocks: &ArrivalClocks, window: Window, service: Service) -> Option<Service>
+    ensures { (came : List Came) → AreClocksOf came clocks.now →
+        result ≡ if_within window came service.id service }
+{
+    if is_within(window, clocks.of_request(service.id)) {
+        Some(service)
+    } else {
+        None
+    }
+}
+
+/// Those of these requests that came within a window. Fails only when out of memory.
+fn services_within(
+    alloc: Global,
+    clocks: &ArrivalClocks,
+    window: Window,
+    services: &[Service],
+) -> Result<Vec<Service>, AllocError>
+    ensures { IfOk result (λ within. (came : List Came) → AreClocksOf came clocks.now →
+        within.items ≡ services_within window came services.now) }
+{
+    let mut within = Vec::new(alloc);
+    for service in services {
+        put_one(&mut within, service_within(clocks, window, *service))?;
+    }
+    Ok(within)
+}
+
+/// Puts a request, if there is one, at the end of a list. Fails only when out of memory.
+fn put_request(requests: &mut Vec<Request>, request: Option<Request>) -> Result<(), AllocError>
+    ensures { OnOk result (requests.new.items ≡ requests.old.items ++ one_of request) }
+{
+    match request {
+        None => Ok(()),
+        Some(request) => {
+            requests.push(request)?;
+            Ok(())
+        }
+    }
+}
+
+/// A request that was left, where it came within a window.
+fn request_within(clocks: &ArrivalClocks, window: Window, request: Request) -> Option<Request>
+    ensures { (came : List Came) → AreClocksOf came clocks.now →
+        result ≡ if_within window came request.id request }
+{
+    if is_within(window, clocks.of_request(request.id)) {
+        Some(request)
+    } else {
+        None
+    }
+}
+
+/// Those of these requests that came within a window. Fails only when out of memory.
+fn requests_within(
+    alloc: Global,
+    clocks: &ArrivalClocks,
+    window: Window,
+    requests: &[Request],
+) -> Result<Vec<Request>, AllocError>
+    ensures { IfOk result (λ within. (came : List Came) → AreClocksOf came clocks.now →
+        within.items ≡ requests_within window came requests.now) }
+{
+    let mut within = Vec::new(alloc);
+    for request in requests {
+        put_request(&mut within, request_within(clocks, window, *request))?;
+    }
+    Ok(within)
+}
+
+/// What came of the requests of a task, of which this is told, in a run on these arrivals, counted
+/// so. Fails only when out of memory.
 pub(crate) fn requests_of_share(
     alloc: Global,
     arrivals: &Arrivals,
+    counted: &Counted,
     clocks: &ArrivalClocks,
     share: &TaskShare,
 ) -> Result<TaskRequests, AllocError>
-    requires { AreClocksOf arrivals.now.turns arrivals.now.requests clocks.now }
+    requires { AreClocksOf counted.now.came clocks.now }
     ensures given { IfOk result (λ numbers. numbers.given ≡ share.now.given) }
-    ensures are { IfOk result
-        (AreOfServices arrivals.now share.now.served.items share.now.left.items) }
+    ensures are { IfOk result (AreOfServices counted.now (run_end arrivals.now)
+        share.now.served.items share.now.left.items) }
     ensures work { IfOk result (λ numbers. numbers.work ≡ share.now.work) }
 {
+    let (served, left) = (share.served.as_slice(), share.left.as_slice());
+    let counted_served = services_within(alloc, clocks, counted.window, served)?;
+    let counted_left = requests_within(alloc, clocks, counted.window, left)?;
     let end = run_end(arrivals);
-    let served = share.served.as_slice();
-    let left = share.left.as_slice();
-    let answered = responses(alloc, clocks, served)?;
-    let pending = so_far(alloc, clocks, end, left)?;
-    let together = total_of(answered.as_slice()) + total_of(pending.as_slice());
-    let response = spread_of(answered, pending);
-    let wait = spread_of_known(alloc, waits(alloc, clocks, served)?);
-    let service = spread_of_known(alloc, works(alloc, served)?);
-    let slowdown = spread_of_known(alloc, slowdowns(alloc, clocks, served)?);
-    let oldest = so_far(alloc, clocks, end, left)?;
-    let so_far = spread_of_known(alloc, oldest);
+    let times = times_of(
+        alloc,
+        clocks,
+        end,
+        counted_served.as_slice(),
+        counted_left.as_slice(),
+    )?;
+    let TaskTimes {
+        response,
+        together,
+        wait,
+        service,
+        slowdown,
+        so_far,
+    } = times;
     Ok(TaskRequests {
         given: share.given,
         served: served.len(),

@@ -88,7 +88,7 @@ figure_of requests had turns lines.Left = Some (exact requests.left)
 figure_of requests had turns lines.ServedInATick = share_of requests.served turns
 figure_of requests had turns (lines.Response rank) = ranked_figure requests.response rank
 figure_of requests had turns lines.MeanResponse =
-    bound_if (nat_lt 0 requests.left) (share_of requests.together requests.response.count)
+    bound_if (nat_lt 0 requests.so_far.count) (share_of requests.together requests.response.count)
 figure_of requests had turns (lines.Wait rank) = ranked_figure requests.wait rank
 figure_of requests had turns (lines.Service rank) = ranked_figure requests.service rank
 figure_of requests had turns (lines.Slowdown rank) = ranked_figure requests.slowdown rank

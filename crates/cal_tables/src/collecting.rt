@@ -16,6 +16,7 @@ ghost use Rattle.cal_run.specs.Workers.{FitSomeTable};
 ghost use Rattle.cal_run.specs.declared.outcome.Outcome.{Outcome};
 ghost use Rattle.cal_tables.specs.Measured.{AreNumbersAtEnd, AreNumbersSoFar};
 
+use cal_came::Counted;
 use cal_guard::{each_policy_is_permitted, passes_are_short, permitted_is_orderly};
 use cal_kthread::{RequestList, TurnEntries};
 use cal_machine::{Config, Listed};
@@ -121,18 +122,18 @@ impl OpenNumbers {
         Ok(())
     }
 
-    /// What was measured once the run on these arrivals has ended, where these requests were left
-    /// with its kernel threads, in thread order. Fails only when out of memory.
+    /// What was measured, counted so, once the run on these arrivals has ended, where these requests
+    /// were left with its kernel threads, in thread order. Fails only when out of memory.
     pub fn end(
         self,
         alloc: Global,
         arrivals: &Arrivals,
+        counted: &Counted,
         left: Listed<RequestList>,
     ) -> Result<EndedNumbers, AllocError>
         ensures table { IfOk result (λ ended. ended.config ≡ self.config) }
         ensures walk { IfOk result (λ ended. ended.walk ≡ self.walk) }
-        ensures clocks { IfOk result (λ ended.
-            AreClocksOf arrivals.now.turns arrivals.now.requests ended.run.clocks) }
+        ensures clocks { IfOk result (λ ended. AreClocksOf counted.now.came ended.run.clocks) }
         ensures ended { IfOk result (λ ended. (outcome : Outcome) →
             AreNumbersSoFar outcome.history outcome.journals self → outcome.left ≡ left →
             AreNumbersAtEnd arrivals.now outcome ended) }
@@ -143,7 +144,7 @@ impl OpenNumbers {
             threads,
             ..
         } = self;
-        let run = EndedRun::of(alloc, arrivals, threads, left)?;
+        let run = EndedRun::of(alloc, arrivals, counted, threads, left)?;
         Ok(EndedNumbers { config, walk, run })
     }
 }

@@ -34,7 +34,7 @@ pub use laws::{
     own_value_gives_the_table, same_limits_move_nothing, table_text_is_read_back,
     varied_differs_at_its_key,
 };
-pub use measuring::{RunNumbers, measure, measured_run};
+pub use measuring::{RunNumbers, counted_run, measure, measured_run};
 pub use recorded::{HistoryNumbers, Recorded, history_numbers, measured_recording};
 pub use sheet::{NumberForm, Sheet};
 pub use style::NumberStyle;

@@ -9,13 +9,14 @@ ghost use Rattle.cal_run.specs.declared.outcome.Outcome.{Outcome};
 ghost use Rattle.cal_trace.specs.Arrivals.FitsTable.{FitsTable};
 ghost use Rattle.cal_tables.specs.Asked.{asked_history, asked_of, IsVerdictFor, Judges};
 ghost use Rattle.cal_tables.specs.Measured.{AreNumbersAtEnd, AreNumbersOf, AreRunNumbers};
-ghost use Rattle.cal_tables.specs.Measured.{IsMeasuredRun};
+ghost use Rattle.cal_tables.specs.Measured.{IsCountedRun, IsMeasuredRun};
 
 use crate::collecting::{EndedNumbers, OpenNumbers};
 use crate::comparing::runs::OfRun;
 use crate::recorded::{HistoryNumbers, Recorded, measured_recording, numbers_of_walk};
 use crate::style::NumberStyle;
 use crate::writing::{history_sheet, sheet_of};
+use cal_came::{Counted, counted_as_given};
 use cal_input::{RunFault, read_parts};
 use cal_machine::Config;
 use cal_measure::{MachineCores, TaskCores, TaskRequests, turns_last};
@@ -38,40 +39,44 @@ pub struct RunNumbers {
     pub turns: u64,
 }
 
-/// The numbers of each task's requests, in task order. Fails only when out of memory.
+/// The numbers of each task's requests, counted so, in task order. Fails only when out of memory.
 fn numbers_of(
     alloc: Global,
     arrivals: &Arrivals,
+    counted: &Counted,
     ended: &EndedNumbers,
 ) -> Result<Vec<TaskRequests>, AllocError>
     requires fits { FitsTable ended.now.config arrivals.now }
-    requires clocks { AreClocksOf arrivals.now.turns arrivals.now.requests ended.now.run.clocks }
+    requires clocks { AreClocksOf counted.now.came ended.now.run.clocks }
     ensures { IfOk result (λ numbers. (outcome : Outcome) →
         AreNumbersAtEnd arrivals.now outcome ended.now →
-        AreNumbersOf ended.now.config arrivals.now outcome numbers.items) }
+        AreNumbersOf ended.now.config arrivals.now counted.now outcome numbers.items) }
 {
     let mut numbers = Vec::new(alloc);
     for task in 0..ended.config.tasks() {
-        let of_task = ended.run.requests_of(alloc, &ended.config, arrivals, task)?;
+        let of_task = ended
+            .run
+            .requests_of(alloc, &ended.config, arrivals, counted, task)?;
         numbers.push(of_task)?;
     }
     Ok(numbers)
 }
 
-/// The numbers of a run on these arrivals. Fails only when out of memory.
+/// The numbers of a run on these arrivals, counted so. Fails only when out of memory.
 pub(crate) fn numbers_of_run(
     alloc: Global,
     arrivals: &Arrivals,
+    counted: &Counted,
     ended: &EndedNumbers,
 ) -> Result<RunNumbers, AllocError>
     requires fits { FitsTable ended.now.config arrivals.now }
-    requires clocks { AreClocksOf arrivals.now.turns arrivals.now.requests ended.now.run.clocks }
+    requires clocks { AreClocksOf counted.now.came ended.now.run.clocks }
     requires open { IsOpenFor ended.now.config ended.now.walk }
     ensures { IfOk result (λ numbers. (outcome : Outcome) →
         AreNumbersAtEnd arrivals.now outcome ended.now →
-        AreRunNumbers ended.now.config arrivals.now outcome numbers) }
+        AreRunNumbers ended.now.config arrivals.now counted.now outcome numbers) }
 {
-    let requests = numbers_of(alloc, arrivals, ended)?;
+    let requests = numbers_of(alloc, arrivals, counted, ended)?;
     let HistoryNumbers { cores, machine } = numbers_of_walk(alloc, &ended.walk)?;
     Ok(RunNumbers {
         requests,
@@ -81,8 +86,27 @@ pub(crate) fn numbers_of_run(
     })
 }
 
+/// Makes a whole run by this policy on one thread on these arrivals, and measures it, counted so,
+/// while it is made. Its fault is `Memory`.
+pub fn counted_run(
+    alloc: Global,
+    config: &Config,
+    policy: Policy,
+    arrivals: &Arrivals,
+    counted: &Counted,
+) -> Result<RunNumbers, RunFault>
+    requires fits { FitsTable config.now arrivals.now }
+    ensures numbers { IfOk result (IsCountedRun policy config.now arrivals.now counted.now) }
+    ensures kind { IfErr result (λ fault. fault ≡ RunFault.Memory) }
+{
+    let mut numbers = OpenNumbers::open(alloc, config)?;
+    let left = lockstep_collected_by(alloc, config, policy, arrivals, &mut numbers)?;
+    let ended = numbers.end(alloc, arrivals, counted, left)?;
+    Ok(numbers_of_run(alloc, arrivals, counted, &ended)?)
+}
+
 /// Makes a whole run by this policy on one thread on these arrivals, and measures it while it is
-/// made. Its fault is `Memory`.
+/// made: all requests, each from the clock of its turn. Its fault is `Memory`.
 pub fn measured_run(
     alloc: Global,
     config: &Config,
@@ -93,10 +117,8 @@ pub fn measured_run(
     ensures numbers { IfOk result (IsMeasuredRun policy config.now arrivals.now) }
     ensures kind { IfErr result (λ fault. fault ≡ RunFault.Memory) }
 {
-    let mut numbers = OpenNumbers::open(alloc, config)?;
-    let left = lockstep_collected_by(alloc, config, policy, arrivals, &mut numbers)?;
-    let ended = numbers.end(alloc, arrivals, left)?;
-    Ok(numbers_of_run(alloc, arrivals, &ended)?)
+    let counted = counted_as_given(alloc, arrivals)?;
+    counted_run(alloc, config, policy, arrivals, &counted)
 }
 
 impl OfRun for RunNumbers {

@@ -143,7 +143,7 @@ fn figure_of(requests: &TaskRequests, had: u128, turns: u64, line: Line) -> Opti
         Line::Response(rank) => ranked_figure(&requests.response, rank),
         Line::MeanResponse => {
             let mean = share(requests.together, requests.response.count as u128);
-            bound_if(requests.left > 0, mean)
+            bound_if(requests.so_far.count > 0, mean)
         }
         Line::Wait(rank) => ranked_figure(&requests.wait, rank),
         Line::Service(rank) => ranked_figure(&requests.service, rank),

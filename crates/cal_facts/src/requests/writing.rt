@@ -10,8 +10,9 @@ ghost use Rattle.cal_facts.specs.declared.requests.served.Served.{Served as Serv
 
 use crate::cells::{Cell, task_in};
 use crate::requests::served::{Served, ServedRequests};
+use cal_came::clock_of;
 use cal_machine::Config;
-use cal_measure::{clock_of, run_end};
+use cal_measure::run_end;
 use cal_trace::{Arrival, Arrivals};
 use std::io;
 use std::io::Write;

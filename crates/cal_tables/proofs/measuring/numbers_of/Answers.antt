@@ -11,14 +11,15 @@ loop-task-preserved c =
     let now = c.in_ok-of_task.of_task in
     let table = c.args.ended.now.config in
     let arrivals = c.args.arrivals.now in
+    let counted = c.args.counted.now in
     let more : c.push.new.self.items ≡ before ++ now ∷ [] = c.in_ok-push.ensures.items in
     let many = c.loop-task.invariant.many in
     record {
       many = let e = ap (λ (l : List TaskRequests). length l) more in omega (arith, many, e, length-append before (now ∷ []));
       each = λ outcome are t n at.
-          let Q : ℕ → TaskRequests → Type 0 = λ k m. AreRequestsOf table arrivals outcome.journals outcome.left k m in
+          let Q : ℕ → TaskRequests → Type 0 = λ k m. AreRequestsOf table arrivals counted outcome.journals outcome.left k m in
           let here : Q c.loop-task.task now =
-          subst (λ (l : List (List Request)). AreRequestsOf table arrivals outcome.journals l c.loop-task.task now) (sym are.left) (c.in_ok-of_task.ensures outcome.journals are.threads) in
+          subst (λ (l : List (List Request)). AreRequestsOf table arrivals counted outcome.journals l c.loop-task.task now) (sym are.left) (c.in_ok-of_task.ensures outcome.journals are.threads) in
           ⊎_elim
           (λ was. c.loop-task.invariant.each outcome are t n was.1)
           (λ last. subst (λ m. Q t m) last.1 (subst (λ k. Q k now) (sym (let p = last.0 in omega (arith, many, p))) here))

@@ -9,5 +9,5 @@ abbrev pub invariant-loop-task : goal.invariant-loop-task
 invariant-loop-task l = record {
   many : length l.numbers.items ≡ l.task;
   each : (outcome : Outcome) → AreNumbersAtEnd l.arrivals outcome l.ended → (t : ℕ) (of_task : TaskRequests) → slice_get l.numbers.items t ≡ Some of_task →
-      AreRequestsOf l.ended.config l.arrivals outcome.journals outcome.left t of_task;
+      AreRequestsOf l.ended.config l.arrivals l.counted outcome.journals outcome.left t of_task;
 }

@@ -2,7 +2,8 @@ use Rattle.std.proofs.Common.{◌≡◌, ◌-◌, ◌∙◌, ℕ, List, Option, 
 use Rattle.std.proofs.KnownBytes.{Appends-trans}
 use Rattle.std.proofs.lemmas.Result.{on_ok_weaker}
 use Rattle.std.specs.Io.KnownBytes.{Appends}
-use Rattle.cal_measure.specs.Clocks.{clock_of, run_end}
+use Rattle.cal_came.specs.Came.{clock_of}
+use Rattle.cal_measure.specs.Clocks.{run_end}
 use Rattle.cal_facts.specs.RequestRows.{arrival_text, served_text}
 use Rattle.cal_facts.specs.Served.{service_of}
 use Rattle.cal_facts.specs.declared.requests.served.Served.{Served}

@@ -17,8 +17,8 @@ returns c = λ table loads turns lt at has coming old fits.
     let same : queues ≡ c.args.coming.now.queues.items = c.as_slice.ensures.value in
     let before : Gathered = c.args.self.now in
     let came = c.args.coming.now in
-    let new : Gathered = record { requests = c.put_queues.new.requests; counts = c.push.new.self; came = c.saturating_add-self.result } in
-    let count : Count = record { task = load.task; load = load.load; came = came.came; later = came.later; left_out = came.left_out; work = came.work } in
+    let new : Gathered = record { requests = c.put_queues.new.requests; came_to = c.put_turns.new.came_to; counts = c.push.new.self; came = c.saturating_add-self.result } in
+    let count : Count = record { task = load.task; load = load.load; came = came.came; later = came.later; far = came.far; left_out = came.left_out; left_from = came.left_from; work = came.work } in
     let size = ap (λ (l : List Queue). length l) same in
     let many = coming.queues in
     let few = c.if-self-gt-MOST_REQUESTS.false in

@@ -1,6 +1,6 @@
 use Rattle.std.proofs.Common.{◌≡◌, map, take}
 use Rattle.cal_measure.specs.Requests.{worked_of}
-use Rattle.cal_measure.proofs.requests.works.Given as goal
+use Rattle.cal_measure.proofs.times.works.Given as goal
 
 abbrev pub invariant-loop-service : goal.invariant-loop-service
 invariant-loop-service l = l.times.items ≡ map worked_of (take l.service-index l.services)

@@ -1,9 +1,0 @@
-use Rattle.std.proofs.Common.{◌≡◌, ℕ, List, map, take}
-use Rattle.cal_trace.specs.declared.arrivals.Arrival.{Arrival}
-use Rattle.cal_measure.specs.Clocks.{AreClocksOf}
-use Rattle.cal_measure.specs.Requests.{response_of}
-use Rattle.cal_measure.proofs.requests.responses.Given as goal
-
-abbrev pub invariant-loop-service : goal.invariant-loop-service
-invariant-loop-service l = (turns : List ℕ) (requests : List Arrival) → AreClocksOf turns requests l.clocks →
-    l.times.items ≡ map (response_of turns requests) (take l.service-index l.services)

@@ -1,0 +1,9 @@
+use Rattle.std.proofs.Common.{◌≡◌, List, take}
+use Rattle.cal_came.specs.declared.came.Came.{Came}
+use Rattle.cal_measure.specs.Clocks.{AreClocksOf}
+use Rattle.cal_measure.specs.Requests.{slowdowns_of}
+use Rattle.cal_measure.proofs.times.slowdowns.Given as goal
+
+abbrev pub invariant-loop-service : goal.invariant-loop-service
+invariant-loop-service l = (came : List Came) → AreClocksOf came l.clocks →
+    l.slowdowns.items ≡ slowdowns_of came (take l.service-index l.services)

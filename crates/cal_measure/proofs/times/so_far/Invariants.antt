@@ -1,0 +1,9 @@
+use Rattle.std.proofs.Common.{◌≡◌, List, map, take}
+use Rattle.cal_came.specs.declared.came.Came.{Came}
+use Rattle.cal_measure.specs.Clocks.{AreClocksOf}
+use Rattle.cal_measure.specs.Requests.{so_far_of}
+use Rattle.cal_measure.proofs.times.so_far.Given as goal
+
+abbrev pub invariant-loop-request : goal.invariant-loop-request
+invariant-loop-request l = (came : List Came) → AreClocksOf came l.clocks →
+    l.times.items ≡ map (so_far_of came l.end) (take l.request-index l.left)
