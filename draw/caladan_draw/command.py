@@ -19,6 +19,8 @@ SWEEP_OPTIONS = {
     "--turns": ("N", "how many turns each thread makes"),
     "--ticks": ("N", "the ticks of a turn"),
     "--seed": ("N", "what chance goes by"),
+    "--from": ("TURN", "the first turn of the window whose requests are ranked"),
+    "--to": ("TURN", "the turn after the window"),
     "--vary": ("KEY=V1,..", "tables with each of these values at a key, as task.0.delay=10,40"),
 }
 

@@ -225,7 +225,7 @@ class CostPlot:
 def lines_of(scene: SweepScene) -> list[tuple[str, bool]]:
     """What stands below the title."""
     across = scene.width - 2 * MARGIN
-    words = f"From arrival to answer, in {scene.unit}, at ranks of all requests that came."
+    words = f"From arrival to answer, in {scene.unit}, at ranks of the requests of the window."
     if scene.waiting:
         words += " Above: where the request at the rank was not answered."
     lines = [(it, True) for it in wrapped(words, across)]

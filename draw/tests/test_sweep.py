@@ -113,7 +113,7 @@ class Asked(unittest.TestCase):
         runs = rows_in(as_csv(text_of(example("sweep/missed", "output"))))
         self.assertEqual(repr(pairs(named(paper, "p99-0")["p99-0"].get_xydata())),
                          repr([(float(it["load"]), float(answered(it, "p99"))) for it in runs]))
-        self.assertEqual(set(named(paper, "objective")["objective"].get_ydata()), {30})
+        self.assertEqual(set(named(paper, "objective")["objective"].get_ydata()), {60})
         self.assertIn("Response of task 0 over its load", words_of(paper))
         self.assertFalse(named(paper, "cost"))
 

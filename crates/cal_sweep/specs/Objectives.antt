@@ -1,11 +1,14 @@
--- When a run keeps an objective, and with which status a sweep ends.
-use Rattle.std.specs.Prelude.{ℕ, nat_le, Bool, false, not, List, length, ◌-◌, slice_get}
+-- Whether a run keeps an objective, and with which status a sweep ends.
+use Rattle.std.specs.Prelude.{ℕ, nat_le, nat_lt, Bool, true, false, not, List, length}
+use Rattle.std.specs.Prelude.{◌-◌, slice_get}
 use Rattle.std.specs.Prelude.{Option, Some, None, if◌then◌else◌}
 use Rattle.std.specs.List.{list_any}
 use Rattle.cal_measure.specs.declared.requests.TaskRequests.{TaskRequests}
 use Rattle.cal_measure.specs.declared.spread.Time.{Time}
 use Rattle.cal_measure.specs.declared.spread.Time.TheVariants.{Known, More}
 use Rattle.cal_sweep.specs.declared.objective.Objective.{Objective}
+use Rattle.cal_sweep.specs.declared.objective.Standing.{Standing}
+use Rattle.cal_sweep.specs.declared.objective.Standing.TheVariants.{Kept, Missed, Undecided}
 use Rattle.cal_sweep.specs.declared.runs.Sweep.{Sweep}
 use Rattle.cal_sweep.specs.declared.runs.SweptLoad.{SweptLoad}
 use Rattle.cal_sweep.specs.declared.runs.SweptRun.{SweptRun}
@@ -22,33 +25,40 @@ response_in rank (Some requests) = time_in requests.response rank
 abbrev pub response_at : RunNumbers → ℕ → Rank → Option Time
 response_at numbers t rank = response_in rank (slice_get numbers.requests.items t)
 
--- a time is known, and not above these ticks; one that is pending is not, nor is none
-abbrev pub is_within : ℕ → Option Time → Bool
-is_within ticks None = false
-is_within ticks (Some (Known time)) = nat_le time ticks
-is_within ticks (Some (More time)) = false
+-- what becomes of an objective by the time at its rank: it is kept where that is known and not above
+-- these ticks, undecided where it is of a request that is pending for less than these, and else
+-- missed
+abbrev pub standing_at : ℕ → Option Time → Standing
+standing_at ticks None = Missed
+standing_at ticks (Some (Known time)) = if nat_le time ticks then Kept else Missed
+standing_at ticks (Some (More time)) = if nat_lt time ticks then Undecided else Missed
 
--- a run with these numbers keeps an objective
-abbrev pub is_kept : Objective → RunNumbers → Bool
-is_kept objective numbers =
-    is_within objective.ticks (response_at numbers objective.task objective.rank)
+-- what becomes of an objective in a run: where some were left out it is missed
+abbrev pub standing_of : Objective → SweptRun → Standing
+standing_of objective run = if run.is_cut then Missed
+    else standing_at objective.ticks (response_at run.numbers objective.task objective.rank)
 
--- a run misses an objective
-abbrev pub is_missed_by : Objective → SweptRun → Bool
-is_missed_by objective run = not (is_kept objective run.numbers)
+abbrev pub is_kept : Standing → Bool
+is_kept Kept = true
+is_kept Missed = false
+is_kept Undecided = false
 
--- one of the runs of a load misses an objective
-abbrev pub is_missed_at : Objective → Option SweptLoad → Bool
-is_missed_at objective None = false
-is_missed_at objective (Some load) = list_any (is_missed_by objective) load.runs.items
+-- a run does not keep an objective
+abbrev pub is_not_kept_by : Objective → SweptRun → Bool
+is_not_kept_by objective run = not (is_kept (standing_of objective run))
 
--- one of the runs of the last load misses an objective; where there is none, none is missed
-abbrev pub is_missed : Option Objective → List SweptLoad → Bool
-is_missed None loads = false
-is_missed (Some objective) loads =
-    is_missed_at objective (slice_get loads (length loads - 1))
+-- one of the runs of a load does not keep an objective
+abbrev pub is_not_kept_at : Objective → Option SweptLoad → Bool
+is_not_kept_at objective None = false
+is_not_kept_at objective (Some load) = list_any (is_not_kept_by objective) load.runs.items
 
--- the exit status: 1 where an objective is missed at the last load of one of the sweeps, and 0 else
+-- one of the runs of the last load does not keep an objective; where there is none, none is asked
+abbrev pub is_not_kept : Option Objective → List SweptLoad → Bool
+is_not_kept None loads = false
+is_not_kept (Some objective) loads =
+    is_not_kept_at objective (slice_get loads (length loads - 1))
+
+-- the exit status: 1 where an objective is not kept at the last load of one of the sweeps, 0 else
 abbrev pub status_of_sweeps : Option Objective → List Sweep → ℕ
 status_of_sweeps objective sweeps =
-    if list_any (λ sweep. is_missed objective sweep.loads.items) sweeps then 1 else 0
+    if list_any (λ sweep. is_not_kept objective sweep.loads.items) sweeps then 1 else 0

@@ -1,8 +1,14 @@
 -- The runs of a sweep.
-use Rattle.std.specs.Prelude.{◌≡◌, ℕ, List, [], ◌∷◌, map, Option, Some, None, Ok}
+use Rattle.std.specs.Prelude.{◌≡◌, ℕ, nat_lt, Bool, false, List, [], ◌∷◌, map}
+use Rattle.std.specs.Prelude.{Option, Some, None, Ok}
+use Rattle.std.specs.List.{list_any}
+use Rattle.cal_came.specs.Windows.{window_of}
+use Rattle.cal_came.specs.declared.came.Came.{Came}
+use Rattle.cal_came.specs.declared.counted.Counted.{Counted}
 use Rattle.cal_input.specs.declared.fault.RunFault.TheVariants.{Memory, Write}
 use Rattle.cal_load.specs.Clocks.{IsTiming}
 use Rattle.cal_load.specs.Made.{IsMadeOf, IsTimedBy}
+use Rattle.cal_load.specs.declared.made.Count.{Count}
 use Rattle.cal_load.specs.declared.made.Made.{Made}
 use Rattle.cal_load.specs.declared.making.TaskLoad.{TaskLoad}
 use Rattle.cal_machine.specs.Reading.{table_in}
@@ -10,20 +16,40 @@ use Rattle.cal_machine.specs.Table.{Table}
 use Rattle.cal_policy.specs.declared.policy.Policy.{Policy}
 use Rattle.cal_tables.specs.Compared.{AreEachOf}
 use Rattle.cal_tables.specs.Joining.{table_part}
-use Rattle.cal_tables.specs.Measured.{IsMeasuredRun}
+use Rattle.cal_tables.specs.Measured.{IsCountedRun}
 use Rattle.cal_tables.specs.Varied.{AreVaried}
 use Rattle.cal_tables.specs.declared.comparing.Variation.{Variation}
 use Rattle.cal_tables.specs.declared.comparing.fault.ComparisonFault.{ComparisonFault}
 use Rattle.cal_tables.specs.declared.comparing.fault.ComparisonFault.TheVariants as faults
+use Rattle.cal_trace.specs.declared.arrivals.Arrivals.{Arrivals}
 use Rattle.cal_sweep.specs.declared.runs.SweptLoad.{SweptLoad}
 use Rattle.cal_sweep.specs.declared.runs.SweptRun.{SweptRun}
 use Rattle.cal_sweep.specs.declared.words.Asked.{Asked}
 use Rattle.cal_sweep.specs.Words.{AreLoadedWith}
 
--- the run has these counts, and the numbers of a run by the policy of this table on these arrivals
-pub record IsRunOn (policy : Policy) (table : Table) (made : Made) (run : SweptRun) : Type 0 where
+-- requests count from when they came, and those are ranked that came within the turns asked for
+abbrev pub counted_of : Asked → Arrivals → List Came → Counted
+counted_of asked arrivals came =
+    record { came = came; window = window_of arrivals.turns asked.first asked.after }
+
+-- the first request that was left out came before this turn, if one was
+abbrev pub is_before : ℕ → Option ℕ → Bool
+is_before after None = false
+is_before after (Some turn) = nat_lt turn after
+
+-- some requests that came before this turn were left out
+abbrev pub is_cut_before : ℕ → List Count → Bool
+is_cut_before after counts = list_any (λ count. is_before after count.left_from) counts
+
+-- the run has these counts, and the numbers of a run by the policy of this table on these arrivals,
+-- counted from when their requests came; and it is cut where some were left out that came before the
+-- end of the window
+pub record IsRunOn (policy : Policy) (asked : Asked) (table : Table) (made : Made)
+    (run : SweptRun) : Type 0 where
   pub counts : run.counts ≡ made.counts
-  pub measured : IsMeasuredRun policy table made.arrivals run.numbers
+  pub cut : run.is_cut ≡ is_cut_before asked.after made.counts.items
+  pub measured : IsCountedRun policy table made.arrivals
+      (counted_of asked made.arrivals made.came.items) run.numbers
 
 -- a run by the policy of this table on arrivals that were made for it of what is asked for, with this
 -- load of the task that is swept: as many for each task as the counts of the run say, by the timing
@@ -35,7 +61,7 @@ pub record IsSweptRun (policy : Policy) (asked : Asked) (load : ℕ) (table : Ta
   pub made : Made
   pub are : IsMadeOf table loads made
   pub timed : IsTiming asked.timing → IsTimedBy asked.timing made.arrivals
-  pub ran : IsRunOn policy table made run
+  pub ran : IsRunOn policy asked table made run
 
 -- as many runs as tables, each of the table at its place with this load
 abbrev pub AreSweptRuns : Policy → Asked → ℕ → List Table → List SweptRun → Type 0

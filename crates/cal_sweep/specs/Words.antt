@@ -1,5 +1,5 @@
 -- What a sweep is of, as words say it.
-use Rattle.std.specs.Prelude.{◌≡◌, ◌==◌, ℕ, Bool, List, Option, Some, None, IfSome, IsTrue}
+use Rattle.std.specs.Prelude.{◌≡◌, ◌==◌, ◌<◌, ◌≤◌, ◌-◌, ◌/◌, ℕ, Bool, List, Option, Some, None, IfSome, IsTrue}
 use Rattle.std.specs.Prelude.{map, slice_get, if◌then◌else◌}
 use Rattle.std.specs.List.{list_any}
 use Rattle.cal_load.specs.declared.making.TaskLoad.{TaskLoad}
@@ -11,14 +11,25 @@ use Rattle.cal_sweep.specs.declared.words.SweepWords.{SweepWords}
 abbrev pub has_load : List TaskLoad → ℕ → Bool
 has_load tasks task = list_any (λ of_task. of_task.task == task) tasks
 
--- the timing, the seed and the form asked for are those of the words, and an objective is of a
--- task to which requests come
+-- the turn after the first tenth of so many turns, and the first of the last tenth
+abbrev pub first_tenth : ℕ → ℕ
+first_tenth turns = turns / 10
+
+abbrev pub last_tenth : ℕ → ℕ
+last_tenth turns = turns - turns / 10
+
+-- the timing, the seed and the form asked for are those of the words, an objective is of a task to
+-- which requests come, and the window has turns of the run: without words all but the first and the
+-- last tenth of them
 pub record IsAsked (words : SweepWords) (asked : Asked) : Type 0 where
   pub timing : asked.timing ≡ words.load.timing
   pub seed : asked.seed ≡ words.load.seed
   pub form : asked.form ≡ words.form
   pub objective : IfSome asked.objective (λ objective.
       IsTrue (has_load asked.tasks.items objective.task))
+  pub window : (asked.first < asked.after) × (asked.after ≤ words.load.timing.turns)
+  pub first : words.from ≡ None → asked.first ≡ first_tenth words.load.timing.turns
+  pub after : words.to ≡ None → asked.after ≡ last_tenth words.load.timing.turns
 
 -- the number of this task with a load, 0 where there is none
 abbrev pub task_loaded : Option TaskLoad → ℕ

@@ -46,8 +46,8 @@ fn say_misses_of_each<E: Write>(
 }
 
 /// Writes the sweeps that a job asked for, one by each policy, and answers the exit status: 1 where
-/// one of the runs of the last load of one misses the objective, and 0 else. Of a miss a line is
-/// written to `errors`, with its numbers.
+/// one of the runs of the last load of one does not keep the objective, and 0 else. Of each such
+/// run a line is written to `errors`, with its numbers.
 ///
 /// The fault is `Write`, or `Memory` before anything is written.
 pub fn end_sweeps<'a, W: Write, E: Write>(
@@ -80,8 +80,8 @@ pub fn end_sweeps<'a, W: Write, E: Write>(
 pub struct EndedSweeps {
     /// The sweep by each policy.
     pub sweeps: Vec<Sweep>,
-    /// The exit status: 1 where one of the runs of the last load of one misses the objective, and 0
-    /// else.
+    /// The exit status: 1 where one of the runs of the last load of one does not keep the objective,
+    /// and 0 else.
     pub status: u8,
 }
 

@@ -3,7 +3,7 @@
 ghost use Rattle.std.specs.Prelude.{◌≡◌, IfErr};
 ghost use Rattle.cal_load.specs.Refused.{IsRefusedFor};
 ghost use Rattle.cal_tables.specs.Rows.{time_in};
-ghost use Rattle.cal_sweep.specs.Objectives.{is_kept, is_within, response_at};
+ghost use Rattle.cal_sweep.specs.Objectives.{is_kept, response_at, standing_at};
 
 use cal_load::{LoadFault, Why, number_of, refused};
 use cal_measure::Time;
@@ -20,7 +20,7 @@ pub struct Objective {
     pub task: usize,
     /// The rank, among all requests that came to the task.
     pub rank: Rank,
-    /// The ticks, from arrival to answer.
+    /// The ticks, from when a request comes to its answer.
     pub ticks: u64,
 }
 
@@ -89,22 +89,46 @@ pub fn response_at(numbers: &RunNumbers, task: usize, rank: Rank) -> Option<Time
     }
 }
 
-/// Whether a time is known and not above these ticks.
-fn is_within(ticks: u64, time: Option<Time>) -> bool
-    ensures { result ≡ is_within ticks time }
+/// What becomes of an objective in a run.
+#[derive(Clone, Copy, Debug, PartialEq, Eq)]
+pub enum Standing {
+    /// A request stands at its rank, and was answered within its ticks.
+    Kept,
+    /// None stands there, or it took or is pending for longer; or some were left out.
+    Missed,
+    /// The request at its rank is pending for less than its ticks: a longer run decides.
+    Undecided,
+}
+
+/// What becomes of an objective by the time at its rank.
+pub fn standing_at(ticks: u64, time: Option<Time>) -> Standing
+    ensures { result ≡ standing_at ticks time }
 {
     match time {
-        None => false,
-        Some(Time::Known(time)) => time <= ticks,
-        Some(Time::More(_)) => false,
+        None => Standing::Missed,
+        Some(Time::Known(time)) => {
+            if time <= ticks {
+                Standing::Kept
+            } else {
+                Standing::Missed
+            }
+        }
+        Some(Time::More(time)) => {
+            if time < ticks {
+                Standing::Undecided
+            } else {
+                Standing::Missed
+            }
+        }
     }
 }
 
-/// Whether the requests of a run keep an objective: one stands at its rank, and was answered within
-/// its ticks.
-pub fn is_kept(objective: &Objective, numbers: &RunNumbers) -> bool
-    ensures { result ≡ is_kept objective.now numbers.now }
+/// Whether an objective is kept.
+pub fn is_kept(standing: Standing) -> bool
+    ensures { result ≡ is_kept standing }
 {
-    let time = response_at(numbers, objective.task, objective.rank);
-    is_within(objective.ticks, time)
+    match standing {
+        Standing::Kept => true,
+        Standing::Missed | Standing::Undecided => false,
+    }
 }

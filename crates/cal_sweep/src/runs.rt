@@ -6,7 +6,8 @@ ghost use Rattle.cal_machine.specs.Table.{Table};
 ghost use Rattle.cal_load.specs.Known.{AreKnown};
 ghost use Rattle.cal_sweep.specs.Faults.{AreCounted, IsFirstFault, SweepDecided};
 ghost use Rattle.cal_sweep.specs.Sweeps.{AreSweptLoads, AreSweptRuns, AreTablesOf, IsSweep};
-ghost use Rattle.cal_sweep.specs.Sweeps.{IsRunOn, IsSweptLoad, IsSweptRun, varying_of};
+ghost use Rattle.cal_sweep.specs.Sweeps.{IsRunOn, IsSweptLoad, IsSweptRun, counted_of};
+ghost use Rattle.cal_sweep.specs.Sweeps.{is_before, is_cut_before, varying_of};
 ghost use Rattle.cal_tables.specs.Compared.{AreEachOf};
 ghost use Rattle.cal_tables.specs.Joining.{table_part};
 ghost use Rattle.cal_trace.specs.Arrivals.FitsTable.{FitsTable};
@@ -14,13 +15,16 @@ ghost use Rattle.cal_trace.specs.Arrivals.FitsTable.{FitsTable};
 use crate::fault::SweepFault;
 use crate::job::SweepJob;
 use crate::naming::are_counted;
+use crate::words::Asked;
+use cal_came::{Came, Counted, window_of};
 use cal_load::{ArrivalPlan, Count, Made, are_known, made_arrivals};
-use cal_machine::Config;
+use cal_machine::{Config, Listed};
 use cal_policy::Policy;
 use cal_tables::{
-    ComparisonFault, Reason, RunNumbers, Variation, measured_run, policy_at, table_at, table_part,
+    ComparisonFault, Reason, RunNumbers, Variation, counted_run, policy_at, table_at, table_part,
     varied_tables,
 };
+use cal_trace::Arrivals;
 use rayon::prelude::*;
 use std::alloc::{AllocError, Global};
 use std::thread::Threads;
@@ -30,6 +34,8 @@ use std::thread::Threads;
 pub struct SweptRun {
     /// What came to each task that has a load.
     pub counts: Vec<Count>,
+    /// Whether some were left out that came before the end of the window.
+    pub is_cut: bool,
     /// The numbers of the run.
     pub numbers: RunNumbers,
 }
@@ -52,21 +58,62 @@ pub struct Sweep {
     pub loads: Vec<SweptLoad>,
 }
 
-/// The run of a table by this policy on arrivals that were made, measured. A fault is that of the
-/// table at this place.
+/// When the requests of arrivals came that were made, and the window of what is asked for.
+fn counted_of(asked: &Asked<'_>, arrivals: &Arrivals, came: Vec<Came>) -> Counted
+    ensures { result ≡ counted_of asked.now arrivals.now came.items }
+{
+    let turns = arrivals.turns.as_slice();
+    Counted {
+        came: Listed::new(came),
+        window: window_of(turns, asked.first, asked.after),
+    }
+}
+
+/// Whether the first request that was left out came before this turn, if one was.
+fn is_before(after: u64, left_from: Option<u64>) -> bool
+    ensures { result ≡ is_before after left_from }
+{
+    match left_from {
+        None => false,
+        Some(turn) => turn < after,
+    }
+}
+
+/// Whether some requests that came before this turn were left out.
+fn is_cut_before(after: u64, counts: &[Count]) -> bool
+    ensures { result ≡ is_cut_before after counts.now }
+{
+    for count in counts {
+        if is_before(after, count.left_from) {
+            return true;
+        }
+    }
+    false
+}
+
+/// The run of a table by this policy on arrivals that were made of what is asked for, measured. A
+/// fault is that of the table at this place.
 fn run_on(
-    alloc: Global,
+    job: &SweepJob<'_>,
     policy: Policy,
     table: &Config,
     place: usize,
     made: Made,
 ) -> Result<SweptRun, ComparisonFault>
     requires { FitsTable table.now made.arrivals }
-    ensures { IfOk result (IsRunOn policy table.now made) }
+    ensures { IfOk result (IsRunOn policy job.now.asked.now table.now made) }
 {
-    match measured_run(alloc, table, policy, &made.arrivals) {
+    let Made {
+        arrivals,
+        came,
+        counts,
+    } = made;
+    let is_cut = is_cut_before(job.asked.after, counts.as_slice());
+    let counted = counted_of(job.asked, &arrivals, came);
+    match counted_run(job.alloc, table, policy, &arrivals, &counted) {
         Ok(numbers) => Ok(SweptRun {
-            counts: made.counts,
+            counts,
+            is_cut,
             numbers,
         }),
         Err(fault) => Err(ComparisonFault::OfTable {
@@ -94,7 +141,7 @@ fn swept_run<'a>(
         seed: asked.seed,
     };
     let made = made_arrivals(job.alloc, table, &plan, asked.word)?;
-    let run = run_on(job.alloc, policy, table, place, made)?;
+    let run = run_on(job, policy, table, place, made)?;
     Ok(run)
 }
 

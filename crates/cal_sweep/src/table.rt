@@ -22,6 +22,8 @@ enum Column {
     Came,
     /// How many of these stand before a later turn than they came to.
     Later,
+    /// How many of these were moved by more than one turn.
+    Far,
     /// How many found no turn and are left out.
     LeftOut,
     /// How many were served.
@@ -33,7 +35,7 @@ enum Column {
 }
 
 /// The columns after the load and the value.
-const COLUMNS: [Column; 11] = [
+const COLUMNS: [Column; 12] = [
     Column::Response(Rank::Median),
     Column::Response(Rank::Ninety),
     Column::Response(Rank::NinetyNine),
@@ -41,6 +43,7 @@ const COLUMNS: [Column; 11] = [
     Column::Mean,
     Column::Came,
     Column::Later,
+    Column::Far,
     Column::LeftOut,
     Column::Served,
     Column::MeanCores,
@@ -54,6 +57,7 @@ fn name_of(column: Column) -> &'static str {
         Column::Mean => "mean",
         Column::Came => "came",
         Column::Later => "later",
+        Column::Far => "far",
         Column::LeftOut => "left out",
         Column::Served => "served",
         Column::MeanCores => "mean cores",
@@ -95,6 +99,7 @@ fn figure_of(table: &Config, run: &SweptRun, task: usize, column: Column) -> Opt
         Column::Mean => request_figure(numbers, task, Line::MeanResponse),
         Column::Came => Some(Figure::of(count_of(run, task)?.came)),
         Column::Later => Some(Figure::of(count_of(run, task)?.later)),
+        Column::Far => Some(Figure::of(count_of(run, task)?.far)),
         Column::LeftOut => Some(Figure::of(count_of(run, task)?.left_out)),
         Column::Served => request_figure(numbers, task, Line::Served),
         Column::MeanCores => core_figure(

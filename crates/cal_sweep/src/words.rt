@@ -1,11 +1,12 @@
 //! What a sweep is of, as words say it.
 
-ghost use Rattle.std.specs.Prelude.{◌≡◌, IfOk, IfSome, IsTrue};
-ghost use Rattle.cal_sweep.specs.Words.{AreLoadedWith, IsAsked, has_load, swept_task};
+ghost use Rattle.std.specs.Prelude.{◌≡◌, ◌<◌, ◌≤◌, IfOk, IfSome, IsTrue, None, Ok};
+ghost use Rattle.cal_sweep.specs.Words.{AreLoadedWith, IsAsked, first_tenth, has_load};
+ghost use Rattle.cal_sweep.specs.Words.{last_tenth, swept_task};
 
 use crate::fault::SweepFault;
 use crate::objective::{FLAG, Objective, objective_of};
-use cal_load::{LoadFault, LoadWords, TaskLoad, Timing, Why, refused, stepped_loads};
+use cal_load::{LoadFault, LoadWords, TaskLoad, Timing, Why, number_of, refused, stepped_loads};
 use cal_tables::NumberForm;
 use std::alloc::{AllocError, Global};
 
@@ -18,6 +19,10 @@ pub struct SweepWords<'a> {
     pub vary: Option<&'a str>,
     /// The objective.
     pub slo: Option<&'a str>,
+    /// The first turn of the window: requests that come in it are ranked.
+    pub from: Option<&'a str>,
+    /// The first turn after the window.
+    pub to: Option<&'a str>,
     /// In which form its numbers are written.
     pub form: NumberForm,
 }
@@ -35,6 +40,10 @@ pub struct Asked<'a> {
     pub place: usize,
     /// How long each run is.
     pub timing: Timing,
+    /// The first turn of the window: requests that come in it are ranked.
+    pub first: u64,
+    /// The first turn after the window.
+    pub after: u64,
     /// The seed of all runs.
     pub seed: u64,
     /// The word of the loads.
@@ -79,20 +88,67 @@ fn are_values<'a>(vary: Option<&'a str>) -> Result<(), LoadFault<'a>> {
     }
 }
 
+/// The turn of a word, of so many and their end, or without a word this one.
+fn turn_of<'a>(
+    flag: &'a str,
+    word: Option<&'a str>,
+    turns: u64,
+    otherwise: u64,
+) -> Result<u64, LoadFault<'a>>
+    requires { otherwise ≤ turns }
+    ensures few { IfOk result (λ turn. turn ≤ turns) }
+    ensures none { word.entry ≡ None → result ≡ Ok otherwise }
+{
+    let Some(word) = word else {
+        return Ok(otherwise);
+    };
+    match number_of(word) {
+        Some(turn) if turn <= turns => Ok(turn),
+        _ => Err(refused(flag, word, Why::NotATurn(turns))),
+    }
+}
+
+/// The turns of the window that words ask for, of so many: from the first up to the second; without
+/// words all but the first and the last tenth of them. The fault is that of the first word.
+fn asked_turns<'a>(
+    from: Option<&'a str>,
+    to: Option<&'a str>,
+    turns: u64,
+) -> Result<(u64, u64), LoadFault<'a>>
+    ensures some { IfOk result (λ window. (window.0 < window.1) × (window.1 ≤ turns)) }
+    ensures first { IfOk result (λ window. from.entry ≡ None → window.0 ≡ first_tenth turns) }
+    ensures after { IfOk result (λ window. to.entry ≡ None → window.1 ≡ last_tenth turns) }
+{
+    let tenth = turns / 10;
+    let first = turn_of("--from", from, turns, tenth)?;
+    let after = turn_of("--to", to, turns, turns - tenth)?;
+    if first < after {
+        return Ok((first, after));
+    }
+    let why = Why::NoTurns(first, after);
+    match from {
+        Some(word) => Err(refused("--from", word, why)),
+        None => Err(refused("--to", to.unwrap_or(""), why)),
+    }
+}
+
 /// What words ask for, where they need no table: loads, of one task at most several; an objective
-/// of a task to which requests come; a key with values. The fault is that of the first word.
+/// of a task to which requests come; a key with values; a window. The fault is that of the first word.
 pub fn asked_of<'a>(alloc: Global, words: &SweepWords<'a>) -> Result<Asked<'a>, SweepFault<'a>>
     ensures { IfOk result (IsAsked words.now) }
 {
     let stepped = stepped_loads(alloc, &words.load)?;
     let objective = asked_objective(words.slo, stepped.tasks.as_slice())?;
     are_values(words.vary)?;
+    let (first, after) = asked_turns(words.from, words.to, words.load.timing.turns)?;
     Ok(Asked {
         loads: stepped.loads,
         objective,
         tasks: stepped.tasks,
         place: stepped.place,
         timing: words.load.timing,
+        first,
+        after,
         seed: words.load.seed,
         word: stepped.word,
         named: words.load.tasks.clone()?,

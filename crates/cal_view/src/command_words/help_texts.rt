@@ -455,27 +455,31 @@ end,9"
 pub const SWEEP: &str = help_with_a_run!(
     "\
 Input: a task table (TOML); what follows a line --- is not read.
-Output: a row for each load: the task's response in clock ticks, from arrival to
-answer, at four ranks and in the mean; how many requests came, were later or
-left out, as in `arrivals --summary`, and were served; the cores that the task
-held in the mean; and the share of the machine that best-effort tasks held. Each
-run is on the arrivals that `arrivals` makes with these options, and its numbers
-are those of `measure`. One task has the loads; each other --task has one.
+Output: a row for each load: the task's response in clock ticks, at four ranks
+and in the mean; how many requests came, were later, by more than one turn
+(far) or left out, as in `arrivals --summary`, and were served; the cores that
+the task held in the mean; and the share of the machine that best-effort tasks
+held. Each run is on the arrivals that `arrivals` makes with these options. Its
+numbers are those of `measure`, but that responses count from when requests
+came, also where these come at a later turn, and are of those that came in the
+turns of a window. One task has the loads; each other --task has one.
 With --vary there is a row for each value, as in `compare`, on arrivals made for
 that table; with several policies a row for each.
---slo is an objective for a task: p50, p90, p99, p99.9 or max, in ticks.
-Exit status: 0 done, 1 a run of the last load misses the objective, or nothing
-is answered at its rank, 2 rejected input or a bad option, which is named, 3
-memory or output was refused.",
+--slo is an objective for a task: p50, p90, p99, p99.9 or max, in ticks. It is
+undecided where the request at its rank is pending for less, and missed where
+some that came before the end of the window are left out.
+Exit status: 0 done, 1 a run of the last load misses the objective, or leaves it
+undecided, 2 rejected input or a bad option, which is named, 3 memory or output
+was refused.",
     "caladan_view sweep --load 0.3,0.6 --pattern even --turns 20",
     "\
 END
 
 It writes, with its last two columns below the others:
 
-load   p50  p90      p99    p99.9     mean  came  later  left out  served
-0.300   30   >0   >0 (6)   >0 (6)  >18.333     6      0         0       5
-0.600   20   30  >0 (12)  >0 (12)  >18.333    12      0         0      11
+load   p50  p90     p99   p99.9    mean  came  later  far  left out  served
+0.300   30   30  30 (5)  30 (5)  22.000     6      0    0         0       5
+0.600   20   30  30 (9)  30 (9)  20.000    12      0    0         0      11
 
        mean cores  best-effort share
             0.421              0.000

@@ -22,6 +22,8 @@ pub fn sweep_word<'a>(alloc: Global) -> Result<Command<'a>, AllocError> {
         .arg(policies_word(alloc))?
         .arg(vary_word(alloc))?
         .arg(slo_word(alloc))?
+        .arg(from_word(alloc))?
+        .arg(to_word(alloc))?
         .arg(csv_word(alloc))?
         .arg(names_word(alloc))?
         .arg(tick_word(alloc))?
@@ -33,6 +35,16 @@ fn slo_word<'a>(alloc: Global) -> Arg<'a> {
     value_word(alloc, "slo", "OBJECTIVE", help)
 }
 
+fn from_word<'a>(alloc: Global) -> Arg<'a> {
+    let help = "The first turn of the window [default: a tenth in]";
+    value_word(alloc, "from", "TURN", help)
+}
+
+fn to_word<'a>(alloc: Global) -> Arg<'a> {
+    let help = "The turn after it [default: a tenth before the end]";
+    value_word(alloc, "to", "TURN", help)
+}
+
 /// What the words of a parsed command line ask for. Fails only when out of memory.
 pub fn sweep_words<'a>(
     alloc: Global,
@@ -42,6 +54,8 @@ pub fn sweep_words<'a>(
         load: load_words(alloc, matches)?,
         vary: matches.get_str("vary"),
         slo: matches.get_str("slo"),
+        from: matches.get_str("from"),
+        to: matches.get_str("to"),
         form: number_form_of(matches.get_flag("csv")),
     })
 }
