@@ -37,12 +37,12 @@ fn slo_word<'a>(alloc: Global) -> Arg<'a> {
 
 fn from_word<'a>(alloc: Global) -> Arg<'a> {
     let help = "The first turn of the window [default: a tenth in]";
-    value_word(alloc, "from", "TURN", help)
+    value_word(alloc, "from", "TURN", help).hide_short_help(true)
 }
 
 fn to_word<'a>(alloc: Global) -> Arg<'a> {
     let help = "The turn after it [default: a tenth before the end]";
-    value_word(alloc, "to", "TURN", help)
+    value_word(alloc, "to", "TURN", help).hide_short_help(true)
 }
 
 /// What the words of a parsed command line ask for. Fails only when out of memory.
