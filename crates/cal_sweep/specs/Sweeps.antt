@@ -7,10 +7,11 @@ use Rattle.cal_load.specs.declared.made.Made.{Made}
 use Rattle.cal_load.specs.declared.making.TaskLoad.{TaskLoad}
 use Rattle.cal_machine.specs.Reading.{table_in}
 use Rattle.cal_machine.specs.Table.{Table}
+use Rattle.cal_paced.specs.declared.plan.Plan.{Plan}
 use Rattle.cal_policy.specs.declared.policy.Policy.{Policy}
 use Rattle.cal_tables.specs.Compared.{AreEachOf}
 use Rattle.cal_tables.specs.Joining.{table_part}
-use Rattle.cal_tables.specs.Measured.{IsMeasuredRun}
+use Rattle.cal_tables.specs.Planned.{IsMeasuredBy}
 use Rattle.cal_tables.specs.Varied.{AreVaried}
 use Rattle.cal_tables.specs.declared.comparing.Variation.{Variation}
 use Rattle.cal_tables.specs.declared.comparing.fault.ComparisonFault.{ComparisonFault}
@@ -20,10 +21,12 @@ use Rattle.cal_sweep.specs.declared.runs.SweptRun.{SweptRun}
 use Rattle.cal_sweep.specs.declared.words.Asked.{Asked}
 use Rattle.cal_sweep.specs.Words.{AreLoadedWith}
 
--- the run has these counts, and the numbers of a run by the policy of this table on these arrivals
-pub record IsRunOn (policy : Policy) (table : Table) (made : Made) (run : SweptRun) : Type 0 where
+-- the run has these counts, and the numbers of a run by the policy of this table on these arrivals,
+-- by the plan or in lockstep where there is none
+pub record IsRunOn (policy : Policy) (plan : Option Plan) (table : Table) (made : Made)
+    (run : SweptRun) : Type 0 where
   pub counts : run.counts ≡ made.counts
-  pub measured : IsMeasuredRun policy table made.arrivals run.numbers
+  pub measured : IsMeasuredBy plan policy table made.arrivals run.numbers
 
 -- a run by the policy of this table on arrivals that were made for it of what is asked for, with this
 -- load of the task that is swept: as many for each task as the counts of the run say, by the timing
@@ -35,7 +38,7 @@ pub record IsSweptRun (policy : Policy) (asked : Asked) (load : ℕ) (table : Ta
   pub made : Made
   pub are : IsMadeOf table loads made
   pub timed : IsTiming asked.timing → IsTimedBy asked.timing made.arrivals
-  pub ran : IsRunOn policy table made run
+  pub ran : IsRunOn policy asked.plan table made run
 
 -- as many runs as tables, each of the table at its place with this load
 abbrev pub AreSweptRuns : Policy → Asked → ℕ → List Table → List SweptRun → Type 0

@@ -11,11 +11,12 @@ use Rattle.cal_sweep.specs.declared.words.SweepWords.{SweepWords}
 abbrev pub has_load : List TaskLoad → ℕ → Bool
 has_load tasks task = list_any (λ of_task. of_task.task == task) tasks
 
--- the timing, the seed and the form asked for are those of the words, and an objective is of a
--- task to which requests come
+-- the timing, the seed, the plan and the form asked for are those of the words, and an objective is
+-- of a task to which requests come
 pub record IsAsked (words : SweepWords) (asked : Asked) : Type 0 where
   pub timing : asked.timing ≡ words.load.timing
   pub seed : asked.seed ≡ words.load.seed
+  pub plan : asked.plan ≡ words.plan
   pub form : asked.form ≡ words.form
   pub objective : IfSome asked.objective (λ objective.
       IsTrue (has_load asked.tasks.items objective.task))

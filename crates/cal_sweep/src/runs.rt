@@ -16,9 +16,10 @@ use crate::job::SweepJob;
 use crate::naming::are_counted;
 use cal_load::{ArrivalPlan, Count, Made, are_known, made_arrivals};
 use cal_machine::Config;
+use cal_paced::Plan;
 use cal_policy::Policy;
 use cal_tables::{
-    ComparisonFault, Reason, RunNumbers, Variation, measured_run, policy_at, table_at, table_part,
+    ComparisonFault, Reason, RunNumbers, Variation, measured_by, policy_at, table_at, table_part,
     varied_tables,
 };
 use rayon::prelude::*;
@@ -52,26 +53,25 @@ pub struct Sweep {
     pub loads: Vec<SweptLoad>,
 }
 
-/// The run of a table by this policy on arrivals that were made, measured. A fault is that of the
-/// table at this place.
+/// The run of a table by this policy, and by this plan or in lockstep, on arrivals that were made,
+/// measured. A fault is that of the table at this place.
 fn run_on(
     alloc: Global,
     policy: Policy,
+    plan: Option<Plan>,
     table: &Config,
     place: usize,
     made: Made,
 ) -> Result<SweptRun, ComparisonFault>
     requires { FitsTable table.now made.arrivals }
-    ensures { IfOk result (IsRunOn policy table.now made) }
+    ensures { IfOk result (IsRunOn policy plan table.now made) }
 {
-    match measured_run(alloc, table, policy, &made.arrivals) {
-        Ok(numbers) => Ok(SweptRun {
-            counts: made.counts,
-            numbers,
-        }),
+    let Made { arrivals, counts } = made;
+    match measured_by(alloc, table, policy, plan, arrivals) {
+        Ok(numbers) => Ok(SweptRun { counts, numbers }),
         Err(fault) => Err(ComparisonFault::OfTable {
             table: place,
-            reason: Reason::Run(fault),
+            reason: Reason::from(fault),
         }),
     }
 }
@@ -94,7 +94,7 @@ fn swept_run<'a>(
         seed: asked.seed,
     };
     let made = made_arrivals(job.alloc, table, &plan, asked.word)?;
-    let run = run_on(job.alloc, policy, table, place, made)?;
+    let run = run_on(job.alloc, policy, asked.plan, table, place, made)?;
     Ok(run)
 }
 

@@ -6,6 +6,7 @@ ghost use Rattle.cal_sweep.specs.Words.{AreLoadedWith, IsAsked, has_load, swept_
 use crate::fault::SweepFault;
 use crate::objective::{FLAG, Objective, objective_of};
 use cal_load::{LoadFault, LoadWords, TaskLoad, Timing, Why, refused, stepped_loads};
+use cal_paced::Plan;
 use cal_tables::NumberForm;
 use std::alloc::{AllocError, Global};
 
@@ -18,6 +19,8 @@ pub struct SweepWords<'a> {
     pub vary: Option<&'a str>,
     /// The objective.
     pub slo: Option<&'a str>,
+    /// By which plan all runs go; without it they are in lockstep.
+    pub plan: Option<Plan>,
     /// In which form its numbers are written.
     pub form: NumberForm,
 }
@@ -37,6 +40,8 @@ pub struct Asked<'a> {
     pub timing: Timing,
     /// The seed of all runs.
     pub seed: u64,
+    /// By which plan all runs go; without it they are in lockstep.
+    pub plan: Option<Plan>,
     /// The word of the loads.
     pub word: &'a str,
     /// The words of the tasks.
@@ -94,6 +99,7 @@ pub fn asked_of<'a>(alloc: Global, words: &SweepWords<'a>) -> Result<Asked<'a>, 
         place: stepped.place,
         timing: words.load.timing,
         seed: words.load.seed,
+        plan: words.plan,
         word: stepped.word,
         named: words.load.tasks.clone()?,
         form: words.form,

@@ -12,7 +12,6 @@ ghost use Rattle.cal_tables.specs.Measured.{AreNumbersAtEnd, AreNumbersOf, AreRu
 ghost use Rattle.cal_tables.specs.Measured.{IsMeasuredRun};
 
 use crate::collecting::{EndedNumbers, OpenNumbers};
-use crate::comparing::runs::OfRun;
 use crate::recorded::{HistoryNumbers, Recorded, measured_recording, numbers_of_walk};
 use crate::style::NumberStyle;
 use crate::writing::{history_sheet, sheet_of};
@@ -97,19 +96,6 @@ pub fn measured_run(
     let left = lockstep_collected_by(alloc, config, policy, arrivals, &mut numbers)?;
     let ended = numbers.end(alloc, arrivals, left)?;
     Ok(numbers_of_run(alloc, arrivals, &ended)?)
-}
-
-impl OfRun for RunNumbers {
-    ghost tells = { IsMeasuredRun };
-
-    fn of_run(
-        alloc: Global,
-        config: &Config,
-        policy: Policy,
-        arrivals: &Arrivals,
-    ) -> Result<RunNumbers, RunFault> {
-        measured_run(alloc, config, policy, arrivals)
-    }
 }
 
 /// What is written of a run by this policy on these arrivals, in memory. Its fault is `Memory`.
