@@ -1,6 +1,6 @@
 -- The runs of a sweep.
-use Rattle.std.specs.Prelude.{◌≡◌, ℕ, nat_lt, Bool, false, List, [], ◌∷◌, map}
-use Rattle.std.specs.Prelude.{Option, Some, None, Ok}
+use Rattle.std.specs.Prelude.{◌≡◌, ◌*◌, ◌/◌, ℕ, nat_lt, Bool, false, List, [], ◌∷◌, length}
+use Rattle.std.specs.Prelude.{map, max, slice_get, Option, Some, None, Ok}
 use Rattle.std.specs.List.{list_any}
 use Rattle.cal_came.specs.Windows.{window_of}
 use Rattle.cal_came.specs.declared.came.Came.{Came}
@@ -22,6 +22,7 @@ use Rattle.cal_tables.specs.declared.comparing.Variation.{Variation}
 use Rattle.cal_tables.specs.declared.comparing.fault.ComparisonFault.{ComparisonFault}
 use Rattle.cal_tables.specs.declared.comparing.fault.ComparisonFault.TheVariants as faults
 use Rattle.cal_trace.specs.declared.arrivals.Arrivals.{Arrivals}
+use Rattle.cal_sweep.specs.declared.runs.Sweep.{Sweep}
 use Rattle.cal_sweep.specs.declared.runs.SweptLoad.{SweptLoad}
 use Rattle.cal_sweep.specs.declared.runs.SweptRun.{SweptRun}
 use Rattle.cal_sweep.specs.declared.words.Asked.{Asked}
@@ -103,6 +104,23 @@ pub record IsSweep (input : List ℕ) (varying : Option Varying) (policy : Polic
   pub given : table_in (table_part input) ≡ Ok table
   pub varied : AreTablesOf varying table tables
   pub are : AreSweptLoads policy asked tables asked.loads.items swept
+
+-- for each of these things in turn so many of these, each of its thing
+pub record AreSomeOf {X C : Type 0} (Is : X → C → Type 0) (many : ℕ) (things : List X)
+    (items : List C) : Type 0 where
+  pub count : length items ≡ length things * many
+  pub each : (i : ℕ) (thing : X) (item : C) →
+      slice_get things (i / many) ≡ Some thing → slice_get items i ≡ Some item → Is thing item
+
+-- how many seeds are asked for, at least one
+abbrev pub seeds_of : Asked → ℕ
+seeds_of asked = max asked.seeds 1
+
+-- the sweeps that are asked for: by each of these policies one for each seed
+abbrev pub AreSweeps : List ℕ → Option Varying → List Policy → Asked → List Sweep → Type 0
+AreSweeps input varying policies asked sweeps = AreSomeOf
+    (λ policy sweep. IsSweep input varying policy asked sweep.tables.items sweep.loads.items)
+    (seeds_of asked) policies sweeps
 
 -- the fault of a writer
 abbrev pub of_writer : ComparisonFault

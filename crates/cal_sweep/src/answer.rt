@@ -1,20 +1,18 @@
 //! A sweep by each policy, from its words to what is written of it.
 
-ghost use Rattle.std.specs.Prelude.{◌≡◌, ◌≢◌, ◌⊎◌, IfErr, IfOk, length};
+ghost use Rattle.std.specs.Prelude.{◌≡◌, ◌≢◌, ◌≤◌, ◌⊎◌, IfErr, IfOk, length};
 ghost use Rattle.cal_machine.specs.Reading.{table_in};
 ghost use Rattle.cal_sweep.specs.Faults.{IsFirstFault, SweepDecided};
 ghost use Rattle.cal_sweep.specs.Objectives.{status_of_sweeps};
-ghost use Rattle.cal_sweep.specs.Sweeps.{IsSweep, of_memory, of_writer, varying_of};
-ghost use Rattle.cal_tables.specs.Compared.{AreEachOf};
+ghost use Rattle.cal_sweep.specs.Sweeps.{AreSweeps, of_memory, of_writer, varying_of};
 ghost use Rattle.cal_tables.specs.Joining.{table_part};
 
 use crate::fault::SweepFault;
 use crate::job::SweepJob;
-use crate::naming::SweepNames;
 use crate::objective::Objective;
-use crate::runs::{Sweep, swept_by_each};
+use crate::runs::{Sweep, seeds_of, swept_by_each};
 use crate::table::ShownSweep;
-use crate::verdict::{say_misses, status_of_sweeps};
+use crate::verdict::{MadeBy, say_misses, status_of_sweeps};
 use cal_input::RunFault;
 use cal_tables::ComparisonFault;
 use std::alloc::AllocError;
@@ -26,6 +24,7 @@ fn text_of(job: &SweepJob<'_>, sweeps: &[Sweep]) -> Result<String, AllocError> {
     let form = job.asked.form;
     let shown = ShownSweep {
         sweeps,
+        seeds: seeds_in(job),
         task: job.asked.task(),
         names: job.names,
         form,
@@ -33,16 +32,33 @@ fn text_of(job: &SweepJob<'_>, sweeps: &[Sweep]) -> Result<String, AllocError> {
     shown.sheet(job.alloc)?.written(job.alloc, form)
 }
 
-/// Writes a line for each miss of these sweeps, with its numbers.
+/// Writes a line for each run of the last loads that does not keep an objective, with its numbers.
 fn say_misses_of_each<E: Write>(
+    job: &SweepJob<'_>,
     sweeps: &[Sweep],
     objective: &Objective,
-    names: SweepNames<'_>,
     errors: &mut E,
 ) {
-    for policy in 0..sweeps.len() {
-        say_misses(&sweeps[policy], policy, objective, names, errors);
+    let seeds = seeds_in(job);
+    for place in 0..sweeps.len() {
+        let number = (place % seeds) as u64;
+        let by = MadeBy {
+            policy: place / seeds,
+            seed: if seeds > 1 {
+                Some(job.asked.seed.wrapping_add(number))
+            } else {
+                None
+            },
+        };
+        say_misses(&sweeps[place], by, objective, job.names, errors);
     }
+}
+
+/// How many sweeps there are by each policy: one for each seed.
+fn seeds_in(job: &SweepJob<'_>) -> usize
+    ensures { 1 ≤ result }
+{
+    seeds_of(job.asked).min(usize::MAX as u64).max(1) as usize
 }
 
 /// Writes the sweeps that a job asked for, one by each policy, and answers the exit status: 1 where
@@ -70,7 +86,7 @@ pub fn end_sweeps<'a, W: Write, E: Write>(
     }
     let status = status_of_sweeps(job.asked.objective, sweeps);
     if let Some(objective) = job.asked.objective {
-        say_misses_of_each(sweeps, &objective, job.names, errors);
+        say_misses_of_each(job, sweeps, &objective, errors);
     }
     Ok(status)
 }
@@ -78,7 +94,7 @@ pub fn end_sweeps<'a, W: Write, E: Write>(
 /// Sweeps that were written.
 #[derive(Drop)]
 pub struct EndedSweeps {
-    /// The sweep by each policy.
+    /// The sweeps by each policy, one for each seed.
     pub sweeps: Vec<Sweep>,
     /// The exit status: 1 where one of the runs of the last load of one does not keep the objective,
     /// and 0 else.
@@ -96,9 +112,9 @@ pub fn answer_sweep<'a, W: Write, E: Write>(
     output: &mut W,
     errors: &mut E,
 ) -> Result<EndedSweeps, SweepFault<'a>>
-    ensures made { IfOk result (λ ended. AreEachOf (λ policy sweep. IsSweep job.now.input.now
-        (varying_of job.now.names.variation) policy job.now.asked.now
-        sweep.tables.items sweep.loads.items) job.now.names.policies.now ended.sweeps.items) }
+    ensures made { IfOk result (λ ended. AreSweeps job.now.input.now
+        (varying_of job.now.names.variation) job.now.names.policies.now job.now.asked.now
+        ended.sweeps.items) }
     // The status is that of the runs of these very sweeps.
     ensures status { IfOk result (λ ended. ended.status ≡
         status_of_sweeps job.now.asked.now.objective ended.sweeps.items) }

@@ -1,14 +1,15 @@
 //! The runs of a sweep, measured.
 
-ghost use Rattle.std.specs.Prelude.{◌≡◌, ◌∷◌, [], IfErr, IfOk, Ok, length};
+ghost use Rattle.std.specs.Prelude.{◌≡◌, ◌<◌, ◌≤◌, ◌*◌, ◌/◌, ◌∷◌, [], IfErr, IfOk, Ok, Some};
+ghost use Rattle.std.specs.Prelude.{length, slice_get};
 ghost use Rattle.cal_machine.specs.Reading.{table_in};
 ghost use Rattle.cal_machine.specs.Table.{Table};
 ghost use Rattle.cal_load.specs.Known.{AreKnown};
 ghost use Rattle.cal_sweep.specs.Faults.{AreCounted, IsFirstFault, SweepDecided};
 ghost use Rattle.cal_sweep.specs.Sweeps.{AreSweptLoads, AreSweptRuns, AreTablesOf, IsSweep};
 ghost use Rattle.cal_sweep.specs.Sweeps.{IsRunOn, IsSweptLoad, IsSweptRun, counted_of};
-ghost use Rattle.cal_sweep.specs.Sweeps.{is_before, is_cut_before, varying_of};
-ghost use Rattle.cal_tables.specs.Compared.{AreEachOf};
+ghost use Rattle.cal_sweep.specs.Sweeps.{AreSweeps, is_before, is_cut_before, seeds_of};
+ghost use Rattle.cal_sweep.specs.Sweeps.{varying_of};
 ghost use Rattle.cal_tables.specs.Joining.{table_part};
 ghost use Rattle.cal_trace.specs.Arrivals.FitsTable.{FitsTable};
 
@@ -126,38 +127,38 @@ fn run_on(
 /// The run of a table on the arrivals that are made for it with this load.
 fn swept_run<'a>(
     job: &SweepJob<'a>,
-    policy: Policy,
+    by: Maker,
     table: &Config,
     place: usize,
     load: u64,
 ) -> Result<SweptRun, SweepFault<'a>>
-    ensures { IfOk result (IsSweptRun policy job.now.asked.now load table.now) }
+    ensures { IfOk result (IsSweptRun by.policy job.now.asked.now load table.now) }
 {
     let asked = job.asked;
     let loads = asked.at(job.alloc, load)?;
     let plan = ArrivalPlan {
         loads: loads.as_slice(),
         timing: asked.timing,
-        seed: asked.seed,
+        seed: by.seed,
     };
     let made = made_arrivals(job.alloc, table, &plan, asked.word)?;
-    let run = run_on(job, policy, table, place, made)?;
+    let run = run_on(job, by.policy, table, place, made)?;
     Ok(run)
 }
 
 /// A run of each table with this load, in the order of the tables.
 fn swept_runs<'a>(
     job: &SweepJob<'a>,
-    policy: Policy,
+    by: Maker,
     tables: &[Config],
     load: u64,
 ) -> Result<Vec<SweptRun>, SweepFault<'a>>
     ensures { IfOk result (λ runs.
-        AreSweptRuns policy job.now.asked.now load tables.now runs.items) }
+        AreSweptRuns by.policy job.now.asked.now load tables.now runs.items) }
 {
     let mut runs = Vec::new(job.alloc);
     for place in 0..tables.len() {
-        let of_table = swept_run(job, policy, table_at(tables, place), place, load)?;
+        let of_table = swept_run(job, by, table_at(tables, place), place, load)?;
         runs.push(of_table)?;
     }
     Ok(runs)
@@ -166,13 +167,13 @@ fn swept_runs<'a>(
 /// The runs of a load: one of each table.
 fn swept_load<'a>(
     job: &SweepJob<'a>,
-    policy: Policy,
+    by: Maker,
     tables: &[Config],
     load: u64,
 ) -> Result<SweptLoad, SweepFault<'a>>
-    ensures { IfOk result (IsSweptLoad policy job.now.asked.now tables.now load) }
+    ensures { IfOk result (IsSweptLoad by.policy job.now.asked.now tables.now load) }
 {
-    let runs = swept_runs(job, policy, tables, load)?;
+    let runs = swept_runs(job, by, tables, load)?;
     Ok(SweptLoad { load, runs })
 }
 
@@ -182,21 +183,21 @@ fn swept_load<'a>(
 fn answered_loads<'a>(
     rt: &(impl Threads + Sync),
     job: &SweepJob<'a>,
-    policy: Policy,
+    by: Maker,
     tables: &[Config],
     loads: &[u64],
 ) -> Result<Result<Vec<SweptLoad>, SweepFault<'a>>, AllocError>
     ensures { IfOk result (λ answer. IfOk answer (λ swept.
-        AreSweptLoads policy job.now.asked.now tables.now loads.now swept.items)) }
+        AreSweptLoads by.policy job.now.asked.now tables.now loads.now swept.items)) }
 {
     loads
         .par_iter()
         .with_min_len(1)
         .map(
             |load: &u64| -> Result<SweptLoad, SweepFault>
-                ensures { IfOk result (IsSweptLoad policy
+                ensures { IfOk result (IsSweptLoad by.policy
                     job.entry.now.asked.now tables.entry.now load.now) }
-            { swept_load(job, policy, tables, *load) },
+            { swept_load(job, by, tables, *load) },
         )
         .collect(rt, job.alloc)
 }
@@ -205,14 +206,14 @@ fn answered_loads<'a>(
 fn swept_loads<'a>(
     rt: &(impl Threads + Sync),
     job: &SweepJob<'a>,
-    policy: Policy,
+    by: Maker,
     tables: &[Config],
     loads: &[u64],
 ) -> Result<Vec<SweptLoad>, SweepFault<'a>>
     ensures { IfOk result (λ swept.
-        AreSweptLoads policy job.now.asked.now tables.now loads.now swept.items) }
+        AreSweptLoads by.policy job.now.asked.now tables.now loads.now swept.items) }
 {
-    answered_loads(rt, job, policy, tables, loads)?
+    answered_loads(rt, job, by, tables, loads)?
 }
 
 /// One table alone. Fails only when out of memory.
@@ -239,7 +240,7 @@ fn tables_of(
 }
 
 /// The table of a job's input, or those that it gives with each value of a variation, and for each
-/// load in turn a run by this policy of each of these tables on arrivals that are made for it
+/// load in turn a run by this policy and this seed of each of these tables on arrivals that are made for it
 /// with this load.
 ///
 /// The fault is that of the table, then `Names` where there are some and not as many as its tasks,
@@ -248,10 +249,10 @@ fn tables_of(
 pub fn swept<'a>(
     rt: &(impl Threads + Sync),
     job: &SweepJob<'a>,
-    policy: Policy,
+    by: Maker,
 ) -> Result<Sweep, SweepFault<'a>>
     ensures made { IfOk result (λ sweep. IsSweep job.now.input.now
-        (varying_of job.now.names.variation) policy job.now.asked.now
+        (varying_of job.now.names.variation) by.policy job.now.asked.now
         sweep.tables.items sweep.loads.items) }
     // None is made with some names that are not as many as the tasks, nor for a task that is not
     // there.
@@ -274,27 +275,60 @@ pub fn swept<'a>(
     are_counted(&table, names.labels)?;
     are_known(&table, asked.tasks.as_slice(), asked.named.as_slice())?;
     let tables = tables_of(alloc, table, names.variation)?;
-    let loads = swept_loads(rt, job, policy, tables.as_slice(), asked.loads.as_slice())?;
+    let loads = swept_loads(rt, job, by, tables.as_slice(), asked.loads.as_slice())?;
     Ok(Sweep { tables, loads })
 }
 
-/// The sweep by each of a job's policies, in their order. The fault is that of the first that has one,
-/// as `swept` says.
+/// By which policy a sweep is made, and the seed of its runs.
+#[derive(Clone, Copy, Debug, PartialEq, Eq)]
+pub struct Maker {
+    /// The policy.
+    pub policy: Policy,
+    /// The seed.
+    pub seed: u64,
+}
+
+/// How many seeds are asked for, at least one.
+pub fn seeds_of(asked: &Asked<'_>) -> u64
+    ensures { result ≡ seeds_of asked.now }
+{
+    asked.seeds.max(1)
+}
+
+/// By what the sweep at a place is made, where there are so many for each policy.
+fn maker_at(policies: &[Policy], seed: u64, seeds: u64, place: u128) -> Maker
+    requires some { 1 ≤ seeds }
+    requires place { place < length policies.now * seeds }
+    ensures { slice_get policies.now (place / seeds) ≡ Some result.policy }
+{
+    let policy = policy_at(policies, (place / seeds as u128) as usize);
+    let number = (place % seeds as u128) as u64;
+    Maker {
+        policy,
+        seed: seed.wrapping_add(number),
+    }
+}
+
+/// The sweeps by each of a job's policies, in their order, of each one for each seed. The fault is
+/// that of the first that has one, as `swept` says.
 pub fn swept_by_each<'a>(
     rt: &(impl Threads + Sync),
     job: &SweepJob<'a>,
 ) -> Result<Vec<Sweep>, SweepFault<'a>>
-    ensures made { IfOk result (λ sweeps. AreEachOf (λ policy sweep. IsSweep job.now.input.now
-        (varying_of job.now.names.variation) policy job.now.asked.now
-        sweep.tables.items sweep.loads.items) job.now.names.policies.now sweeps.items) }
+    ensures made { IfOk result (λ sweeps. AreSweeps job.now.input.now
+        (varying_of job.now.names.variation) job.now.names.policies.now job.now.asked.now
+        sweeps.items) }
     ensures refused { IfErr result (λ fault. SweepDecided fault (IsFirstFault
         (table_in (table_part job.now.input.now)) (length job.now.names.labels.names.now)
         job.now.asked.now.tasks.items fault)) }
 {
+    let policies = job.names.policies;
+    let seeds = seeds_of(job.asked);
+    let count = policies.len() as u128 * seeds as u128;
     let mut sweeps = Vec::new(job.alloc);
-    for place in 0..job.names.policies.len() {
-        let policy = policy_at(job.names.policies, place);
-        let sweep = swept(rt, job, policy)?;
+    for place in 0..count {
+        let by = maker_at(policies, job.asked.seed, seeds, place);
+        let sweep = swept(rt, job, by)?;
         sweeps.push(sweep)?;
     }
     Ok(sweeps)

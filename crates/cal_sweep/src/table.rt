@@ -1,4 +1,5 @@
-//! Sweeps as a table: a row for each run, by loads, then by tables, and last by policies.
+//! Sweeps as a table: a row for each run, by loads, then by tables, and last by policies; of several
+//! seeds three rows.
 
 use crate::naming::SweepNames;
 use crate::objective::rank_word;
@@ -112,14 +113,57 @@ fn figure_of(table: &Config, run: &SweptRun, task: usize, column: Column) -> Opt
     }
 }
 
-/// The run of a row: its load, in thousandths, and the places of its table and of its policy.
+/// The runs of a row: their load, in thousandths, and the places of it, of their table and of their
+/// policy.
 #[derive(Clone, Copy)]
-struct RunAt<'a> {
+struct RunAt {
     load: u64,
+    place: usize,
     table: usize,
     policy: usize,
-    config: &'a Config,
-    run: &'a SweptRun,
+}
+
+/// Which of the figures of several seeds.
+#[derive(Clone, Copy, PartialEq, Eq)]
+enum Which {
+    Least,
+    Median,
+    Greatest,
+}
+
+/// How one of them is called.
+fn which_name(which: Which) -> &'static str {
+    match which {
+        Which::Least => "least",
+        Which::Median => "median",
+        Which::Greatest => "greatest",
+    }
+}
+
+/// One of some figures in rising order, the median by nearest rank.
+fn which_of(figures: &[Option<Figure>], which: Which) -> Option<Figure> {
+    let place = match which {
+        Which::Least => 0,
+        Which::Median => figures.len().saturating_sub(1) / 2,
+        Which::Greatest => figures.len().saturating_sub(1),
+    };
+    match figures.get(place) {
+        Some(figure) => *figure,
+        None => None,
+    }
+}
+
+/// Where a figure stands among others: none first, and bounds after all numbers.
+fn order_of(figure: &Option<Figure>) -> u128 {
+    match figure {
+        None => 0,
+        Some(figure) => {
+            let bound = if figure.is_bound { 1u128 << 64 } else { 0 };
+            u128::from(figure.number)
+                .saturating_add(bound)
+                .saturating_add(1)
+        }
+    }
 }
 
 /// What stands for a table and for a policy, where one of them has a name, or both have.
@@ -139,8 +183,10 @@ fn joined(
 /// Which sweeps are shown, of which task, under which names, and in which form.
 #[derive(Clone, Copy)]
 pub struct ShownSweep<'a> {
-    /// The sweep by each policy.
+    /// The sweeps by each policy, one for each seed.
     pub sweeps: &'a [Sweep],
+    /// How many seeds there are, at least one.
+    pub seeds: usize,
     /// The number of the task.
     pub task: usize,
     pub names: SweepNames<'a>,
@@ -187,6 +233,9 @@ impl<'a> ShownSweep<'a> {
         if let Some(name) = self.run_heading(alloc)? {
             row.push(name)?;
         }
+        if self.seeds > 1 {
+            row.push(format!(in alloc; "of {} seeds", self.seeds)?)?;
+        }
         for column in COLUMNS {
             let name = String::from_str(alloc, name_of(column))?;
             self.form_of(column).put_heading(alloc, &mut row, name)?;
@@ -194,20 +243,53 @@ impl<'a> ShownSweep<'a> {
         Ok(row)
     }
 
-    /// The row of a run: the load, what the run is called, and what each column says.
-    fn row(self, alloc: Global, at: RunAt<'_>) -> Result<Vec<String>, AllocError> {
+    /// A row of a run of each seed: the load, what the run is called, and what each column says.
+    fn row(self, alloc: Global, at: RunAt, which: Which) -> Result<Vec<String>, AllocError> {
         let mut row = Vec::new(alloc);
         row.push(number(alloc, at.load, Unit::Thousandth)?)?;
         let (value, policy) = (self.names.value(at.table), self.names.policy(at.policy));
         if let Some(name) = joined(alloc, value, policy)? {
             row.push(name)?;
         }
+        if self.seeds > 1 {
+            row.push(String::from_str(alloc, which_name(which))?)?;
+        }
         for column in COLUMNS {
-            let figure = figure_of(at.config, at.run, self.task, column);
+            let figures = self.figures(alloc, at, column)?;
+            let figure = which_of(figures.as_slice(), which);
             let form = self.form_of(column);
             form.put_figure(alloc, &mut row, figure, unit_of(column))?;
         }
         Ok(row)
+    }
+
+    /// What a column says of the run of each seed, in rising order.
+    fn figures(
+        self,
+        alloc: Global,
+        at: RunAt,
+        column: Column,
+    ) -> Result<Vec<Option<Figure>>, AllocError> {
+        let mut figures = Vec::new(alloc);
+        for number in 0..self.seeds {
+            figures.push(self.figure_of_seed(at, number, column))?;
+        }
+        figures.sort_by_key(order_of)?;
+        Ok(figures)
+    }
+
+    /// What a column says of the run of one of the seeds.
+    fn figure_of_seed(self, at: RunAt, number: usize, column: Column) -> Option<Figure> {
+        let place = at.policy.saturating_mul(self.seeds).saturating_add(number);
+        let sweep = self.sweeps.get(place)?;
+        let config = sweep.tables.as_slice().get(at.table)?;
+        let load = sweep.loads.as_slice().get(at.place)?;
+        figure_of(
+            config,
+            load.runs.as_slice().get(at.table)?,
+            self.task,
+            column,
+        )
     }
 
     /// How many tables each sweep has.
@@ -215,38 +297,51 @@ impl<'a> ShownSweep<'a> {
         self.sweeps.first().map_or(0, |first| first.tables.len())
     }
 
-    /// How many rows there are.
-    fn rows(self) -> usize {
+    /// How many policies there are.
+    fn policies(self) -> usize {
+        self.sweeps.len() / self.seeds.max(1)
+    }
+
+    /// How many runs each seed has.
+    fn runs(self) -> usize {
         let loads = self.sweeps.first().map_or(0, |first| first.loads.len());
-        let of_load = self.tables().saturating_mul(self.sweeps.len());
+        let of_load = self.tables().saturating_mul(self.policies());
         loads.saturating_mul(of_load)
     }
 
-    /// The run of a row, below the heading.
-    fn run_at(self, row: usize) -> Option<RunAt<'a>> {
-        let policies = self.sweeps.len().max(1);
+    /// The run at a place: by loads, then by tables, and last by policies.
+    fn run_at(self, run: usize) -> Option<RunAt> {
+        let policies = self.policies().max(1);
         let tables = self.tables().max(1);
-        let (place, policy) = (row / policies, row % policies);
-        let (load, table) = (place / tables, place % tables);
-        let sweep = self.sweeps.get(policy)?;
-        let load = sweep.loads.as_slice().get(load)?;
+        let (rest, policy) = (run / policies, run % policies);
+        let (place, table) = (rest / tables, rest % tables);
+        let load = self.sweeps.first()?.loads.as_slice().get(place)?.load;
         Some(RunAt {
-            load: load.load,
+            load,
+            place,
             table,
             policy,
-            config: sweep.tables.as_slice().get(table)?,
-            run: load.runs.as_slice().get(table)?,
         })
     }
 
-    /// The runs of the sweeps, a row for each: what came of the task in it. Fails only when out of
-    /// memory.
+    /// Puts the rows of a run of each seed: one, or of several seeds the least, the median and the
+    /// greatest of each column.
+    fn put_run(self, alloc: Global, at: RunAt, sheet: &mut Sheet) -> Result<(), AllocError> {
+        for which in [Which::Least, Which::Median, Which::Greatest] {
+            if self.seeds > 1 || which == Which::Least {
+                sheet.put(self.row(alloc, at, which)?)?;
+            }
+        }
+        Ok(())
+    }
+
+    /// The runs of the sweeps, in rows: what came of the task in them. Fails only when out of memory.
     pub fn sheet(self, alloc: Global) -> Result<Sheet, AllocError> {
         let mut sheet = Sheet::new(alloc);
         sheet.put(self.heading(alloc)?)?;
-        for row in 0..self.rows() {
-            if let Some(run) = self.run_at(row) {
-                sheet.put(self.row(alloc, run)?)?;
+        for run in 0..self.runs() {
+            if let Some(at) = self.run_at(run) {
+                self.put_run(alloc, at, &mut sheet)?;
             }
         }
         Ok(sheet)

@@ -83,11 +83,11 @@ pub fn status_of_sweeps(objective: Option<Objective>, sweeps: &[Sweep]) -> u8
 
 /// Writes a line for each table whose run of the last load of a sweep does not keep the objective:
 /// the objective, the load, what stands at the rank there, and up to which load the objective was
-/// kept. Before it stand the value that makes the table and the policy, at this place, where there
-/// are several.
+/// kept. Before it stand the value that makes the table, the policy and the seed, where there are
+/// several.
 pub fn say_misses<E: Write>(
     sweep: &Sweep,
-    policy: usize,
+    by: MadeBy,
     objective: &Objective,
     names: SweepNames<'_>,
     errors: &mut E,
@@ -99,7 +99,7 @@ pub fn say_misses<E: Write>(
     for table in 0..last.runs.len() {
         let run = &last.runs[table];
         if is_not_kept_by(objective, run) {
-            say_name(names, table, policy, errors);
+            say_name(names, table, by, errors);
             let miss = Miss {
                 objective,
                 load: last.load,
@@ -112,14 +112,26 @@ pub fn say_misses<E: Write>(
     }
 }
 
-/// Writes the name of the program, the value that makes the table, and the policy.
-fn say_name<E: Write>(names: SweepNames<'_>, table: usize, policy: usize, errors: &mut E) {
+/// By what a sweep is made.
+#[derive(Clone, Copy)]
+pub struct MadeBy {
+    /// The place of its policy.
+    pub policy: usize,
+    /// Its seed, where there are several.
+    pub seed: Option<u64>,
+}
+
+/// Writes the name of the program, the value that makes the table, the policy and the seed.
+fn say_name<E: Write>(names: SweepNames<'_>, table: usize, by: MadeBy, errors: &mut E) {
     let _ = write!(errors, "caladan_view: ");
     if let (Some(variation), Some(value)) = (names.variation, names.value(table)) {
         let _ = write!(errors, "{}={value}: ", variation.key);
     }
-    if let Some(policy) = names.policy(policy) {
+    if let Some(policy) = names.policy(by.policy) {
         let _ = write!(errors, "{policy}: ");
+    }
+    if let Some(seed) = by.seed {
+        let _ = write!(errors, "seed {seed}: ");
     }
 }
 

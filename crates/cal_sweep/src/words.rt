@@ -23,6 +23,8 @@ pub struct SweepWords<'a> {
     pub from: Option<&'a str>,
     /// The first turn after the window.
     pub to: Option<&'a str>,
+    /// How many seeds there are, of which each has its runs.
+    pub seeds: u64,
     /// In which form its numbers are written.
     pub form: NumberForm,
 }
@@ -44,8 +46,10 @@ pub struct Asked<'a> {
     pub first: u64,
     /// The first turn after the window.
     pub after: u64,
-    /// The seed of all runs.
+    /// The seed of the runs, or the first of several, which are one after the other.
     pub seed: u64,
+    /// How many there are; 0 counts as one.
+    pub seeds: u64,
     /// The word of the loads.
     pub word: &'a str,
     /// The words of the tasks.
@@ -150,6 +154,7 @@ pub fn asked_of<'a>(alloc: Global, words: &SweepWords<'a>) -> Result<Asked<'a>, 
         first,
         after,
         seed: words.load.seed,
+        seeds: words.seeds,
         word: stepped.word,
         named: words.load.tasks.clone()?,
         form: words.form,

@@ -24,6 +24,7 @@ pub fn sweep_word<'a>(alloc: Global) -> Result<Command<'a>, AllocError> {
         .arg(slo_word(alloc))?
         .arg(from_word(alloc))?
         .arg(to_word(alloc))?
+        .arg(seeds_word(alloc))?
         .arg(csv_word(alloc))?
         .arg(names_word(alloc))?
         .arg(tick_word(alloc))?
@@ -45,6 +46,17 @@ fn to_word<'a>(alloc: Global) -> Arg<'a> {
     value_word(alloc, "to", "TURN", help)
 }
 
+fn seeds_word<'a>(alloc: Global) -> Arg<'a> {
+    value_word(
+        alloc,
+        "seeds",
+        "N",
+        "Runs of N seeds, from --seed on, 1 to 1000",
+    )
+    .default_value("1")
+    .value_parser(clap::value_parser!(u64).range(1..=1000))
+}
+
 /// What the words of a parsed command line ask for. Fails only when out of memory.
 pub fn sweep_words<'a>(
     alloc: Global,
@@ -56,6 +68,7 @@ pub fn sweep_words<'a>(
         slo: matches.get_str("slo"),
         from: matches.get_str("from"),
         to: matches.get_str("to"),
+        seeds: matches.get_one::<u64>("seeds").unwrap_or(1),
         form: number_form_of(matches.get_flag("csv")),
     })
 }

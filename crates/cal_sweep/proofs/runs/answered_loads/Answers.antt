@@ -14,6 +14,6 @@ returns g c =
     let shown = ap (λ it. it.base.slice.now) c.map.ensures.base ∙ ap (λ it. it.slice.now) c.with_min_len.ensures.base ∙ c.par_iter.ensures in
     IfOk-then c.collect.result _ _ c.collect.ensures (λ answer made.
     let chain = rw c.map.ensures.f at made.1 in
-    let each = slice-AllZip chain.0 loads (chain.1 ∙ shown) (λ load r. IfOk r (IsSweptLoad c.args.policy asked tables load)) made.0 chain.2 in
+    let each = slice-AllZip chain.0 loads (chain.1 ∙ shown) (λ load r. IfOk r (IsSweptLoad c.args.by.policy asked tables load)) made.0 chain.2 in
     ok_then _ _ _ answer made.2 (λ swept of.
-    rw of.2 (each_answered _ (IsSweptLoad c.args.policy asked tables) loads of.0 (rw of.1 at each))))
+    rw of.2 (each_answered _ (IsSweptLoad c.args.by.policy asked tables) loads of.0 (rw of.1 at each))))
