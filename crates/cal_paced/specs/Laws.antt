@@ -1,5 +1,5 @@
 -- The law of pace 1: where the passes of a file stand as pace 1 has them, a run by the plan that
--- slows nobody is a run on that file, as the demanded one is.
+-- slows nobody is a run on that file, as one in lockstep is.
 use Rattle.std.specs.Prelude.{◌≡◌, ℕ}
 use Rattle.cal_kthread.specs.Turn.Thread.{KernelView}
 use Rattle.cal_machine.specs.Table.{Table}
