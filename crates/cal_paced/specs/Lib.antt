@@ -4,4 +4,5 @@ pub mod Shares
 pub mod Rounds
 pub mod Making
 pub mod Paced
+pub mod Planned
 pub mod Laws

@@ -14,7 +14,8 @@ use Rattle.cal_trace.specs.declared.arrivals.Arrivals.{Arrivals}
 use Rattle.cal_paced.specs.Figures.{HaveFigures, figure_before}
 use Rattle.cal_paced.specs.Pace.{StandEvenly}
 use Rattle.cal_paced.specs.Rounds.{AreRounds, Standing}
-use Rattle.cal_paced.specs.declared.fault.PaceFault.TheVariants.{Memory, Passes, Rows}
+use Rattle.cal_paced.specs.declared.fault.PaceFault.TheVariants.{Memory, NoMisses, NoPlan}
+use Rattle.cal_paced.specs.declared.fault.PaceFault.TheVariants.{Passes, Rows}
 use Rattle.cal_paced.specs.declared.fault.PaceFault.{PaceFault}
 use Rattle.cal_paced.specs.declared.plan.Figure.TheVariants.{Given}
 use Rattle.cal_paced.specs.declared.plan.Plan.{Plan}
@@ -41,6 +42,8 @@ IsPaceFault pace arrivals Rows = length arrivals.passes ≢ length arrivals.turn
 IsPaceFault pace arrivals Passes = (length arrivals.passes ≡ length arrivals.turns)
     × (MOST_PASSES < pace * length arrivals.turns)
 IsPaceFault pace arrivals Memory = MayBePaced pace arrivals
+IsPaceFault pace arrivals NoPlan = ⊥
+IsPaceFault pace arrivals NoMisses = ⊥
 
 -- these are paced arrivals: the turns and the requests are as they were, and the passes stand
 -- evenly before their turns

@@ -18,6 +18,13 @@ pub enum PaceFault {
     /// More passes would come of them than a history has room for.
     #[error("there are more than 1,048,576 passes")]
     Passes,
+    /// No run can go by the plan. `paced_arrivals` never answers it.
+    #[error("a turn has at least one pass, and does at most all of its work")]
+    NoPlan,
+    /// The figures are to be those that the threads show, and no request has misses.
+    /// `paced_arrivals` never answers it.
+    #[error("no request has misses that could be shown")]
+    NoMisses,
 }
 
 impl From<AllocError> for PaceFault {

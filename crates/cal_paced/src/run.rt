@@ -23,7 +23,7 @@ use std::alloc::{AllocError, Global};
 /// where a collector of the caller's makes its passes and takes what its turns hand out, as in
 /// `lockstep_collected_by`. The watch makes no round.
 ///
-/// Takes paced arrivals (`paced_arrivals`, with the plan's pace), and gives them back with the
+/// Takes paced arrivals (`planned_arrivals`), and gives them back with the
 /// figures that the passes got. Fails only when out of memory, or where the collector does; what the
 /// collector holds then is of no run.
 pub fn paced_collected_by<C: Collector>(
@@ -40,6 +40,7 @@ pub fn paced_collected_by<C: Collector>(
     requires suits { C.suits collector.old config.now }
     requires opened { C.holds collector.old [] (replicate (threads_of_table config.now) []) }
     ensures suits { IfOk result (λ _. C.suits collector.new config.now) }
+    ensures fits { IfOk result (λ _. FitsTable config.now given.new) }
     ensures run { (arrivals : ArrivalsOf) → IsPacedFor plan.now arrivals given.old →
         IfOk result (IsPacedCollectedOf policy (C.holds collector.new) config.now plan.now arrivals
         given.new) }

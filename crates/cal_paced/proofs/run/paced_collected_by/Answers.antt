@@ -70,6 +70,9 @@ returns-clause-run g c arrivals paced =
       left = refl;
     }
 
+pub returns-clause-fits : goal.returns-clause-fits
+returns-clause-fits g c = table-still c.args.config.now 0 c.args.given.now c.make_rounds.new.given c.make_rounds.ensures.given c.requires.fits
+
 pub returns-clause-suits : goal.returns-clause-suits
 returns-clause-suits g c =
     let P : Table → Type 0 = λ t. g.C.Collector.suits c.make_rounds.new.collector t in
