@@ -1,7 +1,7 @@
--- The turns of a kernel thread, as its journal tells of them. A turn ends with its publication. A
--- record that shows a core is of a turn that worked: a thread that finds no work gives up its core.
-use Rattle.std.specs.Prelude.{ℕ, nat_lt, List, [], ◌∷◌, Option, Some, None}
-use Rattle.std.specs.Option.{unwrap_or}
+-- The turns of a kernel thread, as its journal tells of them. A turn ends with its publication.
+use Rattle.std.specs.Prelude.{ℕ, ◌&&◌, ◌||◌, nat_lt, Bool, List, [], ◌∷◌, Option, Some, None}
+use Rattle.std.specs.Option.{is_some, unwrap_or}
+use Rattle.cal_signal.specs.declared.record.Record.{Record}
 use Rattle.cal_kthread.specs.declared.journal.entry.Entry.{Entry}
 use Rattle.cal_kthread.specs.declared.journal.entry.Entry.TheVariants.{Arrived, Took, Stole}
 use Rattle.cal_kthread.specs.declared.journal.entry.Entry.TheVariants.{Served, Yielded, Published}
@@ -27,12 +27,18 @@ served_told before Yielded = None
 abbrev pub served_since : List Entry → Option ℕ
 served_since entries = unwrap_or (last_of served_told entries) None
 
+-- A turn that served this was at work, where it published this record: the thread is on a core, and
+-- is at a request or has just served one. (One that finds no request gives up its core; only in a
+-- turn without work it may stay on it.)
+abbrev pub was_at_work : Option ℕ → Record → Bool
+was_at_work served rec = nat_lt 0 rec.running && (nat_lt 0 rec.started || is_some served)
+
 -- the turn that an entry ends, told the entries before it: a publication ends one
 abbrev pub turn_by : List Entry → Entry → List Turn
 turn_by before (Published number rec) = record {
   served = served_since before;
   stamp = rec.stamp;
-  at_work = nat_lt 0 rec.running;
+  at_work = was_at_work (served_since before) rec;
   suspended = nat_lt 0 rec.paused;
 } ∷ []
 turn_by before (Arrived request) = []

@@ -14,7 +14,7 @@ pub struct Turn {
     pub served: Option<u64>,
     /// The stamp of its publication, in clock ticks.
     pub stamp: u64,
-    /// Whether its publication shows a core: a thread that has one after its turn has worked.
+    /// Whether its publication shows a core, and a request or the turn served one.
     pub at_work: bool,
     /// Whether its publication shows a suspended request.
     pub suspended: bool,
@@ -44,7 +44,7 @@ pub(crate) fn turn_by(served: Option<u64>, entry: Entry) -> Option<Turn>
         Entry::Published(_, rec) => Some(Turn {
             served,
             stamp: rec.stamp,
-            at_work: rec.running > 0,
+            at_work: rec.running > 0 && (rec.started > 0 || served.is_some()),
             suspended: rec.paused > 0,
         }),
         Entry::Arrived(_) => None,
