@@ -4,3 +4,4 @@ pub mod ServedLemmas
 pub mod PointLemmas
 pub mod RangeLemmas
 pub mod WrittenLemmas
+pub mod PacedLemmas

@@ -30,7 +30,7 @@ text_is_asked policy text (Err f) written h = absurd h
 text_is_asked policy text (Ok subject) written h = refl
 
 -- the text of spans and bans
-spans_written : (table : Table) (history : List PassEntry) (facts : SpanFacts) → AreSpanFacts table.cores history facts → text_of_facts table facts ≡ spans_text table history
+pub spans_written : (table : Table) (history : List PassEntry) (facts : SpanFacts) → AreSpanFacts table.cores history facts → text_of_facts table facts ≡ spans_text table history
 spans_written table history facts are =
     ap (λ (clocks : List ℕ). text_of_spans table clocks facts.spans.items facts.bans.items) are.clocks
     ∙ ap (λ (spans : List Span). text_of_spans table (clocks_of history) spans facts.bans.items) are.spans

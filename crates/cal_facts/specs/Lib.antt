@@ -10,3 +10,5 @@ pub mod RequestRows
 pub mod Asking
 pub mod RunAsked
 pub mod Telling
+pub mod PacedRuns
+pub mod PacedTelling

@@ -13,10 +13,11 @@ use Rattle.cal_load.specs.declared.made.Made.{Made}
 use Rattle.cal_load.specs.declared.making.TaskLoad.{TaskLoad}
 use Rattle.cal_machine.specs.Reading.{table_in}
 use Rattle.cal_machine.specs.Table.{Table}
+use Rattle.cal_paced.specs.declared.plan.Plan.{Plan}
 use Rattle.cal_policy.specs.declared.policy.Policy.{Policy}
 use Rattle.cal_tables.specs.Compared.{AreEachOf}
 use Rattle.cal_tables.specs.Joining.{table_part}
-use Rattle.cal_tables.specs.Measured.{IsCountedRun}
+use Rattle.cal_tables.specs.Planned.{IsCountedBy}
 use Rattle.cal_tables.specs.Varied.{AreVaried}
 use Rattle.cal_tables.specs.declared.comparing.Variation.{Variation}
 use Rattle.cal_tables.specs.declared.comparing.fault.ComparisonFault.{ComparisonFault}
@@ -42,13 +43,13 @@ abbrev pub is_cut_before : ℕ → List Count → Bool
 is_cut_before after counts = list_any (λ count. is_before after count.left_from) counts
 
 -- the run has these counts, and the numbers of a run by the policy of this table on these arrivals,
--- counted from when their requests came; and it is cut where some were left out that came before the
--- end of the window
+-- by the plan asked for or in lockstep where there is none, counted from when their requests came; and
+-- it is cut where some were left out that came before the end of the window
 pub record IsRunOn (policy : Policy) (asked : Asked) (table : Table) (made : Made)
     (run : SweptRun) : Type 0 where
   pub counts : run.counts ≡ made.counts
   pub cut : run.is_cut ≡ is_cut_before asked.after made.counts.items
-  pub measured : IsCountedRun policy table made.arrivals
+  pub measured : IsCountedBy asked.plan policy table made.arrivals
       (counted_of asked made.arrivals made.came.items) run.numbers
 
 -- a run by the policy of this table on arrivals that were made for it of what is asked for, with this

@@ -18,12 +18,13 @@ first_tenth turns = turns / 10
 abbrev pub last_tenth : ℕ → ℕ
 last_tenth turns = turns - turns / 10
 
--- the timing, the seed and the form asked for are those of the words, an objective is of a task to
--- which requests come, and the window has turns of the run: without words all but the first and the
--- last tenth of them
+-- the timing, the seed, the plan and the form asked for are those of the words, an objective is of a
+-- task to which requests come, and the window has turns of the run: without words all but the first
+-- and the last tenth of them
 pub record IsAsked (words : SweepWords) (asked : Asked) : Type 0 where
   pub timing : asked.timing ≡ words.load.timing
   pub seed : asked.seed ≡ words.load.seed
+  pub plan : asked.plan ≡ words.plan
   pub form : asked.form ≡ words.form
   pub objective : IfSome asked.objective (λ objective.
       IsTrue (has_load asked.tasks.items objective.task))

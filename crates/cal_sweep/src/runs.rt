@@ -21,7 +21,7 @@ use cal_load::{ArrivalPlan, Count, Made, are_known, made_arrivals};
 use cal_machine::{Config, Listed};
 use cal_policy::Policy;
 use cal_tables::{
-    ComparisonFault, Reason, RunNumbers, Variation, counted_run, policy_at, table_at, table_part,
+    ComparisonFault, Reason, RunNumbers, Variation, counted_by, policy_at, table_at, table_part,
     varied_tables,
 };
 use cal_trace::Arrivals;
@@ -91,8 +91,8 @@ fn is_cut_before(after: u64, counts: &[Count]) -> bool
     false
 }
 
-/// The run of a table by this policy on arrivals that were made of what is asked for, measured. A
-/// fault is that of the table at this place.
+/// The run of a table by this policy, and by the plan asked for or in lockstep, on arrivals that were
+/// made of what is asked for, measured. A fault is that of the table at this place.
 fn run_on(
     job: &SweepJob<'_>,
     policy: Policy,
@@ -108,9 +108,10 @@ fn run_on(
         came,
         counts,
     } = made;
-    let is_cut = is_cut_before(job.asked.after, counts.as_slice());
-    let counted = counted_of(job.asked, &arrivals, came);
-    match counted_run(job.alloc, table, policy, &arrivals, &counted) {
+    let asked = job.asked;
+    let is_cut = is_cut_before(asked.after, counts.as_slice());
+    let counted = counted_of(asked, &arrivals, came);
+    match counted_by(job.alloc, table, policy, asked.plan, arrivals, &counted) {
         Ok(numbers) => Ok(SweptRun {
             counts,
             is_cut,
@@ -118,7 +119,7 @@ fn run_on(
         }),
         Err(fault) => Err(ComparisonFault::OfTable {
             table: place,
-            reason: Reason::Run(fault),
+            reason: Reason::from(fault),
         }),
     }
 }

@@ -7,6 +7,7 @@ ghost use Rattle.cal_sweep.specs.Words.{last_tenth, swept_task};
 use crate::fault::SweepFault;
 use crate::objective::{FLAG, Objective, objective_of};
 use cal_load::{LoadFault, LoadWords, TaskLoad, Timing, Why, number_of, refused, stepped_loads};
+use cal_paced::Plan;
 use cal_tables::NumberForm;
 use std::alloc::{AllocError, Global};
 
@@ -23,6 +24,8 @@ pub struct SweepWords<'a> {
     pub from: Option<&'a str>,
     /// The first turn after the window.
     pub to: Option<&'a str>,
+    /// By which plan all runs go; without it they are in lockstep.
+    pub plan: Option<Plan>,
     /// In which form its numbers are written.
     pub form: NumberForm,
 }
@@ -46,6 +49,8 @@ pub struct Asked<'a> {
     pub after: u64,
     /// The seed of all runs.
     pub seed: u64,
+    /// By which plan all runs go; without it they are in lockstep.
+    pub plan: Option<Plan>,
     /// The word of the loads.
     pub word: &'a str,
     /// The words of the tasks.
@@ -150,6 +155,7 @@ pub fn asked_of<'a>(alloc: Global, words: &SweepWords<'a>) -> Result<Asked<'a>, 
         first,
         after,
         seed: words.load.seed,
+        plan: words.plan,
         word: stepped.word,
         named: words.load.tasks.clone()?,
         form: words.form,

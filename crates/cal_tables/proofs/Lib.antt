@@ -11,3 +11,4 @@ pub mod OwnValue
 pub mod Unvaried
 pub mod OneTable
 pub mod Verdicts
+pub mod Planning

@@ -1,4 +1,5 @@
 pub mod Measured
+pub mod Planned
 pub mod Recording
 pub mod Asked
 pub mod Moved

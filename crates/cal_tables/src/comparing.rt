@@ -23,6 +23,7 @@ use crate::measuring::RunNumbers;
 use crate::style::NumberStyle;
 use cal_input::RunFault;
 use cal_machine::Config;
+use cal_paced::Plan;
 use cal_policy::Policy;
 use std::alloc::Global;
 use std::io::Write;
@@ -37,22 +38,25 @@ pub struct Comparison<R> {
 }
 
 /// The tables of an input, each ended by a separator line, and what is kept of each one's run by this
-/// policy on the arrivals that stand after the last of these lines, in the order of the tables. The
-/// arrivals are given for the first table; each gets them as `moved_arrivals` says.
+/// policy, and by this plan or in lockstep, on the arrivals that stand after the last of these lines,
+/// in the order of the tables. The arrivals are given for the first table; each gets them as
+/// `moved_arrivals` says, and then they are paced.
 ///
 /// The fault is the input's `Separator`, else the first table's that has one, else that of the
-/// arrivals, which is the first table's, else that of the first table which they do not fit.
+/// arrivals, which is the first table's, else that of the first table which they do not fit, or
+/// whose arrivals are refused for the plan.
 /// `Memory` may come at any place.
 pub fn compared<R: OfRun>(
     alloc: Global,
     policy: Policy,
+    plan: Option<Plan>,
     input: &[u8],
 ) -> Result<Comparison<R>, ComparisonFault>
     ensures { IfOk result (λ comparison.
-        IsComparison (R.tells policy) input.now comparison.tables.items comparison.runs.items) }
+        IsComparison (R.tells plan policy) input.now comparison.tables.items comparison.runs.items) }
 {
     let from = given_tables(alloc, input)?;
-    let runs = runs_of(alloc, policy, &from)?;
+    let runs = runs_of(alloc, policy, plan, &from)?;
     let GivenTables { tables, .. } = from;
     Ok(Comparison { tables, runs })
 }
@@ -67,43 +71,46 @@ pub struct Variation<'a> {
 }
 
 /// The tables that the one of an input gives with each of these values at this key, and what is kept
-/// of each one's run by this policy on the input's arrivals, in the order of the values. The arrivals
-/// are given for the input's table; each gets them as `moved_arrivals` says.
+/// of each one's run by this policy, and by this plan or in lockstep, on the input's arrivals, in the
+/// order of the values. The arrivals are given for the input's table; each gets them as
+/// `moved_arrivals` says, and then they are paced.
 ///
 /// The faults are those of the word `lockstep`, in its order; then that of the first value that
 /// makes the table faulty (a key that it has not is unknown), then that of the first value which
-/// makes a table that the arrivals do not fit. `Memory` may come at any place.
+/// makes a table that the arrivals do not fit, or whose arrivals are refused for the plan. `Memory` may come at any place.
 pub fn compared_values<R: OfRun>(
     alloc: Global,
     policy: Policy,
+    plan: Option<Plan>,
     input: &[u8],
     variation: Variation<'_>,
 ) -> Result<Comparison<R>, ComparisonFault>
-    ensures { IfOk result (λ comparison. IsVariation (R.tells policy) input.now
+    ensures { IfOk result (λ comparison. IsVariation (R.tells plan policy) input.now
         variation.entry.key.now
         (map (λ value. value.now) variation.entry.values.now)
         comparison.tables.items comparison.runs.items) }
 {
     let from = varied_given(alloc, input, variation)?;
-    let runs = runs_of(alloc, policy, &from)?;
+    let runs = runs_of(alloc, policy, plan, &from)?;
     let GivenTables { tables, .. } = from;
     Ok(Comparison { tables, runs })
 }
 
-/// The runs of an input by this policy: of its tables, or of those that its table gives with some
+/// The runs of an input by this policy and plan: of its tables, or of those that its table gives with some
 /// values. The faults are those of `compared`, or of `compared_values`.
 pub fn comparison_of<R: OfRun>(
     alloc: Global,
     policy: Policy,
+    plan: Option<Plan>,
     input: &[u8],
     variation: Option<Variation<'_>>,
 ) -> Result<Comparison<R>, ComparisonFault>
-    ensures { IfOk result (λ comparison. IsComparisonOf (R.tells policy) input.now variation.entry
+    ensures { IfOk result (λ comparison. IsComparisonOf (R.tells plan policy) input.now variation.entry
         comparison.tables.items comparison.runs.items) }
 {
     match variation {
-        Some(variation) => compared_values(alloc, policy, input, variation),
-        None => compared(alloc, policy, input),
+        Some(variation) => compared_values(alloc, policy, plan, input, variation),
+        None => compared(alloc, policy, plan, input),
     }
 }
 
@@ -116,6 +123,8 @@ pub struct ComparedInput<'a> {
     pub variation: Option<Variation<'a>>,
     /// By which policies each table has a run.
     pub policies: &'a [Policy],
+    /// By which plan all runs go; without it they are in lockstep.
+    pub plan: Option<Plan>,
 }
 
 /// The runs of an input by each of its policies, in their order. The fault is that of the first that
@@ -125,14 +134,14 @@ pub fn comparisons_of<R: OfRun>(
     input: ComparedInput<'_>,
 ) -> Result<Vec<Comparison<R>>, ComparisonFault>
     ensures { IfOk result (λ comparisons. AreEachOf
-        (λ policy comparison. IsComparisonOf (R.tells policy) input.entry.bytes.now
+        (λ policy comparison. IsComparisonOf (R.tells input.entry.plan policy) input.entry.bytes.now
         input.entry.variation comparison.tables.items comparison.runs.items)
         input.entry.policies.now comparisons.items) }
 {
     let mut comparisons = Vec::new(alloc);
     for place in 0..input.policies.len() {
         let policy = policy_at(input.policies, place);
-        let runs = comparison_of(alloc, policy, input.bytes, input.variation)?;
+        let runs = comparison_of(alloc, policy, input.plan, input.bytes, input.variation)?;
         comparisons.push(runs)?;
     }
     Ok(comparisons)

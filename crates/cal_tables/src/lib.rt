@@ -1,7 +1,7 @@
 //! What a task table makes of arrivals, in numbers: a run on one thread, measured; and what a
 //! recorded history comes to.
 //!
-//! Which numbers these are is proved (`measured_run`); how they are written is only tested.
+//! Which numbers these are is proved (`counted_run`, `counted_by`); how they are written is only tested.
 #![tactic(auto)]
 
 mod collecting;
@@ -12,6 +12,7 @@ mod joining;
 mod labels;
 mod laws;
 mod measuring;
+mod planned;
 mod recorded;
 mod sheet;
 mod style;
@@ -35,6 +36,7 @@ pub use laws::{
     varied_differs_at_its_key,
 };
 pub use measuring::{RunNumbers, counted_run, measure, measured_run};
+pub use planned::{PlannedFault, PlannedInput, counted_by, measure_paced, planned_input};
 pub use recorded::{HistoryNumbers, Recorded, history_numbers, measured_recording};
 pub use sheet::{NumberForm, Sheet};
 pub use style::NumberStyle;

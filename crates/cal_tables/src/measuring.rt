@@ -12,7 +12,6 @@ ghost use Rattle.cal_tables.specs.Measured.{AreNumbersAtEnd, AreNumbersOf, AreRu
 ghost use Rattle.cal_tables.specs.Measured.{IsCountedRun, IsMeasuredRun};
 
 use crate::collecting::{EndedNumbers, OpenNumbers};
-use crate::comparing::runs::OfRun;
 use crate::recorded::{HistoryNumbers, Recorded, measured_recording, numbers_of_walk};
 use crate::style::NumberStyle;
 use crate::writing::{history_sheet, sheet_of};
@@ -119,19 +118,6 @@ pub fn measured_run(
 {
     let counted = counted_as_given(alloc, arrivals)?;
     counted_run(alloc, config, policy, arrivals, &counted)
-}
-
-impl OfRun for RunNumbers {
-    ghost tells = { IsMeasuredRun };
-
-    fn of_run(
-        alloc: Global,
-        config: &Config,
-        policy: Policy,
-        arrivals: &Arrivals,
-    ) -> Result<RunNumbers, RunFault> {
-        measured_run(alloc, config, policy, arrivals)
-    }
 }
 
 /// What is written of a run by this policy on these arrivals, in memory. Its fault is `Memory`.

@@ -20,9 +20,10 @@ use crate::standing::Row;
 use crate::walk::Walk;
 use cal_input::{RunFault, read_parts, recorded_passes};
 use cal_machine::Config;
+use cal_paced::{Plan, paced_end_by};
 use cal_policy::{Action, PassEntry, Policy};
 use cal_run::lockstep_end_by;
-use cal_tables::Labels;
+use cal_tables::{Labels, PlannedFault, PlannedInput, planned_input};
 use cal_trace::{Arrivals, FaultKind, HistoryRows, read_arrivals};
 use std::alloc::Global;
 use std::io::Write;
@@ -88,19 +89,55 @@ fn write_run<W: Write>(
     requires { FitsTable config.now arrivals.now }
 {
     let end = lockstep_end_by(events.alloc, config, policy, arrivals)?;
-    events.begin_at(first_clock(arrivals));
-    events.page.put(OPENING);
-    put_names(config, &mut events);
-    put_request_names(config, &mut events);
-    put_history(config, end.history.as_slice(), &mut events, writer)?;
     let run = ToldRun {
         config,
         arrivals,
         end: &end,
     };
-    run.put_requests(&mut events, writer)?;
+    put_run(run, &mut events, writer)
+}
+
+/// Writes a run, with no event before it: its history, and then what came of its requests.
+fn put_run<W: Write>(
+    run: ToldRun<'_>,
+    events: &mut Events<'_>,
+    writer: &mut W,
+) -> Result<(), RunFault> {
+    events.begin_at(first_clock(run.arrivals));
+    events.page.put(OPENING);
+    put_names(run.config, events);
+    put_request_names(run.config, events);
+    put_history(run.config, run.end.history.as_slice(), events, writer)?;
+    run.put_requests(events, writer)?;
     events.page.put(CLOSING);
     events.page.send(writer)
+}
+
+/// Writes the run by this policy and plan on one thread that an input of a task table and arrivals
+/// asks for, as `write_timeline` does. Nothing is written before the run was made.
+///
+/// The faults are those of `planned_input`.
+pub fn write_timeline_paced<W: Write>(
+    alloc: Global,
+    policy: Policy,
+    plan: &Plan,
+    input: &[u8],
+    labels: Labels<'_>,
+    writer: &mut W,
+) -> Result<(), PlannedFault> {
+    let PlannedInput { config, mut given } = planned_input(alloc, plan, input)?;
+    let end = match paced_end_by(alloc, &config, policy, plan, &mut given) {
+        Ok(end) => end,
+        Err(fault) => return Err(PlannedFault::Run(RunFault::from(fault))),
+    };
+    let run = ToldRun {
+        config: &config,
+        arrivals: &given,
+        end: &end,
+    };
+    let mut events = Events::new(alloc, labels);
+    put_run(run, &mut events, writer)?;
+    Ok(())
 }
 
 /// The clock of the first pass or of the first turn, whichever is earlier; 0 where there is none.

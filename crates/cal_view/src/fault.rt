@@ -1,5 +1,6 @@
 //! What the program says of the fault of several tables.
 
+use crate::jobs::pacing::refuse_plan;
 use crate::refusing::end_refusal;
 use cal_input::{RunFault, status};
 use cal_machine::ConfigFault;
@@ -32,6 +33,11 @@ impl RefusedRuns<'_> {
                 table: _,
                 reason: Reason::Run(fault),
             } if status(&fault) != 2 => Err(fault),
+            // What a plan refuses it refuses of the arrivals, and so of each table.
+            ComparisonFault::OfTable {
+                table: _,
+                reason: Reason::Pace(fault),
+            } => Ok(refuse_plan(fault, errors)),
             ComparisonFault::OfTable { table, reason } => {
                 self.say(table, reason, errors);
                 if let Reason::Run(fault) = reason {

@@ -8,6 +8,8 @@ pub mod explaining;
 pub mod input;
 pub mod measuring;
 pub mod naming;
+pub mod pacing;
 pub mod recording;
 pub mod sweeping;
 pub mod telling;
+pub mod timing;

@@ -18,11 +18,11 @@ use crate::jobs::naming::{names_of, refuse_count, refuse_words_of_labels};
 use crate::jobs::recording::record;
 use crate::jobs::sweeping::Sweeping;
 use crate::jobs::telling::tell;
+use crate::jobs::timing::answer_timeline;
 use crate::refusing::{end_refusal, refused_input};
 use cal_engine::{refuse_words, words_after_first};
 use cal_input::{RunFault, read_input};
 use cal_tables::Labels;
-use cal_timeline::write_timeline;
 use std::alloc::Global;
 use std::io::{BufWriter, Read, Write};
 use std::rt::Files;
@@ -262,6 +262,7 @@ impl<'h, 'a, H: Files + Threads + Sync> ProgramRun<'h, 'a, H> {
             alloc,
             read,
             policies: self.request.policies.as_slice(),
+            plan: self.request.plan,
             labels,
         };
         match answer_read(job, &input, output, errors) {
@@ -280,7 +281,6 @@ fn answer_read<W: Write, E: Write>(
     errors: &mut E,
 ) -> Result<u8, RunFault> {
     let (alloc, bytes, labels) = (input.alloc, input.bytes(), input.labels);
-    let policy = input.policy();
     if let Some(status) = refuse_count(alloc, labels, bytes, errors)? {
         return Ok(status);
     }
@@ -289,9 +289,9 @@ fn answer_read<W: Write, E: Write>(
         InputJob::Explain { asked } => return answer_explain(input, asked, output, errors),
         InputJob::Compare { asked } => return answer_compare(input, asked, output, errors),
         InputJob::Measure { form } => return answer_measure(input, form, output, errors),
-        InputJob::History { front } => record(alloc, policy, bytes, front, output)?,
-        InputJob::Timeline => write_timeline(alloc, policy, bytes, labels, output)?,
-        InputJob::Facts { facts } => tell(alloc, policy, bytes, facts, output)?,
+        InputJob::Timeline => return answer_timeline(input, output, errors),
+        InputJob::Facts { facts } => return tell(input, facts, output, errors),
+        InputJob::History { front } => record(alloc, input.policy(), bytes, front, output)?,
     }
     Ok(0)
 }

@@ -39,7 +39,7 @@ pub fn refused_input<'a>(
     let tables = request.tables.as_slice();
     RefusedInput {
         input,
-        wanted: traces_of(job),
+        wanted: traces_of(job, request.plan.is_some()),
         tables: tables_of(job),
         files: if tables.is_empty() {
             None
@@ -70,8 +70,11 @@ pub fn refuse_word<E: Write>(fault: &WordFault<'_>, errors: &mut E) -> u8
     2
 }
 
-/// The traces that a job reads.
-fn traces_of(job: InputJob<'_>) -> &'static [TraceKind] {
+/// The traces that a job reads: where its runs go by a plan, arrivals alone.
+fn traces_of(job: InputJob<'_>, has_plan: bool) -> &'static [TraceKind] {
+    if has_plan {
+        return &[TraceKind::Arrivals];
+    }
     match job {
         InputJob::History { .. } => &[TraceKind::Signals],
         InputJob::Compare { .. }

@@ -94,6 +94,7 @@ pub fn compared(rt: &HostRuntime, given: &TableAndTrace) -> Tried<()> {
         bytes: given.text,
         variation: None,
         policies: [Policy::Caladan].as_slice(),
+        plan: None,
     };
     answer(rt, compare(rt.alloc(), input, in_columns(), &mut text))?;
     rt.stdout().write_all(text.as_slice())?;

@@ -8,7 +8,11 @@ ghost use Rattle.cal_kthread.specs.declared.journal.entry.Entry.{Entry};
 ghost use Rattle.cal_kthread.specs.declared.kernel_thread.TheConstants.{MOST_ENTRIES};
 ghost use Rattle.cal_machine.specs.TableTasks.{threads_of_table};
 ghost use Rattle.cal_measure.specs.ThreadWork.{IsThreadWorkOf};
+ghost use Rattle.cal_paced.specs.Paced.{IsPacedFor};
+ghost use Rattle.cal_paced.specs.Planned.{AreGivenFor};
 ghost use Rattle.cal_trace.specs.Arrivals.FitsTable.{FitsTable};
+ghost use Rattle.cal_trace.specs.declared.arrivals.Arrivals.{Arrivals as RunArrivals};
+ghost use Rattle.cal_facts.specs.PacedRuns.{ArePacedServed};
 ghost use Rattle.cal_facts.specs.Served.{IsRunServed};
 
 use crate::requests::served::ServedRequests;
@@ -16,6 +20,7 @@ use cal_input::RunFault;
 use cal_kthread::TurnEntries;
 use cal_machine::Config;
 use cal_measure::{ThreadWork, end_works, open_works, run_end};
+use cal_paced::{Plan, paced_collected_by};
 use cal_policy::{Actions, Policy};
 use cal_run::{Collector, lockstep_collected_by, step_given};
 use cal_sched::BareScheduler;
@@ -104,5 +109,26 @@ pub(crate) fn served_of_run(
     lockstep_collected_by(alloc, config, policy, arrivals, &mut open)?;
     let OpenRequests { works, .. } = open;
     let threads = end_works(alloc, works, run_end(arrivals))?;
+    Ok(ServedRequests::of(alloc, threads.as_slice())?)
+}
+
+/// The same of a run by this policy and plan on arrivals for the plan.
+pub(crate) fn served_of_paced(
+    alloc: Global,
+    config: &Config,
+    policy: Policy,
+    plan: &Plan,
+    given: &mut Arrivals,
+) -> Result<ServedRequests, RunFault>
+    requires fits { FitsTable config.now given.old }
+    requires given { AreGivenFor plan.now given.old }
+    ensures served { (arrivals : RunArrivals) → IsPacedFor plan.now arrivals given.old →
+        IfOk result (ArePacedServed policy config.now plan.now arrivals given.new) }
+    ensures kind { IfErr result (λ fault. fault ≡ RunFault.Memory) }
+{
+    let mut open = OpenRequests::open(alloc, config)?;
+    paced_collected_by(alloc, config, policy, plan, given, &mut open)?;
+    let OpenRequests { works, .. } = open;
+    let threads = end_works(alloc, works, run_end(given))?;
     Ok(ServedRequests::of(alloc, threads.as_slice())?)
 }

@@ -2,7 +2,9 @@
 
 ghost use Rattle.std.specs.Prelude.{◌≡◌};
 
+use crate::planned::PlannedFault;
 use cal_input::RunFault;
+use cal_paced::PaceFault;
 use std::alloc::{AllocError, AllocFailed};
 use std::error::Error;
 use std::fmt;
@@ -37,6 +39,8 @@ pub enum Reason {
     Run(RunFault),
     /// A table does not get the arrivals.
     Misfit(Misfit),
+    /// The arrivals, or the plan, are refused.
+    Pace(PaceFault),
     /// A table was asked for that is not there.
     NoTable {
         /// How many tables there are.
@@ -63,6 +67,7 @@ impl fmt::Display for Reason {
                 f,
                 "gives thread {thread} requests {first} and {second} before turn {turn}"
             ),
+            Reason::Pace(fault) => write!(f, "has no run by the plan: {fault}"),
             Reason::NoTable { tables } => write!(f, "is not there: there are {tables}, from 0"),
         }
     }
@@ -99,6 +104,19 @@ impl<T: Drop> From<AllocFailed<T>> for Reason {
 
     fn from(_e: AllocFailed<T>) -> Reason {
         Reason::Run(RunFault::Memory)
+    }
+}
+
+impl From<PlannedFault> for Reason {
+    ghost use Rattle.cal_tables.specs.Planned.{reason_of};
+
+    ghost from_gives = { λ fault e. e ≡ reason_of fault };
+
+    fn from(fault: PlannedFault) -> Reason {
+        match fault {
+            PlannedFault::Run(fault) => Reason::Run(fault),
+            PlannedFault::Pace(fault) => Reason::Pace(fault),
+        }
     }
 }
 

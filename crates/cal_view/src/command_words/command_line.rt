@@ -2,12 +2,14 @@
 
 use crate::command_words::arrival_words::{ArrivalWords, arrival_word, arrival_words};
 use crate::command_words::help_texts;
+use crate::command_words::plan_words::{plan_asked, with_plan_words};
 use crate::command_words::policy_words::{policies_asked, policies_word, policy_word};
 use crate::command_words::sweep_words::{sweep_word, sweep_words};
 use crate::jobs::explaining::Asked;
 use crate::jobs::naming::LabelWords;
 use crate::jobs::telling::Facts;
 use cal_engine::{Front, VERSION};
+use cal_paced::Plan;
 use cal_policy::Policy;
 use cal_sweep::SweepWords;
 use cal_tables::NumberForm;
@@ -97,6 +99,8 @@ pub struct Request<'a> {
     pub job: Job<'a>,
     /// The policies that it is to go by.
     pub policies: Vec<Policy>,
+    /// The plan that its runs are to go by; without it they are in lockstep.
+    pub plan: Option<Plan>,
     /// What tasks and clock ticks are to be called.
     pub labels: LabelWords<'a>,
     /// The files of task tables that stand in front of the input.
@@ -216,12 +220,12 @@ fn facts_word<'a>(
     about: &'a str,
     help: &'a str,
 ) -> Result<Command<'a>, AllocError> {
-    Command::new(alloc, name)
+    let command = Command::new(alloc, name)
         .about(about)
         .after_long_help(help)
         .arg(input_word(alloc))?
-        .arg(policy_word(alloc))?
-        .arg(output_word(alloc))
+        .arg(policy_word(alloc))?;
+    with_plan_words(alloc, command)?.arg(output_word(alloc))
 }
 
 fn history_word<'a>(alloc: Global) -> Result<Command<'a>, AllocError> {
@@ -235,22 +239,24 @@ fn history_word<'a>(alloc: Global) -> Result<Command<'a>, AllocError> {
 }
 
 fn timeline_word<'a>(alloc: Global) -> Result<Command<'a>, AllocError> {
-    Command::new(alloc, "timeline")
+    let command = Command::new(alloc, "timeline")
         .about("Write a history or a run as trace events, for Perfetto")
         .after_long_help(help_texts::TIMELINE)
         .arg(input_word(alloc))?
-        .arg(policy_word(alloc))?
+        .arg(policy_word(alloc))?;
+    with_plan_words(alloc, command)?
         .arg(names_word(alloc))?
         .arg(tick_word(alloc))?
         .arg(output_word(alloc))
 }
 
 fn measure_word<'a>(alloc: Global) -> Result<Command<'a>, AllocError> {
-    Command::new(alloc, "measure")
+    let command = Command::new(alloc, "measure")
         .about("Write the numbers of a run on arrivals, or of a history")
         .after_long_help(help_texts::MEASURE)
         .arg(input_word(alloc))?
-        .arg(policy_word(alloc))?
+        .arg(policy_word(alloc))?;
+    with_plan_words(alloc, command)?
         .arg(csv_word(alloc))?
         .arg(names_word(alloc))?
         .arg(tick_word(alloc))?
@@ -301,12 +307,13 @@ pub fn flag_word<'a>(alloc: Global, name: &'a str, help: &'a str) -> Arg<'a> {
 }
 
 fn compare_word<'a>(alloc: Global) -> Result<Command<'a>, AllocError> {
-    Command::new(alloc, "compare")
+    let command = Command::new(alloc, "compare")
         .about("Run several tables on the same arrivals, and compare their numbers")
         .after_long_help(help_texts::COMPARE)
         .arg(tables_word(alloc))?
         .arg(arrivals_word(alloc))?
-        .arg(policies_word(alloc))?
+        .arg(policies_word(alloc))?;
+    with_plan_words(alloc, command)?
         .arg(vary_word(alloc))?
         .arg(csv_word(alloc))?
         .arg(names_word(alloc))?
@@ -391,6 +398,7 @@ fn request_of<'a>(alloc: Global, matches: &ArgMatches<'a>) -> Result<Request<'a>
     Ok(Request {
         job,
         policies: policies_asked(alloc, own)?,
+        plan: plan_asked(own),
         labels: LabelWords {
             names: own.get_str("names"),
             tick: own.get_str("tick"),
@@ -407,6 +415,7 @@ impl<'a> Request<'a> {
         Request {
             job: Job::Help,
             policies: Vec::new(alloc),
+            plan: None,
             labels: LabelWords {
                 names: None,
                 tick: None,

@@ -49,6 +49,8 @@ Output: trace events (JSON), which https://ui.perfetto.dev and
 chrome://tracing open. For arrivals they show the run that
 `caladan_sim lockstep` makes: its history, each request from arrival to answer,
 the turns that worked at it, and arrows from the request to these turns.
+With --pace, --beside, --memory or --figure there must be arrivals, and their
+run is like a machine: docs/VIEWER.md, \"Runs like a machine\".
 Exit status: 0 done, 2 rejected input, 3 memory or output was refused.",
     "caladan_view timeline > timeline.json",
     "\
@@ -75,6 +77,8 @@ a ban when its request was begun; the first pass and the last, and their clocks.
 A stretch holds after its first pass, until its last; the last is empty if the
 stretch goes on at the end. First come the spans that ended, in that order, then
 those that go on, by core; then the bans, in the same way.
+With --pace, --beside, --memory or --figure there must be arrivals, and their
+run is like a machine: docs/VIEWER.md, \"Runs like a machine\".
 Exit status: 0 done, 2 rejected input, 3 memory or output was refused.",
     "caladan_view spans",
     "\
@@ -104,6 +108,8 @@ bandwidth figure and the table's limit; the task, its delay as the pass finds
 it, and whether that is above its threshold (1) or not (0); after the actions of
 the pass the cores that it holds, that it is leaving, and both together, and the
 cap of a best-effort task; and its limit.
+With --pace, --beside, --memory or --figure there must be arrivals, and their
+run is like a machine: docs/VIEWER.md, \"Runs like a machine\".
 Exit status: 0 done, 2 rejected input, 3 memory or output was refused.",
     "caladan_view series",
     "\
@@ -134,6 +140,8 @@ its task, the thread to which it comes, its clock of arrival, and its turns of
 work. If it was answered: by which thread, when it was begun and when answered,
 and for how long it was worked at. If it is pending: for how long, by the run's
 last clock. `measure --help` says when a request is begun and answered.
+With --pace, --beside, --memory or --figure the run is like a machine:
+docs/VIEWER.md, \"Runs like a machine\".
 Exit status: 0 done, 2 rejected input, 3 memory or output was refused.",
     "caladan_view requests",
     "\
@@ -189,6 +197,8 @@ which it was congested. `machine` has the shares of all core time: held, being
 left, banned with nobody on the core, and free; the share of the clock with the
 bandwidth figure over its limit; and the clocks of the passes and of the turns.
 A state lasts from its pass's clock to the next pass's.
+With --pace, --beside, --memory or --figure there must be arrivals, and their
+run is like a machine: docs/VIEWER.md, \"Runs like a machine\".
 Exit status: 0 done, 2 rejected input, 3 memory or output was refused.",
     "caladan_view measure",
     "\
@@ -283,6 +293,8 @@ The arrivals are for the first table, or for the one that is varied. In each
 other table a request stays with its task, on the thread of the same number
 among the task's, modulo the limit. --write-input N writes table N and the
 arrivals that it gets, which `measure` reads.
+With --pace, --beside, --memory or --figure the runs are like a machine:
+docs/VIEWER.md, \"Runs like a machine\".
 Exit status: 0 done, 2 rejected input, 3 memory or output was refused. A table
 that is refused, or that the arrivals do not fit, is named by its number, from
 0, or by its value.",
@@ -468,6 +480,8 @@ that table; with several policies a row for each.
 --slo is an objective for a task: p50, p90, p99, p99.9 or max, in ticks. It is
 undecided where the request at its rank is pending for less, and missed where
 some that came before the end of the window are left out.
+With --pace, --beside, --memory or --figure the runs are like a machine:
+docs/VIEWER.md, \"Runs like a machine\".
 Exit status: 0 done, 1 a run of the last load misses the objective, or leaves it
 undecided, 2 rejected input or a bad option, which is named, 3 memory or output
 was refused.",

@@ -5,6 +5,7 @@ use crate::command_words::command_line::{
     csv_word, input_word, names_word, number_form_of, output_word, tick_word, value_word, vary_word,
 };
 use crate::command_words::help_texts;
+use crate::command_words::plan_words::{plan_asked, with_plan_words};
 use crate::command_words::policy_words::policies_word;
 use cal_sweep::SweepWords;
 use clap::{Arg, ArgMatches, Command};
@@ -18,8 +19,8 @@ pub fn sweep_word<'a>(alloc: Global) -> Result<Command<'a>, AllocError> {
         .arg(input_word(alloc))?
         .arg(task_word(alloc).default_value("0"))?
         .arg(load_word(alloc).help("Rising loads, such as 0.1,0.3,..,0.9"))?;
-    with_run_words(alloc, command)?
-        .arg(policies_word(alloc))?
+    let command = with_run_words(alloc, command)?.arg(policies_word(alloc))?;
+    with_plan_words(alloc, command)?
         .arg(vary_word(alloc))?
         .arg(slo_word(alloc))?
         .arg(from_word(alloc))?
@@ -56,6 +57,7 @@ pub fn sweep_words<'a>(
         slo: matches.get_str("slo"),
         from: matches.get_str("from"),
         to: matches.get_str("to"),
+        plan: plan_asked(matches),
         form: number_form_of(matches.get_flag("csv")),
     })
 }

@@ -40,11 +40,11 @@ fn write_comparison<'a, W: Write>(
 ) -> Result<(), ComparisonFault> {
     let (alloc, labels) = (input.alloc, input.labels);
     let bytes = input.bytes();
-    let policies = input.policies;
     let compared = ComparedInput {
         bytes,
         variation,
-        policies,
+        policies: input.policies,
+        plan: input.plan,
     };
     match form {
         Form::Numbers(form) => compare(alloc, compared, NumberStyle { labels, form }, output),

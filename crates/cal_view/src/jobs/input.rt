@@ -1,12 +1,13 @@
 //! What a job is done on.
 
+use cal_paced::Plan;
 use cal_policy::Policy;
 use cal_tables::Labels;
 use cal_why::RefusedInput;
 use std::alloc::Global;
 
-/// An input that was read to its end, by which policies its runs are made, decided and audited, and
-/// what its tasks and clock ticks are called.
+/// An input that was read to its end, by which policies its runs are made, decided and audited, by
+/// which plan, and what its tasks and clock ticks are called.
 #[derive(Clone, Copy)]
 pub struct JobInput<'a> {
     /// What a job takes memory from.
@@ -15,6 +16,8 @@ pub struct JobInput<'a> {
     pub read: RefusedInput<'a>,
     /// The policies.
     pub policies: &'a [Policy],
+    /// The plan of its runs; without it they are in lockstep.
+    pub plan: Option<Plan>,
     /// What its tasks and clock ticks are called.
     pub labels: Labels<'a>,
 }

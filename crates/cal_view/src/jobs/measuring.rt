@@ -1,9 +1,10 @@
 //! The numbers of a run, or of a recorded history.
 
 use crate::jobs::input::JobInput;
+use crate::jobs::pacing::end_paced;
 use cal_input::RunFault;
 use cal_policy::Verdict;
-use cal_tables::{NumberForm, NumberStyle, measure};
+use cal_tables::{NumberForm, NumberStyle, measure, measure_paced};
 use std::io::Write;
 
 /// Writes the numbers of an input, and answers the exit status: of a history that is not legal
@@ -18,7 +19,12 @@ pub fn answer_measure<W: Write, E: Write>(
         labels: input.labels,
         form,
     };
-    match measure(input.alloc, input.policy(), input.bytes(), style, output)? {
+    let (alloc, policy, bytes) = (input.alloc, input.policy(), input.bytes());
+    if let Some(plan) = &input.plan {
+        let wrote = measure_paced(alloc, policy, plan, bytes, style, output);
+        return end_paced(wrote, errors);
+    }
+    match measure(alloc, policy, bytes, style, output)? {
         Verdict::Legal => Ok(0),
         Verdict::Illegal { pass } => {
             let _ = writeln!(errors, "caladan_view: illegal pass {pass}");

@@ -14,7 +14,7 @@ loop-place-preserved g c =
     let many : length before ≡ i = c.loop-place.invariant.many in
     record {
       many = let e = ap (λ l. length l) more in omega (arith, e, many, length-append before (now ∷ []));
-      each = subst (λ l. EachIsOf (λ policy comparison. IsComparisonOf (g.R.OfRun.tells policy) input.bytes.now input.variation comparison.tables.items comparison.runs.items) policies l) (sym more)
-          (one_more (λ policy comparison. IsComparisonOf (g.R.OfRun.tells policy) input.bytes.now input.variation comparison.tables.items comparison.runs.items) policies before i _ now many
+      each = subst (λ l. EachIsOf (λ policy comparison. IsComparisonOf (g.R.OfRun.tells input.plan policy) input.bytes.now input.variation comparison.tables.items comparison.runs.items) policies l) (sym more)
+          (one_more (λ policy comparison. IsComparisonOf (g.R.OfRun.tells input.plan policy) input.bytes.now input.variation comparison.tables.items comparison.runs.items) policies before i _ now many
           c.policy_at-policy.ensures c.in_ok-runs.ensures c.loop-place.invariant.each);
     }

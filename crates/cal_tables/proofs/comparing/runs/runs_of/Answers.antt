@@ -13,7 +13,7 @@ loop-place-preserved g c =
     let at : slice_get from.tables.items c.loop-place.place ≡ Some c.table_at-table.result.now = rw c.as_slice.ensures.value at c.table_at-table.ensures in
     record {
       many = let e = ap (λ l. length l) more in omega (arith, e, many, length-append before (now ∷ []));
-      each = subst (λ l. EachIsOf (λ table run. IsOfMoved (g.R.OfRun.tells c.args.policy) from.given from.arrivals table run) from.tables.items l) (sym more)
-          (one_more (λ table run. IsOfMoved (g.R.OfRun.tells c.args.policy) from.given from.arrivals table run) from.tables.items before c.loop-place.place _ now many
+      each = subst (λ l. EachIsOf (λ table run. IsOfMoved (g.R.OfRun.tells c.args.plan c.args.policy) from.given from.arrivals table run) from.tables.items l) (sym more)
+          (one_more (λ table run. IsOfMoved (g.R.OfRun.tells c.args.plan c.args.policy) from.given from.arrivals table run) from.tables.items before c.loop-place.place _ now many
           at c.in_ok-run.ensures c.loop-place.invariant.each);
     }
