@@ -1,11 +1,12 @@
 -- The bits of a set of cores.
-use Rattle.std.proofs.Common.{◌≡◌, ◌+◌, ◌<◌, ◌≤◌, ◌-◌, ◌*◌, ◌/◌, ◌%◌, ◌^◌, ◌==◌, ◌&&◌, ◌||◌, ℕ, suc, true, false, not, ◌⊎◌, inl, inr, refl, sym, ◌∙◌, arith}
+use Rattle.std.proofs.Common.{◌≡◌, ◌+◌, ◌<◌, ◌≤◌, ◌-◌, ◌*◌, ◌/◌, ◌%◌, ◌^◌, ◌==◌, ◌&&◌, ◌||◌, ℕ, zero, suc, true, false, not, if◌then◌else◌, count_ones, ◌⊎◌, inl, inr, refl, sym, ◌∙◌, arith}
 use Rattle.std.specs.Int.{bit_at, bit_not, w128, leading_zeros, trailing_zeros}
+use Rattle.std.specs.Int.Count.{ones}
 use Rattle.std.specs.Int.RustNames.{bit_and, bit_or}
 use Rattle.std.proofs.lemmas.Bool.{cases_eq, cases_lt, eq-eqb, ne_eqb}
-use Rattle.std.proofs.lemmas.Nat.{leading_top, shr-shr, shr_le, and_le_l, le-div, div_below, pow_pos}
-use Rattle.std.proofs.Math.Nat.{pow-suc}
-use Rattle.std.proofs.lemmas.Nat.Bits.{bit_at-zero, shr_and_one, bit_at_set_same, bit_at_set_other, bit_at_clear_same, bit_at_clear_other, bit_at-trailing_zeros, bit_at_above}
+use Rattle.std.proofs.lemmas.Nat.{leading_top, shr-shr, shr_le, and_le_l, le-div, div_below, mod_below, pow_pos, mod-pow-add, ones_cat}
+use Rattle.std.proofs.Math.Nat.{pow-suc, mul-div_left, mul-mod_left, mod-one}
+use Rattle.std.proofs.lemmas.Nat.Bits.{bit_at-zero, shr_and_one, bit_at_set_same, bit_at_set_other, bit_at_clear_same, bit_at_clear_other, bit_at-trailing_zeros, bit_at_above, bit_at-lt}
 
 pub none_in_zero : (c : ℕ) → (bit_at 0 c == 1) ≡ false
 none_in_zero c = rw (bit_at-zero c) refl
@@ -57,7 +58,7 @@ shifted n k c from =
     rw (shr-shr n k (c - k), whole) refl
 
 pub none_from : (n k c : ℕ) → n / 2 ^ k ≡ 0 → k ≤ c → (bit_at n c == 1) ≡ false
-none_from n k c zero from = rw (shifted n k c from, zero, bit_at-zero (c - k)) refl
+none_from n k c none from = rw (shifted n k c from, none, bit_at-zero (c - k)) refl
 
 -- no bit from 128 on
 pub none_beyond : (n c : ℕ) → n < 2 ^ 128 → 128 ≤ c → (bit_at n c == 1) ≡ false
@@ -77,3 +78,34 @@ lowest_from n k some fits =
     below : (place : ℕ) → bit_at n place ≡ 1 → (place < 128) ⊎ (128 ≤ place) → place < 128
     below place one (inl lt) = lt
     below place one (inr beyond) = omega (arith, bit_at_above n 128 place fits beyond, one)
+
+-- the 1s of one bit
+ones_of_bit : (b : ℕ) → b < 2 → count_ones b ≡ (if b == 1 then 1 else 0)
+unfolding ones
+ones_of_bit zero lt = refl
+ones_of_bit (suc zero) lt = refl
+ones_of_bit (suc (suc b)) lt = omega (arith, lt)
+
+-- one bit more
+pub ones_one_more : (n k : ℕ) → count_ones (n % 2 ^ suc k) ≡ count_ones (n % 2 ^ k) + (if bit_at n k == 1 then 1 else 0)
+ones_one_more n k =
+    let low = n % 2 ^ k in
+    let next : suc k ≡ 1 + k = omega arith in
+    let split : n % 2 ^ suc k ≡ bit_at n k * 2 ^ k + low = rw next (mod-pow-add n 1 k) in
+    let cat : count_ones (bit_at n k * 2 ^ k + low) ≡ count_ones (bit_at n k) + count_ones low = ones_cat k (bit_at n k) low (mod_below n (2 ^ k) (pow_pos k)) in
+    let one : count_ones (bit_at n k) ≡ (if bit_at n k == 1 then 1 else 0) = ones_of_bit (bit_at n k) (bit_at-lt n k) in
+    rw (split, cat, one) (omega arith)
+
+-- the 1s of what a shift leaves that drops the bits from k on
+pub ones_shifted : (n k s w : ℕ) → k + s ≡ w → count_ones (n * 2 ^ s % 2 ^ w) ≡ count_ones (n % 2 ^ k)
+ones_shifted n k s w whole =
+    let none : n * 2 ^ s % 2 ^ s ≡ 0 = mul-mod_left n (2 ^ s) in
+    let back : n * 2 ^ s / 2 ^ s ≡ n = mul-div_left n (pow_pos s) in
+    let split : n * 2 ^ s % 2 ^ (k + s) ≡ (n % 2 ^ k) * 2 ^ s + 0 = mod-pow-add (n * 2 ^ s) k s ∙ rw (none, back) refl in
+    let cat : count_ones ((n % 2 ^ k) * 2 ^ s + 0) ≡ count_ones (n % 2 ^ k) + count_ones 0 = ones_cat s (n % 2 ^ k) 0 (pow_pos s) in
+    let zero_has : count_ones 0 ≡ 0 = ones_of_bit 0 (omega arith) in
+    rw (sym whole, split, cat, zero_has) (omega arith)
+
+-- among no bits there is none
+pub ones_of_none : (n : ℕ) → count_ones (n % 2 ^ 0) ≡ 0
+ones_of_none n = rw (mod-one n) (ones_of_bit 0 (omega arith))

@@ -1,5 +1,5 @@
 -- Definitions over a set of cores.
-use Rattle.std.specs.Prelude.{◌≡◌, ◌<◌, ◌≤◌, ◌==◌, ℕ, Bool, true, false}
+use Rattle.std.specs.Prelude.{◌≡◌, ◌<◌, ◌≤◌, ◌==◌, ◌+◌, ℕ, zero, suc, Bool, true, false, if◌then◌else◌}
 use Rattle.std.specs.Int.{bit_at}
 use Rattle.cal_machine.specs.declared.core_set.CoreSet.{CoreSet}
 use Rattle.cal_machine.specs.declared.machine.TheConstants.{MOST_CORES}
@@ -7,6 +7,11 @@ use Rattle.cal_machine.specs.declared.machine.TheConstants.{MOST_CORES}
 -- Whether the set has a core.
 unfoldable pub has : CoreSet → ℕ → Bool
 has set core = bit_at set.bits core == 1
+
+-- how many cores below n the set has
+unfoldable pub count_below : CoreSet → ℕ → ℕ
+count_below set zero = 0
+count_below set (suc n) = count_below set n + (if has set n then 1 else 0)
 
 -- This core is in the set, and none below it is.
 pub record IsLeastOf (set : CoreSet) (core : ℕ) : Type 0 where

@@ -1,7 +1,7 @@
 //! A set of cores.
 
 ghost use Rattle.std.specs.Prelude.{◌≡◌, ◌<◌, ◌≤◌, ◌&&◌, ◌||◌, ◌==◌, ℕ, false, not, IfSome, IfNone};
-ghost use Rattle.cal_machine.specs.CoreSet.{has, IsLeastOf, IsLeastFrom, IsGreatestOf};
+ghost use Rattle.cal_machine.specs.CoreSet.{has, count_below, IsLeastOf, IsLeastFrom, IsGreatestOf};
 
 use crate::machine::MOST_CORES;
 
@@ -83,5 +83,17 @@ impl CoreSet {
             return None;
         }
         Some((MOST_CORES - 1) as u8 - self.bits.leading_zeros() as u8)
+    }
+    /// How many cores of the set are below this one.
+    pub fn count_below(&self, end: u8) -> usize
+        requires { end ≤ MOST_CORES }
+        ensures { result ≡ count_below self.now end }
+    {
+        let bits = self.bits;
+        if end == 0 {
+            return 0;
+        }
+        let below = bits << (MOST_CORES as u8 - end);
+        below.count_ones() as usize
     }
 }

@@ -10,7 +10,6 @@ ghost use Rattle.cal_policy.specs.Setting.{so_far};
 ghost use Rattle.cal_policy.specs.State.{IsOfTable, Agrees};
 
 use crate::board::Board;
-use crate::board::core_sets::next_core;
 use crate::board::counts::booked_by;
 use crate::pass::Pass;
 
@@ -62,13 +61,8 @@ impl Pass<'_> {
         ensures { (x : List Action) → Agrees board.now x →
             result ≡ rules.open_cores self.now.config.now x }
     {
-        let mut count = 0;
-        let mut first = 0;
-        while let Some(core) = next_core(self.config, &board.open_cores.idle, first) {
-            count += 1;
-            first = core + 1;
-        }
-        count
+        let cores = self.config.machine().cores();
+        board.open_cores.idle.count_below(cores)
     }
 
     /// How many late threads of a task have a helper on its way; of a short task none counts.
