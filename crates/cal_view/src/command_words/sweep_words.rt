@@ -5,7 +5,7 @@ use crate::command_words::command_line::{
     csv_word, input_word, names_word, number_form_of, output_word, tick_word, value_word, vary_word,
 };
 use crate::command_words::help_texts;
-use crate::command_words::plan_words::{plan_asked, with_plan_words};
+use crate::command_words::plan_words::{plan_asked, with_more_plan_words};
 use crate::command_words::policy_words::policies_word;
 use cal_sweep::SweepWords;
 use clap::{Arg, ArgMatches, Command};
@@ -20,7 +20,7 @@ pub fn sweep_word<'a>(alloc: Global) -> Result<Command<'a>, AllocError> {
         .arg(task_word(alloc).default_value("0"))?
         .arg(load_word(alloc).help("Rising loads, such as 0.1,0.3,..,0.9"))?;
     let command = with_run_words(alloc, command)?.arg(policies_word(alloc))?;
-    with_plan_words(alloc, command)?
+    with_more_plan_words(alloc, command)?
         .arg(vary_word(alloc))?
         .arg(slo_word(alloc))?
         .arg(from_word(alloc))?
