@@ -3,6 +3,7 @@ pub mod Clocks
 pub mod Comings
 pub mod Counts
 pub mod Known
+pub mod Logs
 pub mod Made
 pub mod Refused
 pub mod Services

@@ -129,7 +129,11 @@ pub struct Coming {
 
 impl Coming {
     /// Nothing, for so many threads that make so many turns each.
-    fn new(alloc: Global, threads: usize, turns: u64) -> Result<Coming, AllocError>
+    pub(crate) fn new(
+        alloc: Global,
+        threads: usize,
+        turns: u64,
+    ) -> Result<Coming, AllocError>
         ensures is { IfOk result IsComing }
         ensures threads { IfOk result (λ coming. length coming.queues.items ≡ threads) }
         ensures turns { IfOk result (λ coming. coming.turns ≡ turns) }
@@ -187,7 +191,7 @@ impl Coming {
 
     /// Gives a request that came to a turn to a thread: before that turn or the first after it that
     /// is free.
-    fn give(&mut self, thread: usize, slot: Slot) -> Result<(), AllocError>
+    pub(crate) fn give(&mut self, thread: usize, slot: Slot) -> Result<(), AllocError>
         requires is { IsComing self.old }
         requires thread { thread < length self.old.queues.items }
         requires work { IsWork slot.work }
