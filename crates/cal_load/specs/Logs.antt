@@ -1,11 +1,14 @@
 -- The requests of a log, and what they make.
-use Rattle.std.specs.Prelude.{◌≡◌, ◌<◌, ◌≤◌, ◌+◌, ◌==◌, nat_lt, max, ℕ, List, [], ◌∷◌, length}
-use Rattle.std.specs.Prelude.{map, take, slice_get, if◌then◌else◌, Option, Some, None}
+use Rattle.std.specs.Prelude.{◌≡◌, ◌<◌, ◌≤◌, ◌+◌, ◌==◌, max, ℕ, List, [], ◌∷◌, length, All, map}
+use Rattle.std.specs.Prelude.{take, slice_get, if◌then◌else◌, Option, Some, None}
 use Rattle.std.specs.List.{filter, flat_map, sum_by}
 use Rattle.core.specs.Int.{div_ceil}
 use Rattle.cal_came.specs.Came.{AreCameOf}
 use Rattle.cal_load.specs.Built.{AreBuilt}
+use Rattle.cal_load.specs.Comings.{IsQueue}
+use Rattle.cal_load.specs.Giving.{placed, turn_for, out_in}
 use Rattle.cal_load.specs.Services.{IsWork}
+use Rattle.cal_load.specs.Taken.{all_on, taken_by}
 use Rattle.cal_load.specs.declared.log.LogRow.{LogRow}
 use Rattle.cal_load.specs.declared.log.length.LogScale.{LogScale}
 use Rattle.cal_load.specs.declared.made.Count.{Count}
@@ -52,14 +55,14 @@ pub record Given : Type 0 where
   pub thread : ℕ
   pub turn : Option ℕ
 
--- a request that comes before a turn
-abbrev pub slot_at : LogRow → Option ℕ → List Slot
-slot_at row None = []
-slot_at row (Some turn) = record { turn = turn; work = row.work; came_to = row.turn } ∷ []
+-- a request of a log, as it comes to a thread
+abbrev pub slot_of : LogRow → Slot
+slot_of row = record { turn = row.turn; work = row.work; came_to = row.turn }
 
 -- what comes to a thread of a request that was given
 abbrev pub slot_on : ℕ → Given → List Slot
-slot_on thread given = if given.thread == thread then slot_at given.row given.turn else []
+slot_on thread given =
+    if given.thread == thread then placed (slot_of given.row) given.turn else []
 
 -- what comes to a thread, of requests that were given one after the other
 abbrev pub slots_on : ℕ → List Given → List Slot
@@ -73,17 +76,6 @@ after_last (Some slot) = slot.turn + 1
 -- the first turn of a thread that is free after these
 abbrev pub free_after : ℕ → List Given → ℕ
 free_after thread given = after_last (last_in (slots_on thread given))
-
--- of so many turns, the one that a request comes before: that in which its time falls, or the first
--- one after it that is free
-abbrev pub turn_for : ℕ → ℕ → ℕ → Option ℕ
-turn_for turns turn free =
-    if nat_lt (max turn free) turns then Some (max turn free) else None
-
--- one more, where a request found no turn
-abbrev pub out_in : Option ℕ → ℕ
-out_in None = 1
-out_in (Some turn) = 0
 
 -- requests of a log that were given, in their order, to so many threads in so many turns
 pub record AreDealt (threads turns : ℕ) (rows : List LogRow) (given : List Given) : Type 0 where
@@ -110,19 +102,8 @@ pub record IsGivenTo (threads turns : ℕ) (rows : List LogRow) (coming : Coming
   pub given : List Given
   pub dealt : AreDealt threads turns rows given
   pub of : IsOf given coming
-
--- before which turn a request comes, and how many turns it takes
-abbrev pub taken_by : Slot → ℕ × ℕ
-taken_by slot = (slot.turn, slot.work)
-
--- the same of an arrival, where it is for this thread
-abbrev pub taken_on : ℕ → Arrival → List (ℕ × ℕ)
-taken_on thread arrival =
-    if arrival.thread == thread then (arrival.turn, arrival.request.work) ∷ [] else []
-
--- the same of all arrivals that are for this thread, in their order
-abbrev pub all_on : ℕ → List Arrival → List (ℕ × ℕ)
-all_on thread requests = flat_map (taken_on thread) requests
+  pub queues : length coming.queues.items ≡ threads
+  pub all : All (IsQueue turns) coming.queues.items
 
 -- what comes to a task by a log: each of its requests was given, in their order, to one of its
 -- threads; these come to it, and all that were left out are counted

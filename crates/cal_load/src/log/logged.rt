@@ -46,19 +46,6 @@ fn count_in(task: usize, coming: &Coming) -> Count
     }
 }
 
-/// Puts what comes to the threads of a task, of which this is the first, and counts it.
-fn put_task(
-    gathered: &mut Gathered,
-    task: usize,
-    first: usize,
-    coming: &Coming,
-) -> Result<(), AllocError> {
-    put_queues(&mut gathered.requests, first, coming.queues.as_slice())?;
-    put_turns(&mut gathered.came_to, coming.queues.as_slice())?;
-    gathered.counts.push(count_in(task, coming))?;
-    Ok(())
-}
-
 /// What a log gives to each task of a table.
 fn all_of_log(
     alloc: Global,
@@ -75,7 +62,10 @@ fn all_of_log(
         let (first, threads) = config.threads_of(task);
         let mut rng = generator(SEED, task);
         let coming = come_of(alloc, &mut rng, rows, task, threads, turns)?;
-        put_task(&mut gathered, task, first, &coming)?;
+        let queues = coming.queues.as_slice();
+        put_queues(&mut gathered.requests, first, queues)?;
+        put_turns(&mut gathered.came_to, queues)?;
+        gathered.counts.push(count_in(task, &coming))?;
     }
     Ok(gathered)
 }
