@@ -2,7 +2,10 @@ pub mod Built
 pub mod Clocks
 pub mod Comings
 pub mod Counts
+pub mod Giving
 pub mod Known
+pub mod Logs
 pub mod Made
 pub mod Refused
 pub mod Services
+pub mod Taken

@@ -3,6 +3,7 @@
 ghost use Rattle.std.specs.Prelude.{◌≡◌, ◌<◌, ◌≤◌, ℕ, IfOk, Some, length, map, slice_get};
 ghost use Rattle.cal_came.specs.declared.came.Came.{Came as CameOf};
 ghost use Rattle.cal_load.specs.Clocks.{IsTiming, turn_clock};
+ghost use Rattle.cal_load.specs.declared.clocks.Timing.{Timing};
 ghost use Rattle.cal_trace.specs.declared.arrivals.Arrival.{Arrival as ArrivalOf};
 
 use crate::clocks::{Timing, clock_at};
@@ -65,4 +66,12 @@ pub fn came_of(
         came.push(one)?;
     }
     Ok(came)
+}
+
+/// The turn whose clock a request came at, by the ticks of a turn; 0 where there is no such turn.
+pub fn turn_of(ticks: u64, came: Came) -> u64
+    ensures { (timing : Timing) (turn : ℕ) → IsTiming timing → ticks ≡ timing.ticks →
+        came.clock ≡ turn_clock timing turn → result ≡ turn }
+{
+    came.clock.checked_div(ticks).unwrap_or(0).saturating_sub(1)
 }

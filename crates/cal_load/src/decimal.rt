@@ -1,4 +1,4 @@
-//! Numbers with a point, in thousandths.
+//! Numbers with a point, exactly.
 
 /// The number that some digits are; nothing where another letter stands among them, or none does.
 fn digits_of(word: &str) -> Option<u64> {
@@ -31,6 +31,34 @@ pub fn thousandths_of(word: &str) -> Option<u64> {
         Some((whole, part)) => {
             let whole = digits_of(whole)?.checked_mul(1000)?;
             whole.checked_add(part_of(part)?)
+        }
+    }
+}
+
+/// The power of ten that makes digits after a point billionths, by how many digits there are.
+fn power_after(digits: usize) -> Option<u64> {
+    match digits {
+        1 => Some(100_000_000),
+        2 => Some(10_000_000),
+        3 => Some(1_000_000),
+        4 => Some(100_000),
+        5 => Some(10_000),
+        6 => Some(1_000),
+        7 => Some(100),
+        8 => Some(10),
+        9 => Some(1),
+        _ => None,
+    }
+}
+
+/// A number in billionths: digits, and up to nine more after a point.
+pub fn billionths_of(word: &str) -> Option<u128> {
+    match word.split_once('.') {
+        None => u128::from(digits_of(word)?).checked_mul(1_000_000_000),
+        Some((whole, part)) => {
+            let whole = u128::from(digits_of(whole)?).checked_mul(1_000_000_000)?;
+            let part = digits_of(part)?.checked_mul(power_after(part.len())?)?;
+            whole.checked_add(u128::from(part))
         }
     }
 }

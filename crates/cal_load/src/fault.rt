@@ -28,6 +28,14 @@ pub enum Why {
     Several,
     /// More requests would come than arrivals are made of.
     TooMany(u64),
+    /// With a log, one task at most is named.
+    OneTask,
+    /// The standard input is the table already.
+    IsTheTable,
+    /// It is no unit of a log's numbers: `ns`, `us`, `ms` or `s`.
+    NotAUnit,
+    /// It is no length: a number above 0, with up to nine digits after the point, and a unit.
+    NotALength,
     /// It is no objective of the form `task.0.p99=65`.
     NotAnObjective,
     /// No requests come to the task of the objective.
@@ -72,6 +80,15 @@ shares, as 90%:1,10%:20",
             }
             Why::Several => f.write_str("one load is asked for, and not several"),
             Why::TooMany(most) => write!(f, "more than {most} requests would come"),
+            Why::OneTask => f.write_str("with --log one task at most is named"),
+            Why::IsTheTable => f.write_str(
+                "the standard input is the table: name the file of the table or of the log",
+            ),
+            Why::NotAUnit => f.write_str("a unit is ns, us, ms or s"),
+            Why::NotALength => f.write_str(
+                "a length is a number above 0, with up to nine digits after the point, and ns, \
+us, ms or s, as 10us",
+            ),
             Why::NotAnObjective => f.write_str(
                 "an objective is as task.0.p99=65: a task, p50, p90, p99, p99.9 or max, and ticks",
             ),

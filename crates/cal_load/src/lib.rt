@@ -1,8 +1,9 @@
-//! Arrivals that are made at random for a task table, from words: a load, the turns that requests
-//! take, how they come, and a seed. The same words give the same bytes.
+//! Arrivals that are made for a task table: at random from words, a load, the turns that requests
+//! take, how they come, and a seed; or of the requests of a log. The same words give the same bytes.
 //!
 //! That what is made are arrivals that fit the table, with as many requests as are counted, is
-//! proved. Which requests come, and when, is only tested.
+//! proved; of a log also which requests come, and before which turns. Which come by a load, and
+//! when, is only tested, and so is what a log's text says.
 #![tactic(auto)]
 
 mod asked;
@@ -11,6 +12,7 @@ mod comings;
 mod decimal;
 mod fault;
 mod loads;
+mod log;
 mod made;
 mod making;
 mod requests;
@@ -19,9 +21,14 @@ mod variate;
 
 pub use asked::{LoadWords, SteppedLoads, are_known, asked_loads, stepped_loads, word_at};
 pub use clocks::{MOST_TICKS, Timing};
+pub use comings::turn_of;
 pub use decimal::number_of;
 pub use fault::{LoadFault, Why, WordFault, refused};
 pub use loads::{MOST_LOAD, loads_of};
+pub use log::{
+    LogFault, LogRow, LogScale, LogTerms, LogWhy, RowFault, UNITS, logged_arrivals, read_log,
+    scale_of, turns_for,
+};
 pub use made::{ArrivalPlan, Count, MOST_REQUESTS, Made, made_arrivals};
 pub use making::{Pattern, TaskLoad, pattern_of};
 pub use service::{ServicePart, service_of};

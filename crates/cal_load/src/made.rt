@@ -3,10 +3,12 @@
 ghost use Rattle.std.specs.Prelude.{◌≡◌, ◌≢◌, ◌<◌, ◌≤◌, ◌+◌, ℕ, List, length, true, None};
 ghost use Rattle.std.specs.Prelude.{IfErr, IfOk, IfSome};
 ghost use Rattle.cal_machine.specs.Table.{Table};
-ghost use Rattle.cal_machine.specs.Tasks.{first_thread, task_at};
+ghost use Rattle.cal_machine.specs.Tasks.{first_thread, task_at, threads_in};
+ghost use Rattle.cal_load.specs.Built.{AreBuilt};
 ghost use Rattle.cal_load.specs.Clocks.{IsTiming};
 ghost use Rattle.cal_load.specs.Comings.{IsComingTo};
 ghost use Rattle.cal_load.specs.Counts.{came_in};
+ghost use Rattle.cal_load.specs.Logs.{AreArrivals};
 ghost use Rattle.cal_load.specs.Made.{AreGathered, HasLoad, IsMadeOf, IsTimedBy};
 ghost use Rattle.cal_load.specs.Refused.{IsRefusedFor};
 ghost use Rattle.cal_load.specs.declared.making.TaskLoad.{TaskLoad};
@@ -90,7 +92,7 @@ pub struct Made {
 
 /// The generator of a task: one that is by 2^128 numbers further for each task more, so that no
 /// task changes what comes to another.
-fn generator(seed: u64, task: usize) -> Xoshiro256PlusPlus {
+pub(crate) fn generator(seed: u64, task: usize) -> Xoshiro256PlusPlus {
     let mut rng = Xoshiro256PlusPlus::seed_from_u64(seed);
     for _ in 0..task {
         rng.jump();
@@ -100,11 +102,11 @@ fn generator(seed: u64, task: usize) -> Xoshiro256PlusPlus {
 
 /// What came to the tasks so far.
 #[derive(Drop)]
-struct Gathered {
-    requests: Vec<Arrival>,
+pub(crate) struct Gathered {
+    pub(crate) requests: Vec<Arrival>,
     /// The turn to which each of them came.
-    came_to: Vec<u64>,
-    counts: Vec<Count>,
+    pub(crate) came_to: Vec<u64>,
+    pub(crate) counts: Vec<Count>,
     /// How many requests came in all.
     came: u64,
 }
@@ -136,7 +138,7 @@ fn count_of(load: &TaskLoad, coming: &Coming) -> Count
 
 impl Gathered {
     /// Nothing yet.
-    fn new(alloc: Global) -> Gathered
+    pub(crate) fn new(alloc: Global) -> Gathered
         ensures { (table : Table) (loads : List TaskLoad) (turns : ℕ) →
             AreGathered table loads turns 0 result }
     {
@@ -169,6 +171,30 @@ impl Gathered {
         put_turns(&mut self.came_to, coming.queues.as_slice())?;
         self.counts.push(count_of(load, coming))?;
         Ok(true)
+    }
+
+    /// What came, as arrivals of this timing. Fails only when out of memory.
+    pub(crate) fn assembled(self, alloc: Global, timing: Timing) -> Result<Made, AllocError>
+        requires { IsTiming timing }
+        ensures whole { (table : Table) (thread : ℕ) →
+            AreBuilt (threads_in table.tasks) timing.turns thread self.requests.items →
+            IfOk result (AreArrivals table) }
+        ensures requests { IfOk result (λ made.
+            made.arrivals.requests ≡ self.requests.items) }
+        ensures counts { IfOk result (λ made. made.counts.items ≡ self.counts.items) }
+        ensures timed { IfOk result (λ made. IsTimedBy timing made.arrivals) }
+    {
+        let requests = self.requests.as_slice();
+        let came = came_of(alloc, timing, requests, self.came_to.as_slice())?;
+        Ok(Made {
+            arrivals: Arrivals {
+                passes: Listed::new(passes_of(alloc, timing)?),
+                turns: Listed::new(turns_of(alloc, timing)?),
+                requests: Listed::new(self.requests),
+            },
+            came,
+            counts: self.counts,
+        })
     }
 }
 
@@ -224,15 +250,5 @@ pub fn made_arrivals<'a>(
     let Some(gathered) = all_that_come(alloc, config, plan, timing.turns)? else {
         return Err(refused(FLAG, word, Why::TooMany(MOST_REQUESTS)));
     };
-    let requests = gathered.requests.as_slice();
-    let came = came_of(alloc, timing, requests, gathered.came_to.as_slice())?;
-    Ok(Made {
-        arrivals: Arrivals {
-            passes: Listed::new(passes_of(alloc, timing)?),
-            turns: Listed::new(turns_of(alloc, timing)?),
-            requests: Listed::new(gathered.requests),
-        },
-        came,
-        counts: gathered.counts,
-    })
+    Ok(gathered.assembled(alloc, timing)?)
 }

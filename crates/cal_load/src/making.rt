@@ -2,6 +2,7 @@
 
 ghost use Rattle.std.specs.Prelude.{◌≡◌, ◌<◌, ◌+◌, codes, length, IfErr, IfOk, IfSome, OnOk};
 ghost use Rattle.cal_load.specs.Comings.{IsComing, IsComingTo, IsQueue, taken_in};
+ghost use Rattle.cal_load.specs.Giving.{IsGiving, IsNothing, IsTaken};
 ghost use Rattle.cal_load.specs.Refused.{IsRefusedFor};
 ghost use Rattle.cal_load.specs.Services.{IsWork};
 
@@ -91,6 +92,7 @@ impl Queue {
             OnOk result (IsQueue turns self.new) }
         ensures many { IfOk result (λ taken. length self.new.slots.items ≡
             length self.old.slots.items + taken_in taken) }
+        ensures told { IfOk result (IsTaken turns slot self.old self.new) }
     {
         let turn = slot.turn.max(self.free);
         if turn >= turns {
@@ -129,10 +131,15 @@ pub struct Coming {
 
 impl Coming {
     /// Nothing, for so many threads that make so many turns each.
-    fn new(alloc: Global, threads: usize, turns: u64) -> Result<Coming, AllocError>
+    pub(crate) fn new(
+        alloc: Global,
+        threads: usize,
+        turns: u64,
+    ) -> Result<Coming, AllocError>
         ensures is { IfOk result IsComing }
         ensures threads { IfOk result (λ coming. length coming.queues.items ≡ threads) }
         ensures turns { IfOk result (λ coming. coming.turns ≡ turns) }
+        ensures nothing { IfOk result IsNothing }
     {
         let mut queues = Vec::new(alloc);
         for _k in 0..threads {
@@ -187,13 +194,14 @@ impl Coming {
 
     /// Gives a request that came to a turn to a thread: before that turn or the first after it that
     /// is free.
-    fn give(&mut self, thread: usize, slot: Slot) -> Result<(), AllocError>
+    pub(crate) fn give(&mut self, thread: usize, slot: Slot) -> Result<(), AllocError>
         requires is { IsComing self.old }
         requires thread { thread < length self.old.queues.items }
         requires work { IsWork slot.work }
         ensures is { OnOk result (IsComing self.new) }
         ensures threads { length self.new.queues.items ≡ length self.old.queues.items }
         ensures turns { self.new.turns ≡ self.old.turns }
+        ensures told { OnOk result (IsGiving thread slot self.old self.new) }
     {
         let taken = self.queues[thread].take(slot, self.turns)?;
         self.came = self.came.saturating_add(1);

@@ -156,9 +156,9 @@ impl<'h, 'a, H: Files + Threads + Sync> ProgramRun<'h, 'a, H> {
         };
         let mut file = Noted::new(file);
         match self.answer_job(&mut *input, &mut file, errors) {
-            Ok(2) => {
+            Ok(status) if status > 1 => {
                 file.inner().remove(self.rt);
-                Ok(2)
+                Ok(status)
             }
             Ok(status) => match file.inner().keep(self.rt) {
                 Ok(()) => Ok(status),
@@ -230,8 +230,13 @@ impl<'h, 'a, H: Files + Threads + Sync> ProgramRun<'h, 'a, H> {
         match &request.job {
             Job::OfInput { asked } => self.look(*asked, labels, reader, output, errors),
             Job::Arrivals { asked } => {
-                let arriving = Arriving { alloc, asked };
-                arriving.answer_arrivals(reader, output, errors)
+                let arriving = Arriving {
+                    alloc,
+                    asked,
+                    names: names.as_slice(),
+                    is_named: request.input.is_some(),
+                };
+                arriving.answer_arrivals(self.rt, reader, output, errors)
             }
             Job::Sweep { asked } => {
                 let sweeping = Sweeping {

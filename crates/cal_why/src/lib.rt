@@ -23,3 +23,4 @@ pub use grammar::TraceKind;
 pub use running::run_explained;
 pub use separator::is_table_alone;
 pub use table::{keys_wanted, value_wanted};
+pub use trace::place_of_field;

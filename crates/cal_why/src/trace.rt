@@ -88,6 +88,24 @@ pub fn tell_trace(
     }
 }
 
+/// Where a field of a row of a text begins, both counted as `csv` gives them, the row from 1 and the
+/// field from 0: a line that begins with two blanks and ends in a line feed, with what stands there.
+/// Fails only when out of memory.
+pub fn place_of_field(
+    alloc: Global,
+    text: &[u8],
+    row: u64,
+    field: usize,
+) -> Result<String, AllocError> {
+    let mut rows = Rows::open(alloc, text, 0);
+    for _ in 0..row {
+        rows.step()?;
+    }
+    let mut told = String::new(alloc);
+    tell_place(&mut told, text, rows.field_start(field))?;
+    Ok(told)
+}
+
 /// The row with the fault, where the trace has a header.
 fn case_of<'a>(
     alloc: Global,

@@ -4,6 +4,7 @@ use crate::command_words::command_line::{
     all_words, flag_word, input_word, number_word, output_word, table_word, value_word,
 };
 use crate::command_words::help_texts;
+use crate::command_words::log_words::{LogWords, came_word, log_words, with_log_words};
 use cal_load::{LoadWords, MOST_TICKS, Timing};
 use cal_trace::MOST_TURNS;
 use clap::{Arg, ArgAction, ArgMatches, Command};
@@ -25,6 +26,10 @@ pub enum ArrivalForm {
 pub struct ArrivalWords<'a> {
     /// What comes to which tasks.
     pub load: LoadWords<'a>,
+    /// The log that it is made of, in place of a load.
+    pub log: Option<LogWords<'a>>,
+    /// The file for when each request came.
+    pub came: Option<&'a str>,
     /// As what it is written.
     pub form: ArrivalForm,
 }
@@ -32,15 +37,24 @@ pub struct ArrivalWords<'a> {
 /// The subcommand with its options.
 pub fn arrival_word<'a>(alloc: Global) -> Result<Command<'a>, AllocError> {
     let command = Command::new(alloc, "arrivals")
-        .about("Make random arrivals of a given load")
+        .about("Make random arrivals of a given load, or arrivals of a log")
         .after_long_help(help_texts::ARRIVALS)
         .arg(input_word(alloc))?
-        .arg(task_word(alloc).required(true))?
-        .arg(load_word(alloc).help("The work that comes, over its turns, such as 0.7"))?;
-    with_run_words(alloc, command)?
+        .arg(task_word(alloc).required_unless_present("log")?)?
+        .arg(own_load_word(alloc)?)?;
+    let command = with_run_words(alloc, command)?;
+    with_log_words(alloc, command)?
+        .arg(came_word(alloc))?
         .arg(table_word(alloc))?
         .arg(summary_word(alloc)?)?
         .arg(output_word(alloc))
+}
+
+fn own_load_word<'a>(alloc: Global) -> Result<Arg<'a>, AllocError> {
+    load_word(alloc)
+        .help("The work that comes, over its turns, such as 0.7")
+        .required(false)
+        .required_unless_present("log")
 }
 
 /// The options of requests and of a run, after those of tasks and loads.
@@ -114,6 +128,8 @@ pub fn arrival_words<'a>(
 ) -> Result<ArrivalWords<'a>, AllocError> {
     Ok(ArrivalWords {
         load: load_words(alloc, matches)?,
+        log: log_words(matches),
+        came: matches.get_str("came"),
         form: form_of(matches.get_flag("table"), matches.get_flag("summary")),
     })
 }

@@ -439,6 +439,15 @@ request before a turn: a second one comes before its next free turn. With
 several tasks give --load, --service and --pattern once, or once for each
 --task, in the same order. The arrivals of a task depend on its number, its
 limit, its own options, the turns and the seed.
+With --log the requests are those of a file: CSV with a header that names the
+columns time and service, in the unit of --unit, rows in order of time, and
+maybe task, a number or one of --names; else all are of --task, or of task 0. A
+request comes to the turn in which its time falls, counted from the first
+row's, takes its service in turns, rounded up, and comes to a random thread, as
+above. Without --turns the run ends when the longest request can be served
+after the last came. FILE may be - if the table is a file by name.
+--came also writes CSV to a file: the id of each request, and the turn to which
+it came.
 With --summary, for each task: how many requests came, how many of these stand
 before a later turn than they came to, how many found no turn and are left out,
 and the load of the others.

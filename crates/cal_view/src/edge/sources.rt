@@ -46,7 +46,11 @@ fn is_one_table(text: &[u8]) -> bool {
 }
 
 /// All bytes of the file of this name.
-fn read_named<'a, H: Files>(rt: &H, alloc: Global, name: &'a str) -> Result<Vec<u8>, Failure<'a>> {
+pub fn read_named<'a, H: Files>(
+    rt: &H,
+    alloc: Global,
+    name: &'a str,
+) -> Result<Vec<u8>, Failure<'a>> {
     let mut file = Noted::new(open_named(rt, name)?);
     match read_input(alloc, &mut file) {
         Ok(text) => Ok(text),

@@ -1,58 +1,28 @@
 //! Arrivals made for a task table.
 
+mod came_file;
+mod of_log;
 mod summary;
+mod unmade;
 
 ghost use Rattle.std.specs.Prelude.{◌≡◌, ◌≢◌, IfErr, IfOk};
 
 use crate::command_words::arrival_words::{ArrivalForm, ArrivalWords};
+use crate::jobs::arriving::came_file::{came_text, write_came};
+use crate::jobs::arriving::of_log::AskedLog;
 use crate::jobs::arriving::summary::summary_of;
-use crate::refusing::{end_refusal, refuse_word, table_alone};
+use crate::jobs::arriving::unmade::Unmade;
+use crate::refusing::refuse_word;
 use cal_input::{INPUT_LIMIT, RunFault, read_input};
 use cal_load::{
-    ArrivalPlan, LoadFault, Made, TaskLoad, WordFault, are_known, asked_loads, made_arrivals,
-    word_at,
+    ArrivalPlan, LoadFault, Made, TaskLoad, are_known, asked_loads, made_arrivals, word_at,
 };
-use cal_machine::{Config, ConfigFault};
+use cal_machine::Config;
 use cal_tables::table_part;
 use cal_trace::{Arrivals, write_arrivals};
 use std::alloc::{AllocError, Global};
 use std::io::{Read, Write};
-
-/// Why no arrivals were made.
-#[derive(Clone, Copy, Debug, PartialEq, Eq)]
-enum Unmade<'a> {
-    /// A word is refused.
-    Word(WordFault<'a>),
-    /// The input is refused, or memory.
-    Run(RunFault),
-}
-
-impl<'a> From<LoadFault<'a>> for Unmade<'a> {
-    fn from(fault: LoadFault<'a>) -> Unmade<'a> {
-        match fault {
-            LoadFault::Word(fault) => Unmade::Word(fault),
-            LoadFault::Memory => Unmade::Run(RunFault::Memory),
-        }
-    }
-}
-
-impl<'a> From<RunFault> for Unmade<'a> {
-    fn from(fault: RunFault) -> Unmade<'a> {
-        Unmade::Run(fault)
-    }
-}
-
-impl<'a> From<ConfigFault> for Unmade<'a> {
-    fn from(fault: ConfigFault) -> Unmade<'a> {
-        Unmade::Run(RunFault::Config(fault))
-    }
-}
-
-impl<'a> From<AllocError> for Unmade<'a> {
-    fn from(_e: AllocError) -> Unmade<'a> {
-        Unmade::Run(RunFault::Memory)
-    }
-}
+use std::rt::Files;
 
 /// Arrivals that words ask for.
 #[derive(Clone, Copy)]
@@ -61,6 +31,28 @@ pub struct Arriving<'a> {
     pub alloc: Global,
     /// The words that ask for them.
     pub asked: &'a ArrivalWords<'a>,
+    /// What the tasks are called, where they have names.
+    pub names: &'a [&'a str],
+    /// Whether the table is read from a file by its name.
+    pub is_named: bool,
+}
+
+/// What is to come.
+#[derive(Drop)]
+enum Source<'a> {
+    /// Loads of tasks.
+    Loads(Vec<TaskLoad>),
+    /// The requests of a log.
+    Log(AskedLog<'a>),
+}
+
+/// What was made, as it is written.
+#[derive(Drop)]
+struct MadeText {
+    /// The answer.
+    answer: Vec<u8>,
+    /// When each request came, where that is asked for.
+    came: Option<String>,
 }
 
 impl<'a> Arriving<'a> {
@@ -69,9 +61,10 @@ impl<'a> Arriving<'a> {
     /// is not read.
     ///
     /// The faults of words that need no table come first, then those of the input, the table's, and
-    /// those of words that it refuses. Nothing is written before all was made.
-    pub fn answer_arrivals<R: Read + Drop, W: Write, E: Write>(
+    /// those of words that it refuses and of the log. Nothing is written before all was made.
+    pub fn answer_arrivals<H: Files, R: Read + Drop, W: Write, E: Write>(
         &self,
+        rt: &H,
         mut reader: R,
         output: &mut W,
         errors: &mut E,
@@ -81,34 +74,59 @@ impl<'a> Arriving<'a> {
         ensures untouched { IfErr result (λ fault.
             fault ≢ RunFault.Write → output.new ≡ output.old) }
     {
-        let loads = match asked_loads(self.alloc, &self.asked.load) {
-            Ok(loads) => loads,
+        let source = match self.source() {
+            Ok(source) => source,
             Err(LoadFault::Memory) => return Err(RunFault::Memory),
             Err(LoadFault::Word(fault)) => return Ok(refuse_word(&fault, errors)),
         };
         let input = read_input(self.alloc, &mut reader)?;
         let input = input.as_slice();
-        match self.made_answer(input, loads.as_slice()) {
-            Ok(answer) => write_answer(answer.as_slice(), output),
-            Err(Unmade::Run(fault)) => end_refusal(self.alloc, table_alone(input), fault, errors),
-            Err(Unmade::Word(fault)) => Ok(refuse_word(&fault, errors)),
+        match self.made_text(rt, input, &source) {
+            Ok(made) => self.write_made(rt, &made, output, errors),
+            Err(unmade) => unmade.end(self.alloc, input, errors),
         }
     }
 
-    /// Makes these loads for the task table of an input.
-    fn made_answer(&self, input: &[u8], loads: &[TaskLoad]) -> Result<Vec<u8>, Unmade<'a>> {
-        let words = &self.asked.load;
+    /// What the words ask for. The fault is that of a word, whatever the table is.
+    fn source(&self) -> Result<Source<'a>, LoadFault<'a>> {
+        match self.asked.log {
+            Some(words) => Ok(Source::Log(self.asked_log(words)?)),
+            None => Ok(Source::Loads(asked_loads(self.alloc, &self.asked.load)?)),
+        }
+    }
+
+    /// Makes what is to come for the task table of an input.
+    fn made_text<H: Files>(
+        &self,
+        rt: &H,
+        input: &[u8],
+        source: &Source<'a>,
+    ) -> Result<MadeText, Unmade<'a>> {
         let table = table_part(input);
         let config = Config::read(self.alloc, table)?;
-        are_known(&config, loads, words.tasks.as_slice())?;
+        let made = match source {
+            Source::Loads(loads) => self.made_of_loads(&config, loads.as_slice())?,
+            Source::Log(log) => self.made_of_log(rt, &config, log)?,
+        };
+        let came = match self.asked.came {
+            Some(_) => Some(came_text(self.alloc, &made, self.asked.load.timing.ticks)?),
+            None => None,
+        };
+        let answer = self.answer_of(&config, table, made)?;
+        Ok(MadeText { answer, came })
+    }
+
+    /// Makes these loads for a table.
+    fn made_of_loads(&self, config: &Config, loads: &[TaskLoad]) -> Result<Made, Unmade<'a>> {
+        let words = &self.asked.load;
+        are_known(config, loads, words.tasks.as_slice())?;
         let plan = ArrivalPlan {
             loads,
             timing: words.timing,
             seed: words.seed,
         };
         let word = word_at(words.loads.as_slice(), 0);
-        let made = made_arrivals(self.alloc, &config, &plan, word)?;
-        self.answer_of(&config, table, made)
+        Ok(made_arrivals(self.alloc, config, &plan, word)?)
     }
 
     /// What was made for a table, as it is written.
@@ -121,7 +139,7 @@ impl<'a> Arriving<'a> {
                 put_arrivals(&made.arrivals, &mut answer)?;
             }
             ArrivalForm::Summary => {
-                let turns = self.asked.load.timing.turns;
+                let turns = made.arrivals.turns.as_slice().len() as u64;
                 let text = summary_of(self.alloc, config, made.counts.as_slice(), turns)?;
                 answer = text.into_bytes();
             }
@@ -131,6 +149,26 @@ impl<'a> Arriving<'a> {
             return Err(Unmade::Run(RunFault::Length));
         }
         Ok(answer)
+    }
+
+    /// Writes what was made, first the file for when requests came, and answers the exit status.
+    fn write_made<H: Files, W: Write, E: Write>(
+        &self,
+        rt: &H,
+        made: &MadeText,
+        output: &mut W,
+        errors: &mut E,
+    ) -> Result<u8, RunFault>
+        ensures refused { IfOk result (λ status. status ≢ 0 → output.new ≡ output.old) }
+        ensures kind { IfErr result (λ fault. fault ≡ RunFault.Write) }
+    {
+        if let Some(came) = &made.came {
+            let name = self.asked.came.unwrap_or("");
+            if let Err(failure) = write_came(rt, self.alloc, name, came.as_bytes()) {
+                return Ok(failure.end(errors));
+            }
+        }
+        write_answer(made.answer.as_slice(), output)
     }
 }
 

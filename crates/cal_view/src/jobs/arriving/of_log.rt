@@ -1,0 +1,124 @@
+//! Arrivals of a log.
+
+use crate::command_words::log_words::LogWords;
+use crate::edge::failure::Failure;
+use crate::edge::sources::read_named;
+use crate::jobs::arriving::Arriving;
+use crate::jobs::arriving::unmade::Unmade;
+use cal_input::RunFault;
+use cal_load::{
+    LoadFault, LogFault, LogScale, LogTerms, Made, RowFault, Timing, Why, logged_arrivals,
+    read_log, refused, scale_of, turns_for, word_at,
+};
+use cal_machine::Config;
+use cal_why::place_of_field;
+use std::alloc::{AllocError, Global};
+use std::fmt::Write;
+use std::rt::Files;
+
+/// A log as words ask for it.
+#[derive(Clone, Copy, Drop)]
+pub struct AskedLog<'a> {
+    words: LogWords<'a>,
+    scale: LogScale,
+}
+
+/// Where the file of this name is.
+fn path_of(name: &str) -> &str {
+    if name == "-" { "/dev/stdin" } else { name }
+}
+
+/// All bytes of the log of this name.
+fn log_text<'a, H: Files>(rt: &H, alloc: Global, name: &'a str) -> Result<Vec<u8>, Unmade<'a>> {
+    match read_named(rt, alloc, path_of(name)) {
+        Ok(text) => Ok(text),
+        Err(failure) => {
+            let file = failure.file.map(|_path| name);
+            Err(Unmade::File(Failure { file, ..failure }))
+        }
+    }
+}
+
+/// What is said of a row of a log that is refused.
+fn told_of(
+    alloc: Global,
+    name: &str,
+    text: &[u8],
+    fault: RowFault,
+) -> Result<String, AllocError> {
+    let RowFault { row, field, why } = fault;
+    let place = place_of_field(alloc, text, row, field)?;
+    let place = place.as_str();
+    let mut told = String::new(alloc);
+    write!(told, "caladan_view: {name}: row {row}: {why}\n{place}")?;
+    Ok(told)
+}
+
+impl<'a> Arriving<'a> {
+    /// A log as its words ask for it. The fault is that of the first word that is refused, whatever
+    /// the table is.
+    pub fn asked_log(&self, words: LogWords<'a>) -> Result<AskedLog<'a>, LoadFault<'a>> {
+        let tasks = self.asked.load.tasks.as_slice();
+        if words.file == "-" && !self.is_named {
+            return Err(refused("--log", words.file, Why::IsTheTable));
+        }
+        if tasks.len() > 1 {
+            return Err(refused("--task", word_at(tasks, 1), Why::OneTask));
+        }
+        let scale = scale_of(words.unit, words.turn)?;
+        Ok(AskedLog { words, scale })
+    }
+
+    /// The task of all rows, where a word says it; one that the table has.
+    fn task_of_log(&self, config: &Config) -> Result<Option<usize>, LoadFault<'a>> {
+        let Some(word) = self.asked.load.tasks.as_slice().first().copied() else {
+            return Ok(None);
+        };
+        match word.parse::<usize>() {
+            Ok(task) if task < config.tasks() => Ok(Some(task)),
+            _ => {
+                let tasks = config.tasks() as u64;
+                Err(refused("--task", word, Why::NotATask(tasks)))
+            }
+        }
+    }
+
+    /// How long the run is: as the words say, or else as its last request asks for.
+    fn timing_of(&self, log: &AskedLog<'a>, last: u64) -> Timing {
+        let given = self.asked.load.timing;
+        Timing {
+            turns: if log.words.has_turns { given.turns } else { last },
+            ticks: given.ticks,
+        }
+    }
+
+    /// Reads the log, and makes its arrivals for a table.
+    pub fn made_of_log<H: Files>(
+        &self,
+        rt: &H,
+        config: &Config,
+        log: &AskedLog<'a>,
+    ) -> Result<Made, Unmade<'a>> {
+        let (names, tasks) = (self.names.len(), config.tasks());
+        if names > 0 && names != tasks {
+            return Err(Unmade::Names(names, tasks));
+        }
+        let terms = LogTerms {
+            scale: log.scale,
+            tasks,
+            names: self.names,
+            task: self.task_of_log(config)?,
+        };
+        let text = log_text(rt, self.alloc, log.words.file)?;
+        let rows = match read_log(self.alloc, text.as_slice(), &terms) {
+            Ok(rows) => rows,
+            Err(LogFault::Memory) => return Err(Unmade::Run(RunFault::Memory)),
+            Err(LogFault::Row(fault)) => {
+                let told = told_of(self.alloc, log.words.file, text.as_slice(), fault)?;
+                return Err(Unmade::Row(told));
+            }
+        };
+        let timing = self.timing_of(log, turns_for(rows.as_slice()));
+        Ok(logged_arrivals(self.alloc, config, rows.as_slice(), timing)?)
+    }
+}
