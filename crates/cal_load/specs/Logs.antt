@@ -2,7 +2,7 @@
 use Rattle.std.specs.Prelude.{◌≡◌, ◌<◌, ◌≤◌, ◌+◌, ◌==◌, max, ℕ, List, [], ◌∷◌, length, All, map}
 use Rattle.std.specs.Prelude.{take, slice_get, if◌then◌else◌, Option, Some, None}
 use Rattle.std.specs.List.{filter, flat_map, sum_by}
-use Rattle.core.specs.Int.{div_ceil}
+use Rattle.std.specs.Int.{div_ceil}
 use Rattle.cal_came.specs.Came.{AreCameOf}
 use Rattle.cal_load.specs.Built.{AreBuilt}
 use Rattle.cal_load.specs.Comings.{IsQueue}
@@ -79,9 +79,9 @@ free_after thread given = after_last (last_in (slots_on thread given))
 
 -- requests of a log that were given, in their order, to so many threads in so many turns
 pub record AreDealt (threads turns : ℕ) (rows : List LogRow) (given : List Given) : Type 0 where
-  pub rows : map (λ one. one.row) given ≡ rows
-  pub threads : Each (λ one. one.thread < threads) given
-  pub turns : (i : ℕ) (one : Given) → slice_get given i ≡ Some one →
+  pub of_rows : map (λ one. one.row) given ≡ rows
+  pub below : Each (λ one. one.thread < threads) given
+  pub each : (i : ℕ) (one : Given) → slice_get given i ≡ Some one →
       one.turn ≡ turn_for turns one.row.turn (free_after one.thread (take i given))
 
 -- how many found no turn
