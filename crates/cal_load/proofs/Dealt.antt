@@ -132,6 +132,7 @@ given_more threads turns rows row slot thread old new g same lt is few coming gi
     length-map' : (xs : List Given) → length (map (λ (h : Given). h.row) xs) ≡ length xs
     length-map' [] = refl
     length-map' (x ∷ xs) = ap suc (length-map' xs)
+
     length-set' : (xs : List Queue) (i : ℕ) (x : Queue) → length (set xs i x) ≡ length xs
     length-set' [] i x = refl
     length-set' (y ∷ ys) zero x = refl

@@ -1,5 +1,5 @@
 -- The requests of a log, and what they make.
-use Rattle.std.specs.Prelude.{◌≡◌, ◌<◌, ◌≤◌, ◌+◌, ◌==◌, max, ℕ, List, [], ◌∷◌, length, All, map}
+use Rattle.std.specs.Prelude.{◌≡◌, ◌<◌, ◌≤◌, ◌+◌, ◌==◌, max, ℕ, List, [], ◌∷◌, ◌++◌, length, All, map}
 use Rattle.std.specs.Prelude.{take, slice_get, if◌then◌else◌, Option, Some, None}
 use Rattle.std.specs.List.{filter, flat_map, sum_by}
 use Rattle.std.specs.Int.{div_ceil}
@@ -43,6 +43,12 @@ pub record IsLogRow (tasks : ℕ) (row : LogRow) : Type 0 where
 pub record AreLogged (tasks : ℕ) (rows : List LogRow) : Type 0 where
   pub each : Each (IsLogRow tasks) rows
   pub few : length rows ≤ MOST_REQUESTS
+
+-- there is one request more
+pub record HasOneMore (tasks : ℕ) (old new : List LogRow) : Type 0 where
+  pub row : LogRow
+  pub is : IsLogRow tasks row
+  pub more : new ≡ old ++ row ∷ []
 
 -- those of a task, in their order
 abbrev pub rows_for : ℕ → List LogRow → List LogRow

@@ -252,5 +252,6 @@ pub fn made_arrivals<'a>(
     let Some(gathered) = all_that_come(alloc, config, plan, timing.turns)? else {
         return Err(refused(FLAG, word, Why::TooMany(MOST_REQUESTS)));
     };
-    Ok(gathered.assembled(alloc, timing)?)
+    let made = gathered.assembled(alloc, timing)?;
+    Ok(made)
 }

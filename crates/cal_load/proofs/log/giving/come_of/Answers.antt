@@ -28,16 +28,16 @@ loop-place-preserved c =
     let g = c.loop-place.invariant.given in
     elim c.if-row-task.branch [
       | then-row-task+in_ok-give w ↦
-      let new : Coming = w.give.new.self in
-      let same : new.turns ≡ c.args.turns = w.in_ok-give.ensures.turns ∙ c.loop-place.invariant.turns in
-      let all : All (IsQueue c.args.turns) new.queues.items = subst (λ (n : ℕ). All (IsQueue n) new.queues.items) same w.in_ok-give.ensures.is.queues in
-      let more = given_more c.args.threads c.args.turns (rows_for task (take i rows)) row w.slot_of.result w.next_thread-thread.result old new g c.loop-place.invariant.turns w.next_thread-thread.ensures
-      w.slot_of.ensures (rows_few task rows i c.requires.few) c.loop-place.invariant.is w.in_ok-give.ensures.told all in
-      rw w.coming-is (record {
-        is = w.in_ok-give.ensures.is;
-        turns = same;
-        given = subst (λ (l : List LogRow). IsGivenTo c.args.threads c.args.turns l new) (sym (row_more task rows i row c.row_at-row.ensures w.if-row-task.true)) more;
-      })
+          let new : Coming = w.give.new.self in
+          let same : new.turns ≡ c.args.turns = w.in_ok-give.ensures.turns ∙ c.loop-place.invariant.turns in
+          let all : All (IsQueue c.args.turns) new.queues.items = subst (λ (n : ℕ). All (IsQueue n) new.queues.items) same w.in_ok-give.ensures.is.queues in
+          let more = given_more c.args.threads c.args.turns (rows_for task (take i rows)) row w.slot_of.result w.next_thread-thread.result old new g c.loop-place.invariant.turns w.next_thread-thread.ensures
+          w.slot_of.ensures (rows_few task rows i c.requires.few) c.loop-place.invariant.is w.in_ok-give.ensures.told all in
+          rw w.coming-is (record {
+            is = w.in_ok-give.ensures.is;
+            turns = same;
+            given = subst (λ (l : List LogRow). IsGivenTo c.args.threads c.args.turns l new) (sym (row_more task rows i row c.row_at-row.ensures w.if-row-task.true)) more;
+          })
       | else-row-task w ↦ rw w.coming-is (record {
         is = c.loop-place.invariant.is;
         turns = c.loop-place.invariant.turns;
