@@ -2,3 +2,6 @@ mod Assembled
 mod Built
 mod ClockLemmas
 mod Counted
+mod Dealt
+mod On
+mod TasksOfLog

@@ -1,8 +1,8 @@
 -- The requests of a log, and what they make.
-use Rattle.std.specs.Prelude.{◌≡◌, ◌<◌, ◌≤◌, ◌+◌, ◌==◌, max, ℕ, List, [], ◌∷◌, length, All, map}
+use Rattle.std.specs.Prelude.{◌≡◌, ◌<◌, ◌≤◌, ◌+◌, ◌==◌, max, ℕ, List, [], ◌∷◌, ◌++◌, length, All, map}
 use Rattle.std.specs.Prelude.{take, slice_get, if◌then◌else◌, Option, Some, None}
 use Rattle.std.specs.List.{filter, flat_map, sum_by}
-use Rattle.core.specs.Int.{div_ceil}
+use Rattle.std.specs.Int.{div_ceil}
 use Rattle.cal_came.specs.Came.{AreCameOf}
 use Rattle.cal_load.specs.Built.{AreBuilt}
 use Rattle.cal_load.specs.Comings.{IsQueue}
@@ -44,6 +44,12 @@ pub record AreLogged (tasks : ℕ) (rows : List LogRow) : Type 0 where
   pub each : Each (IsLogRow tasks) rows
   pub few : length rows ≤ MOST_REQUESTS
 
+-- there is one request more
+pub record HasOneMore (tasks : ℕ) (old new : List LogRow) : Type 0 where
+  pub row : LogRow
+  pub is : IsLogRow tasks row
+  pub more : new ≡ old ++ row ∷ []
+
 -- those of a task, in their order
 abbrev pub rows_for : ℕ → List LogRow → List LogRow
 rows_for task rows = filter (λ row. row.task == task) rows
@@ -79,9 +85,9 @@ free_after thread given = after_last (last_in (slots_on thread given))
 
 -- requests of a log that were given, in their order, to so many threads in so many turns
 pub record AreDealt (threads turns : ℕ) (rows : List LogRow) (given : List Given) : Type 0 where
-  pub rows : map (λ one. one.row) given ≡ rows
-  pub threads : Each (λ one. one.thread < threads) given
-  pub turns : (i : ℕ) (one : Given) → slice_get given i ≡ Some one →
+  pub of_rows : map (λ one. one.row) given ≡ rows
+  pub below : Each (λ one. one.thread < threads) given
+  pub each : (i : ℕ) (one : Given) → slice_get given i ≡ Some one →
       one.turn ≡ turn_for turns one.row.turn (free_after one.thread (take i given))
 
 -- how many found no turn

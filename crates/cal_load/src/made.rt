@@ -1,6 +1,6 @@
 //! The arrivals of a plan.
 
-ghost use Rattle.std.specs.Prelude.{◌≡◌, ◌≢◌, ◌<◌, ◌≤◌, ◌+◌, ℕ, List, length, true, None};
+ghost use Rattle.std.specs.Prelude.{◌≡◌, ◌≢◌, ◌<◌, ◌≤◌, ◌+◌, ℕ, List, [], length, true, None};
 ghost use Rattle.std.specs.Prelude.{IfErr, IfOk, IfSome};
 ghost use Rattle.cal_machine.specs.Table.{Table};
 ghost use Rattle.cal_machine.specs.Tasks.{first_thread, task_at, threads_in};
@@ -139,8 +139,10 @@ fn count_of(load: &TaskLoad, coming: &Coming) -> Count
 impl Gathered {
     /// Nothing yet.
     pub(crate) fn new(alloc: Global) -> Gathered
-        ensures { (table : Table) (loads : List TaskLoad) (turns : ℕ) →
+        ensures is { (table : Table) (loads : List TaskLoad) (turns : ℕ) →
             AreGathered table loads turns 0 result }
+        ensures nothing { result.requests.items ≡ [] }
+        ensures none { result.counts.items ≡ [] }
     {
         Gathered {
             requests: Vec::new(alloc),
@@ -250,5 +252,6 @@ pub fn made_arrivals<'a>(
     let Some(gathered) = all_that_come(alloc, config, plan, timing.turns)? else {
         return Err(refused(FLAG, word, Why::TooMany(MOST_REQUESTS)));
     };
-    Ok(gathered.assembled(alloc, timing)?)
+    let made = gathered.assembled(alloc, timing)?;
+    Ok(made)
 }

@@ -131,11 +131,7 @@ pub struct Coming {
 
 impl Coming {
     /// Nothing, for so many threads that make so many turns each.
-    pub(crate) fn new(
-        alloc: Global,
-        threads: usize,
-        turns: u64,
-    ) -> Result<Coming, AllocError>
+    pub(crate) fn new(alloc: Global, threads: usize, turns: u64) -> Result<Coming, AllocError>
         ensures is { IfOk result IsComing }
         ensures threads { IfOk result (λ coming. length coming.queues.items ≡ threads) }
         ensures turns { IfOk result (λ coming. coming.turns ≡ turns) }

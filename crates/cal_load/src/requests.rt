@@ -85,7 +85,7 @@ pub fn put_queues(
         length requests.old.items + slots_in queues.now) }
     ensures told { (place : ℕ) (queue : Queue) → slice_get queues.now place ≡ Some queue →
         OnOk result (all_on (first + place) requests.new.items ≡
-            all_on (first + place) requests.old.items ++ map taken_by queue.slots.items) }
+        all_on (first + place) requests.old.items ++ map taken_by queue.slots.items) }
     ensures others { (k : ℕ) → IsNoneOf first (length queues.now) k →
         OnOk result (all_on k requests.new.items ≡ all_on k requests.old.items) }
 {

@@ -1,7 +1,8 @@
 //! The columns of a log, and what its fields say.
 
-ghost use Rattle.std.specs.Prelude.{◌≡◌};
+ghost use Rattle.std.specs.Prelude.{◌<◌, IfSome};
 
+use crate::decimal::number_of;
 use crate::log::length::LogScale;
 use crate::log::row_fault::{LogFault, LogWhy, row_fault};
 use csv::ByteRecord;
@@ -81,11 +82,13 @@ impl LogTerms<'_> {
             }
         }
         let number = str::from_utf8(field).ok()?;
-        crate::decimal::number_of(number).map(|number| number as usize)
+        number_of(number).map(|number| number as usize)
     }
 
     /// The task of a row: the one that its field names, or else that of all rows.
-    pub(crate) fn task_in(&self, row: &ByteRecord, columns: Columns) -> Option<usize> {
+    pub(crate) fn task_in(&self, row: &ByteRecord, columns: Columns) -> Option<usize>
+        ensures { IfSome result (λ task. task < self.now.tasks) }
+    {
         let task = match columns.task {
             Some(place) => self.task_named(row.get(place)?)?,
             None => self.task.unwrap_or(0),

@@ -90,5 +90,6 @@ pub fn logged_arrivals(
 {
     let timing = timing.nearest();
     let gathered = all_of_log(alloc, config, rows, timing.turns)?;
-    gathered.assembled(alloc, timing)
+    let made = gathered.assembled(alloc, timing)?;
+    Ok(made)
 }

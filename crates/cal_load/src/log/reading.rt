@@ -1,7 +1,7 @@
 //! A log, read row by row.
 
-ghost use Rattle.std.specs.Prelude.{IfOk};
-ghost use Rattle.cal_load.specs.Logs.{AreLogged, IsScale};
+ghost use Rattle.std.specs.Prelude.{IfOk, OnOk};
+ghost use Rattle.cal_load.specs.Logs.{AreLogged, HasOneMore, IsLogRow, IsScale};
 
 use crate::log::LogRow;
 use crate::log::columns::{Columns, LogTerms};
@@ -58,7 +58,10 @@ impl<'a> LogRows<'a> {
         place: usize,
         name: &'static str,
     ) -> Result<u128, LogFault> {
-        match terms.scale.time_of(self.record.get(place).unwrap_or(b"".as_slice())) {
+        match terms
+            .scale
+            .time_of(self.record.get(place).unwrap_or(b"".as_slice()))
+        {
             Some(time) => Ok(time),
             None => Err(self.fault(place, LogWhy::NotANumber(name))),
         }
@@ -67,8 +70,7 @@ impl<'a> LogRows<'a> {
 
 /// What the rows so far have given.
 #[derive(Drop)]
-struct LogReading<'a> {
-    terms: &'a LogTerms<'a>,
+struct LogReading {
     columns: Columns,
     /// The times of the first row and of the last one.
     first: Option<u128>,
@@ -76,41 +78,94 @@ struct LogReading<'a> {
     requests: Vec<LogRow>,
 }
 
-impl LogReading<'_> {
-    /// Takes the row at hand.
-    fn take(&mut self, rows: &LogRows<'_>) -> Result<(), LogFault> {
-        let Columns { fields, time, service, task } = self.columns;
+impl LogReading {
+    /// The time of the row at hand, which is not before the last one.
+    fn time_in(&self, rows: &LogRows<'_>, terms: &LogTerms<'_>) -> Result<u128, LogFault> {
+        let Columns { fields, time, .. } = self.columns;
         let count = rows.record.len();
         if count != fields {
             return Err(rows.fault(0, LogWhy::Fields(count as u64, fields as u64)));
         }
-        let now = rows.time_at(self.terms, time, "time")?;
+        let now = rows.time_at(terms, time, "time")?;
         if now < self.last {
             return Err(rows.fault(time, LogWhy::Backwards));
         }
-        let took = rows.time_at(self.terms, service, "service")?;
-        let Some(task_of_row) = self.terms.task_in(&rows.record, self.columns) else {
-            let tasks = self.terms.tasks as u64;
-            return Err(rows.fault(task.unwrap_or(0), LogWhy::NotATask(tasks)));
+        Ok(now)
+    }
+
+    /// The request of the row at hand, whose time is this.
+    fn request_in(
+        &self,
+        rows: &LogRows<'_>,
+        terms: &LogTerms<'_>,
+        now: u128,
+    ) -> Result<LogRow, LogFault>
+        requires { IsScale terms.now.scale }
+        ensures { IfOk result (IsLogRow terms.now.tasks) }
+    {
+        let Columns { time, service, .. } = self.columns;
+        let took = rows.time_at(terms, service, "service")?;
+        let Some(task) = terms.task_in(&rows.record, self.columns) else {
+            let place = self.columns.task.unwrap_or(0);
+            return Err(rows.fault(place, LogWhy::NotATask(terms.tasks as u64)));
         };
-        let first = self.first.unwrap_or(now);
-        let turn = self.terms.scale.turn_at(now.saturating_sub(first));
+        let since = now.saturating_sub(self.first.unwrap_or(now));
+        let turn = terms.scale.turn_at(since);
         if turn >= MOST_TURNS as u128 {
             return Err(rows.fault(time, LogWhy::TooLate(MOST_TURNS as u64)));
         }
-        let work = self.terms.scale.turns_over(took);
+        let work = terms.scale.turns_over(took);
         if work > u128::from(MOST_WORK) {
             return Err(rows.fault(service, LogWhy::TooLong(MOST_WORK)));
         }
-        self.first = Some(first);
-        self.last = now;
-        self.requests.push(LogRow {
-            task: task_of_row,
+        Ok(LogRow {
+            task,
             turn: turn as u64,
             work: work as u64,
-        })?;
+        })
+    }
+
+    /// Takes the row at hand.
+    fn take(&mut self, rows: &LogRows<'_>, terms: &LogTerms<'_>) -> Result<(), LogFault>
+        requires { IsScale terms.now.scale }
+        ensures { OnOk result (HasOneMore terms.now.tasks self.old.requests.items
+            self.new.requests.items) }
+    {
+        let now = self.time_in(rows, terms)?;
+        let request = self.request_in(rows, terms, now)?;
+        self.first = self.first.or(Some(now));
+        self.last = now;
+        self.requests.push(request)?;
         Ok(())
     }
+}
+
+/// The requests of the rows after the header.
+fn requests_of(
+    alloc: Global,
+    rows: &mut LogRows<'_>,
+    terms: &LogTerms<'_>,
+    columns: Columns,
+) -> Result<Vec<LogRow>, LogFault>
+    requires { IsScale terms.now.scale }
+    ensures { IfOk result (λ rows. AreLogged terms.now.tasks rows.items) }
+{
+    let mut reading = LogReading {
+        columns,
+        first: None,
+        last: 0,
+        requests: Vec::new(alloc),
+    };
+    for _k in 0..MOST_REQUESTS {
+        if !rows.step()? {
+            return Ok(reading.requests);
+        }
+        reading.take(rows, terms)?;
+    }
+    if rows.step()? {
+        return Err(rows.fault(0, LogWhy::TooMany(MOST_REQUESTS)));
+    }
+    Ok(reading.requests)
 }
 
 /// The requests of a log, in its order: CSV with a header that names the columns `time` and
@@ -118,35 +173,18 @@ impl LogReading<'_> {
 /// that of the first, and takes its service in turns, rounded up, at least one. No time is before
 /// that of the row before.
 ///
-/// The fault is that of the first row that has one.
-pub fn read_log(
-    alloc: Global,
-    text: &[u8],
-    terms: &LogTerms<'_>,
-) -> Result<Vec<LogRow>, LogFault>
+/// The fault is that of the first row that has one; of a log without requests that of the row after
+/// the header.
+pub fn read_log(alloc: Global, text: &[u8], terms: &LogTerms<'_>) -> Result<Vec<LogRow>, LogFault>
     requires { IsScale terms.now.scale }
     ensures { IfOk result (λ rows. AreLogged terms.now.tasks rows.items) }
 {
     let mut rows = LogRows::open(alloc, text);
     rows.step()?;
-    let mut reading = LogReading {
-        terms,
-        columns: Columns::of(&rows.record, terms)?,
-        first: None,
-        last: 0,
-        requests: Vec::new(alloc),
-    };
-    for _k in 0..MOST_REQUESTS {
-        if !rows.step()? {
-            break;
-        }
-        reading.take(&rows)?;
+    let columns = Columns::of(&rows.record, terms)?;
+    let requests = requests_of(alloc, &mut rows, terms, columns)?;
+    if requests.is_empty() {
+        return Err(row_fault(2, 0, LogWhy::NoRequest));
     }
-    if reading.requests.is_empty() {
-        return Err(rows.fault(0, LogWhy::NoRequest));
-    }
-    if reading.requests.len() as u64 >= MOST_REQUESTS && rows.step()? {
-        return Err(rows.fault(0, LogWhy::TooMany(MOST_REQUESTS)));
-    }
-    Ok(reading.requests)
+    Ok(requests)
 }

@@ -37,10 +37,15 @@ fn log_word<'a>(alloc: Global) -> Result<Arg<'a>, AllocError> {
 }
 
 fn unit_word<'a>(alloc: Global) -> Result<Arg<'a>, AllocError> {
-    value_word(alloc, "unit", "UNIT", "The unit of its numbers: ns, us, ms or s")
-        .value_parser(UNITS.as_slice())
-        .hide_possible_values(true)
-        .requires_arg("log")
+    value_word(
+        alloc,
+        "unit",
+        "UNIT",
+        "The unit of its numbers: ns, us, ms or s",
+    )
+    .value_parser(UNITS.as_slice())
+    .hide_possible_values(true)
+    .requires_arg("log")
 }
 
 fn turn_word<'a>(alloc: Global) -> Result<Arg<'a>, AllocError> {

@@ -6,7 +6,7 @@ use Rattle.cal_load.proofs.Counted.{gathered_skip}
 use Rattle.cal_load.proofs.made.all_that_come.Goals as goal
 
 pub loop-task-init : goal.loop-task-init
-loop-task-init c = c.new-gathered.ensures c.args.config.now c.args.plan.now.loads.now c.args.turns
+loop-task-init c = c.new-gathered.ensures.is c.args.config.now c.args.plan.now.loads.now c.args.turns
 
 pub loop-task-preserved-in_default : goal.loop-task-preserved-in_default
 loop-task-preserved-in_default c =

@@ -40,12 +40,7 @@ fn log_text<'a, H: Files>(rt: &H, alloc: Global, name: &'a str) -> Result<Vec<u8
 }
 
 /// What is said of a row of a log that is refused.
-fn told_of(
-    alloc: Global,
-    name: &str,
-    text: &[u8],
-    fault: RowFault,
-) -> Result<String, AllocError> {
+fn told_of(alloc: Global, name: &str, text: &[u8], fault: RowFault) -> Result<String, AllocError> {
     let RowFault { row, field, why } = fault;
     let place = place_of_field(alloc, text, row, field)?;
     let place = place.as_str();
@@ -87,7 +82,11 @@ impl<'a> Arriving<'a> {
     fn timing_of(&self, log: &AskedLog<'a>, last: u64) -> Timing {
         let given = self.asked.load.timing;
         Timing {
-            turns: if log.words.has_turns { given.turns } else { last },
+            turns: if log.words.has_turns {
+                given.turns
+            } else {
+                last
+            },
             ticks: given.ticks,
         }
     }
