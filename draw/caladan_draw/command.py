@@ -19,6 +19,7 @@ SWEEP_OPTIONS = {
     "--turns": ("N", "how many turns each thread makes"),
     "--ticks": ("N", "the ticks of a turn"),
     "--seed": ("N", "what chance goes by"),
+    "--seeds": ("N", "how many seeds there are, that one and those after it: least, median and greatest"),
     "--from": ("TURN", "the first turn of the window whose requests are ranked"),
     "--to": ("TURN", "the turn after the window"),
     "--vary": ("KEY=V1,..", "tables with each of these values at a key, as task.0.delay=10,40"),

@@ -73,7 +73,7 @@ def swept_task(words: Sequence[str]) -> int:
 
 def cores_of(table: Table, key: str, values: Sequence[str]) -> tuple[int, ...]:
     """The cores of each table."""
-    return tuple(int(it) if key == "cores" else table.cores for it in values)
+    return tuple(int(it.partition(",")[0]) if key == "cores" else table.cores for it in values)
 
 
 WORDS = {"run": of_run, "compare": of_compare, "sweep": of_sweep}

@@ -3,6 +3,7 @@ from __future__ import annotations
 
 import csv
 import io
+import re
 from dataclasses import dataclass
 from typing import Optional
 
@@ -47,7 +48,8 @@ class Comparison:
 
 @dataclass(frozen=True)
 class SweptRun:
-    """A run of a sweep: its load, the value that is varied, its times by rank, and its counts by column."""
+    """A run of a sweep, or one of the three rows of several seeds: its load, the value that is varied and which of
+    these rows it is, its times by rank, and its counts by column."""
 
     load: float
     value: str
@@ -65,11 +67,11 @@ class Sweep:
 
     @property
     def values(self) -> list[str]:
-        """The values that are varied, each once, in their order."""
+        """The values that are varied, each once, in their order; of several seeds each with each of its rows."""
         return list(dict.fromkeys(it.value for it in self.runs))
 
     def label(self, value: str) -> str:
-        return f"{self.key}={value}" if self.key else "the table"
+        return f"{self.key}={value}" if self.key else value or "the table"
 
 
 def number(text: str, where: str) -> Optional[float]:
@@ -112,12 +114,14 @@ def read_comparison(text: str, name: str) -> Comparison:
 
 
 def read_sweep(text: str, name: str) -> Sweep:
-    """A sweep; a column between its load and its times is of the key that is varied."""
+    """A sweep; a column between its load and its times is of the key that is varied, and one after it of seeds."""
     head, lines = lines_of(text, name, "sweep")
     missing = [it for it in (*TIMES, *COLUMNS) if it not in head]
     if missing:
         raise Refusal(f"{name}: {EXPECTED['sweep']}: it has no column {missing[0]}")
-    key = head[1] if head[1] != "p50" else ""
+    between = head[1:head.index("p50")]
+    seeds = between.pop() if between and re.fullmatch(r"of \d+ seeds", between[-1]) else ""
+    key = " ".join(between)
     runs = []
     for where, row in lines:
         times = {it: cell(row[head.index(it):head.index(it) + 3], where) for it in TIMES}
@@ -125,7 +129,8 @@ def read_sweep(text: str, name: str) -> Sweep:
         load = number(row[0], where)
         if load is None:
             raise Refusal(f"{where}: its load is `{row[0]}`; wanted: a number")
-        runs.append(SweptRun(load, row[1] if key else "", times, counts))
+        which = [f"{row[len(between) + 1]} {seeds}"] if seeds else []
+        runs.append(SweptRun(load, ", ".join([*row[1:len(between) + 1], *which]), times, counts))
     if not runs:
         raise Refusal(f"{name}: it has no runs below its head")
     return Sweep(head[0].partition("load of ")[2], key, tuple(runs))

@@ -243,7 +243,7 @@ def draw_sweep(scene: SweepScene) -> Paper:
         raise Refusal("no requests came: there is nothing to draw")
     of = scene.task or scene.sweep.task
     title = f"Response of {of} over its load" if of else "Response over load"
-    labels = [scene.sweep.label(it) for it in scene.values] if scene.sweep.key else []
+    labels = [scene.sweep.label(it) for it in scene.values] if scene.values != [""] else []
     lines, ranks = lines_of(scene), scene.ranks
     left = MARGIN + AXIS
     rows = (sample_rows(scene.width, left, labels) if labels else 0) + 1

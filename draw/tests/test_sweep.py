@@ -145,5 +145,19 @@ class Times(unittest.TestCase):
             self.assertAlmostEqual(float(scale.to_time(scale.to_place(time))), time)
 
 
+class Seeds(unittest.TestCase):
+    """Three rows of several seeds for each load."""
+
+    def test_each_row_has_its_curve(self):
+        paper, told = drawn("sweep", example("sweep/seeds_undecided", "output")), {}
+        for it in rows_in(text_of(example("sweep/seeds_undecided", "output"))):
+            told.setdefault(it["of 4 seeds"], []).append(it)
+        self.assertEqual(list(told), ["least", "median", "greatest"])
+        for number, (which, rows_of_it) in enumerate(told.items()):
+            self.assertIn(f"{which} of 4 seeds", words_of(paper))
+            asked = [(float(it["load"]), math.nan if it["p50"] == "-" else answered(it, "p50")) for it in rows_of_it]
+            self.assertEqual(repr(pairs(named(paper, f"p50-{number}")[f"p50-{number}"].get_xydata())), repr(asked))
+
+
 if __name__ == "__main__":
     unittest.main()

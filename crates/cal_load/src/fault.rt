@@ -46,6 +46,8 @@ pub enum Why {
     NotATurn(u64),
     /// There are no turns from this one up to that.
     NoTurns(u64, u64),
+    /// It is no number of seeds, of which there may be so many.
+    NotSeeds(u64),
 }
 
 /// The reason in words.
@@ -98,6 +100,7 @@ us, ms or s, as 10us",
             ),
             Why::NotATurn(turns) => write!(f, "a turn is a number up to {turns}, the run's end"),
             Why::NoTurns(first, after) => write!(f, "no turns are from {first} up to {after}"),
+            Why::NotSeeds(most) => write!(f, "a number of seeds is from 1 to {most}"),
         }
     }
 }

@@ -1,5 +1,6 @@
 pub mod Faults
 pub mod Objectives
+pub mod SeedRows
 pub mod Shares
 pub mod Sweeps
 pub mod Words

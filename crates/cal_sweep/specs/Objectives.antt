@@ -1,6 +1,6 @@
 -- Whether a run keeps an objective, and with which status a sweep ends.
 use Rattle.std.specs.Prelude.{ℕ, nat_le, nat_lt, Bool, true, false, not, List, length}
-use Rattle.std.specs.Prelude.{◌-◌, slice_get}
+use Rattle.std.specs.Prelude.{◌==◌, ◌&&◌, ◌-◌, slice_get}
 use Rattle.std.specs.Prelude.{Option, Some, None, if◌then◌else◌}
 use Rattle.std.specs.List.{list_any}
 use Rattle.cal_measure.specs.declared.requests.TaskRequests.{TaskRequests}
@@ -47,16 +47,55 @@ is_kept Undecided = false
 abbrev pub is_not_kept_by : Objective → SweptRun → Bool
 is_not_kept_by objective run = not (is_kept (standing_of objective run))
 
--- one of the runs of a load does not keep an objective
-abbrev pub is_not_kept_at : Objective → Option SweptLoad → Bool
-is_not_kept_at objective None = false
-is_not_kept_at objective (Some load) = list_any (is_not_kept_by objective) load.runs.items
+-- these runs are of this load, and one of them does not keep an objective
+abbrev pub is_not_kept_at : Objective → ℕ → SweptLoad → Bool
+is_not_kept_at objective load of_load =
+    (of_load.load == load) && list_any (is_not_kept_by objective) of_load.runs.items
 
--- one of the runs of the last load does not keep an objective; where there is none, none is asked
+-- one of the runs of the last load, with one of its seeds, does not keep an objective
+abbrev pub is_not_kept_with : Objective → List SweptLoad → Option SweptLoad → Bool
+is_not_kept_with objective loads None = false
+is_not_kept_with objective loads (Some last) =
+    list_any (is_not_kept_at objective last.load) loads
+
+-- the same where there is an objective; where there is none, none is asked
 abbrev pub is_not_kept : Option Objective → List SweptLoad → Bool
 is_not_kept None loads = false
 is_not_kept (Some objective) loads =
-    is_not_kept_at objective (slice_get loads (length loads - 1))
+    is_not_kept_with objective loads (slice_get loads (length loads - 1))
+
+abbrev pub is_missed : Standing → Bool
+is_missed Kept = false
+is_missed Missed = true
+is_missed Undecided = false
+
+abbrev pub is_undecided : Standing → Bool
+is_undecided Kept = false
+is_undecided Missed = false
+is_undecided Undecided = true
+
+abbrev pub is_same : Standing → Standing → Bool
+is_same Kept standing = is_kept standing
+is_same Missed standing = is_missed standing
+is_same Undecided standing = is_undecided standing
+
+-- an objective stands so in a run; where there is none, it does not
+abbrev pub stands_in : Standing → Objective → Option SweptRun → Bool
+stands_in standing objective None = false
+stands_in standing objective (Some run) = is_same standing (standing_of objective run)
+
+-- these runs are of this load, and an objective stands so in that of a table
+abbrev pub stands_at : Standing → Objective → ℕ → ℕ → SweptLoad → Bool
+stands_at standing objective load table of_load =
+    (of_load.load == load) && stands_in standing objective (slice_get of_load.runs.items table)
+
+-- what becomes of an objective in the runs of a table at a load, with all its seeds: it is missed
+-- where it is missed with one, else undecided where it is undecided with one, and kept where it is
+-- kept with all
+abbrev pub standing_with_seeds : Objective → List SweptLoad → ℕ → ℕ → Standing
+standing_with_seeds objective loads load table =
+    if list_any (stands_at Missed objective load table) loads then Missed
+    else if list_any (stands_at Undecided objective load table) loads then Undecided else Kept
 
 -- the exit status: 1 where an objective is not kept at the last load of one of the sweeps, 0 else
 abbrev pub status_of_sweeps : Option Objective → List Sweep → ℕ

@@ -1,7 +1,7 @@
 -- The runs of a sweep.
-use Rattle.std.specs.Prelude.{◌≡◌, ℕ, nat_lt, Bool, false, List, [], ◌∷◌, map}
+use Rattle.std.specs.Prelude.{◌≡◌, ◌+◌, ◌%◌, ◌^◌, ℕ, nat_lt, Bool, false, List, [], ◌∷◌, map}
 use Rattle.std.specs.Prelude.{Option, Some, None, Ok}
-use Rattle.std.specs.List.{list_any}
+use Rattle.std.specs.List.{flat_map, list_any, range_with_len}
 use Rattle.cal_came.specs.Windows.{window_of}
 use Rattle.cal_came.specs.declared.came.Came.{Came}
 use Rattle.cal_came.specs.declared.counted.Counted.{Counted}
@@ -23,6 +23,7 @@ use Rattle.cal_tables.specs.declared.comparing.Variation.{Variation}
 use Rattle.cal_tables.specs.declared.comparing.fault.ComparisonFault.{ComparisonFault}
 use Rattle.cal_tables.specs.declared.comparing.fault.ComparisonFault.TheVariants as faults
 use Rattle.cal_trace.specs.declared.arrivals.Arrivals.{Arrivals}
+use Rattle.cal_sweep.specs.declared.runs.Point.{Point}
 use Rattle.cal_sweep.specs.declared.runs.SweptLoad.{SweptLoad}
 use Rattle.cal_sweep.specs.declared.runs.SweptRun.{SweptRun}
 use Rattle.cal_sweep.specs.declared.words.Asked.{Asked}
@@ -68,16 +69,29 @@ pub record IsSweptRun (policy : Policy) (asked : Asked) (load : ℕ) (table : Ta
 abbrev pub AreSweptRuns : Policy → Asked → ℕ → List Table → List SweptRun → Type 0
 AreSweptRuns policy asked load tables runs = AreEachOf (IsSweptRun policy asked load) tables runs
 
--- the runs of this load: one of each table
-pub record IsSweptLoad (policy : Policy) (asked : Asked) (tables : List Table) (load : ℕ)
+-- the runs of this load with this seed: one of each table
+pub record IsSweptLoad (policy : Policy) (asked : Asked) (tables : List Table) (point : Point)
     (of_load : SweptLoad) : Type 0 where
-  pub at : of_load.load ≡ load
-  pub runs : AreSweptRuns policy asked load tables of_load.runs.items
+  pub at : of_load.load ≡ point.load
+  pub seed : of_load.seed ≡ point.seed
+  pub runs : AreSweptRuns policy asked point.load tables of_load.runs.items
 
--- for each of these loads in turn, a run of each table
-abbrev pub AreSweptLoads : Policy → Asked → List Table → List ℕ → List SweptLoad → Type 0
-AreSweptLoads policy asked tables loads swept =
-    AreEachOf (IsSweptLoad policy asked tables) loads swept
+-- for each of these loads with its seed, a run of each table
+abbrev pub AreSweptLoads : Policy → Asked → List Table → List Point → List SweptLoad → Type 0
+AreSweptLoads policy asked tables points swept =
+    AreEachOf (IsSweptLoad policy asked tables) points swept
+
+-- a load with the i-th seed from the first on; after the greatest number comes 0
+abbrev pub point_at : ℕ → ℕ → ℕ → Point
+point_at first load i = record { load = load; seed = (first + i) % 2 ^ 64 }
+
+-- a load with so many seeds from the first on
+abbrev pub with_seeds : ℕ → ℕ → ℕ → List Point
+with_seeds first n load = map (point_at first load) (range_with_len 0 n)
+
+-- each load that is asked for in turn, with each of the seeds
+abbrev pub points_of : Asked → List Point
+points_of asked = flat_map (with_seeds asked.seed asked.seeds) asked.loads.items
 
 -- a key and its values
 pub record Varying : Type 0 where
@@ -103,7 +117,7 @@ pub record IsSweep (input : List ℕ) (varying : Option Varying) (policy : Polic
   pub table : Table
   pub given : table_in (table_part input) ≡ Ok table
   pub varied : AreTablesOf varying table tables
-  pub are : AreSweptLoads policy asked tables asked.loads.items swept
+  pub are : AreSweptLoads policy asked tables (points_of asked) swept
 
 -- the fault of a writer
 abbrev pub of_writer : ComparisonFault

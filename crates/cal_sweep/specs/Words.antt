@@ -1,11 +1,12 @@
 -- What a sweep is of, as words say it.
-use Rattle.std.specs.Prelude.{◌≡◌, ◌==◌, ◌<◌, ◌≤◌, ◌-◌, ◌/◌, ℕ, Bool, List, Option, Some, None, IfSome, IsTrue}
+use Rattle.std.specs.Prelude.{◌≡◌, ◌==◌, ◌<◌, ◌≤◌, ◌+◌, ◌-◌, ◌/◌, ◌^◌, ℕ, Bool, List, Option, Some, None, IfSome, IsTrue}
 use Rattle.std.specs.Prelude.{map, slice_get, if◌then◌else◌}
 use Rattle.std.specs.List.{list_any}
 use Rattle.cal_load.specs.declared.making.TaskLoad.{TaskLoad}
 use Rattle.cal_trace.specs.Rows.Text.{numbered}
 use Rattle.cal_sweep.specs.declared.words.Asked.{Asked}
 use Rattle.cal_sweep.specs.declared.words.SweepWords.{SweepWords}
+use Rattle.cal_sweep.specs.declared.words.TheConstants.{MOST_SEEDS}
 
 -- requests come to this task
 abbrev pub has_load : List TaskLoad → ℕ → Bool
@@ -19,8 +20,8 @@ abbrev pub last_tenth : ℕ → ℕ
 last_tenth turns = turns - turns / 10
 
 -- the timing, the seed, the plan and the form asked for are those of the words, an objective is of a
--- task to which requests come, and the window has turns of the run: without words all but the first
--- and the last tenth of them
+-- task to which requests come, the window has turns of the run: without words all but the first and
+-- the last tenth of them; and there is a seed, or several, each a number: without a word one
 pub record IsAsked (words : SweepWords) (asked : Asked) : Type 0 where
   pub timing : asked.timing ≡ words.load.timing
   pub seed : asked.seed ≡ words.load.seed
@@ -31,6 +32,9 @@ pub record IsAsked (words : SweepWords) (asked : Asked) : Type 0 where
   pub window : (asked.first < asked.after) × (asked.after ≤ words.load.timing.turns)
   pub first : words.from ≡ None → asked.first ≡ first_tenth words.load.timing.turns
   pub after : words.to ≡ None → asked.after ≡ last_tenth words.load.timing.turns
+  pub seeds : (1 ≤ asked.seeds) × (asked.seeds ≤ MOST_SEEDS)
+  pub fit : asked.seed + asked.seeds ≤ 2 ^ 64
+  pub alone : words.seeds ≡ None → asked.seeds ≡ 1
 
 -- the number of this task with a load, 0 where there is none
 abbrev pub task_loaded : Option TaskLoad → ℕ

@@ -10,11 +10,12 @@ ghost use Rattle.cal_tables.specs.Joining.{table_part};
 
 use crate::fault::SweepFault;
 use crate::job::SweepJob;
+use crate::misses::say_misses;
 use crate::naming::SweepNames;
 use crate::objective::Objective;
 use crate::runs::{Sweep, swept_by_each};
 use crate::table::ShownSweep;
-use crate::verdict::{say_misses, status_of_sweeps};
+use crate::verdict::status_of_sweeps;
 use cal_input::RunFault;
 use cal_tables::ComparisonFault;
 use std::alloc::AllocError;
@@ -26,6 +27,7 @@ fn text_of(job: &SweepJob<'_>, sweeps: &[Sweep]) -> Result<String, AllocError> {
     let form = job.asked.form;
     let shown = ShownSweep {
         sweeps,
+        seeds: job.asked.seeds.max(1) as usize,
         task: job.asked.task(),
         names: job.names,
         form,

@@ -3,7 +3,8 @@
 ghost use Rattle.std.specs.Prelude.{◌≡◌, IfErr};
 ghost use Rattle.cal_load.specs.Refused.{IsRefusedFor};
 ghost use Rattle.cal_tables.specs.Rows.{time_in};
-ghost use Rattle.cal_sweep.specs.Objectives.{is_kept, response_at, standing_at};
+ghost use Rattle.cal_sweep.specs.Objectives.{is_kept, is_missed, is_same, is_undecided};
+ghost use Rattle.cal_sweep.specs.Objectives.{response_at, standing_at};
 
 use cal_load::{LoadFault, Why, number_of, refused};
 use cal_measure::Time;
@@ -130,5 +131,36 @@ pub fn is_kept(standing: Standing) -> bool
     match standing {
         Standing::Kept => true,
         Standing::Missed | Standing::Undecided => false,
+    }
+}
+
+/// Whether an objective is missed.
+fn is_missed(standing: Standing) -> bool
+    ensures { result ≡ is_missed standing }
+{
+    match standing {
+        Standing::Missed => true,
+        Standing::Kept | Standing::Undecided => false,
+    }
+}
+
+/// Whether an objective is undecided.
+fn is_undecided(standing: Standing) -> bool
+    ensures { result ≡ is_undecided standing }
+{
+    match standing {
+        Standing::Undecided => true,
+        Standing::Kept | Standing::Missed => false,
+    }
+}
+
+/// Whether an objective stands as this one does.
+pub fn is_same(one: Standing, other: Standing) -> bool
+    ensures { result ≡ is_same one other }
+{
+    match one {
+        Standing::Kept => is_kept(other),
+        Standing::Missed => is_missed(other),
+        Standing::Undecided => is_undecided(other),
     }
 }

@@ -1,13 +1,15 @@
 //! The runs of a sweep, measured.
 
-ghost use Rattle.std.specs.Prelude.{◌≡◌, ◌∷◌, [], IfErr, IfOk, Ok, length};
+ghost use Rattle.std.specs.Prelude.{◌≡◌, ◌++◌, ◌∷◌, [], IfErr, IfOk, Ok, OnOk};
+ghost use Rattle.std.specs.Prelude.{length};
 ghost use Rattle.cal_machine.specs.Reading.{table_in};
 ghost use Rattle.cal_machine.specs.Table.{Table};
 ghost use Rattle.cal_load.specs.Known.{AreKnown};
 ghost use Rattle.cal_sweep.specs.Faults.{AreCounted, IsFirstFault, SweepDecided};
 ghost use Rattle.cal_sweep.specs.Sweeps.{AreSweptLoads, AreSweptRuns, AreTablesOf, IsSweep};
 ghost use Rattle.cal_sweep.specs.Sweeps.{IsRunOn, IsSweptLoad, IsSweptRun, counted_of};
-ghost use Rattle.cal_sweep.specs.Sweeps.{is_before, is_cut_before, varying_of};
+ghost use Rattle.cal_sweep.specs.Sweeps.{is_before, is_cut_before, points_of, varying_of};
+ghost use Rattle.cal_sweep.specs.Sweeps.{with_seeds};
 ghost use Rattle.cal_tables.specs.Compared.{AreEachOf};
 ghost use Rattle.cal_tables.specs.Joining.{table_part};
 ghost use Rattle.cal_trace.specs.Arrivals.FitsTable.{FitsTable};
@@ -40,11 +42,22 @@ pub struct SweptRun {
     pub numbers: RunNumbers,
 }
 
-/// The runs of a load.
+/// A load with a seed.
+#[derive(Clone, Copy, Debug, PartialEq, Eq)]
+struct Point {
+    /// The load, in thousandths.
+    load: u64,
+    /// The seed.
+    seed: u64,
+}
+
+/// The runs of a load with a seed.
 #[derive(Drop)]
 pub struct SweptLoad {
     /// The load, in thousandths.
     pub load: u64,
+    /// The seed.
+    pub seed: u64,
     /// A run of each table, in the order of the tables.
     pub runs: Vec<SweptRun>,
 }
@@ -54,7 +67,7 @@ pub struct SweptLoad {
 pub struct Sweep {
     /// The tables.
     pub tables: Vec<Config>,
-    /// The runs of each load, in the order of the loads.
+    /// The runs of each load with each seed, in the order of the loads, and then of the seeds.
     pub loads: Vec<SweptLoad>,
 }
 
@@ -124,96 +137,121 @@ fn run_on(
     }
 }
 
-/// The run of a table on the arrivals that are made for it with this load.
+/// The run of a table on the arrivals that are made for it with this load and this seed.
 fn swept_run<'a>(
     job: &SweepJob<'a>,
     policy: Policy,
     table: &Config,
     place: usize,
-    load: u64,
+    point: Point,
 ) -> Result<SweptRun, SweepFault<'a>>
-    ensures { IfOk result (IsSweptRun policy job.now.asked.now load table.now) }
+    ensures { IfOk result (IsSweptRun policy job.now.asked.now point.load table.now) }
 {
     let asked = job.asked;
-    let loads = asked.at(job.alloc, load)?;
+    let loads = asked.at(job.alloc, point.load)?;
     let plan = ArrivalPlan {
         loads: loads.as_slice(),
         timing: asked.timing,
-        seed: asked.seed,
+        seed: point.seed,
     };
     let made = made_arrivals(job.alloc, table, &plan, asked.word)?;
     let run = run_on(job, policy, table, place, made)?;
     Ok(run)
 }
 
-/// A run of each table with this load, in the order of the tables.
+/// A run of each table with this load and this seed, in the order of the tables.
 fn swept_runs<'a>(
     job: &SweepJob<'a>,
     policy: Policy,
     tables: &[Config],
-    load: u64,
+    point: Point,
 ) -> Result<Vec<SweptRun>, SweepFault<'a>>
     ensures { IfOk result (λ runs.
-        AreSweptRuns policy job.now.asked.now load tables.now runs.items) }
+        AreSweptRuns policy job.now.asked.now point.load tables.now runs.items) }
 {
     let mut runs = Vec::new(job.alloc);
     for place in 0..tables.len() {
-        let of_table = swept_run(job, policy, table_at(tables, place), place, load)?;
+        let of_table = swept_run(job, policy, table_at(tables, place), place, point)?;
         runs.push(of_table)?;
     }
     Ok(runs)
 }
 
-/// The runs of a load: one of each table.
+/// The runs of a load with a seed: one of each table.
 fn swept_load<'a>(
     job: &SweepJob<'a>,
     policy: Policy,
     tables: &[Config],
-    load: u64,
+    point: Point,
 ) -> Result<SweptLoad, SweepFault<'a>>
-    ensures { IfOk result (IsSweptLoad policy job.now.asked.now tables.now load) }
+    ensures { IfOk result (IsSweptLoad policy job.now.asked.now tables.now point) }
 {
-    let runs = swept_runs(job, policy, tables, load)?;
-    Ok(SweptLoad { load, runs })
+    let runs = swept_runs(job, policy, tables, point)?;
+    let Point { load, seed } = point;
+    Ok(SweptLoad { load, seed, runs })
 }
 
-/// The runs of each of these loads, at most two loads at a time for each processor, and one after
-/// the other where no thread can be started; or the fault of the first load that has one. What is
-/// answered does not depend on the threads. Fails only when out of memory.
+/// The runs of each of these loads with its seed, at most two of these at a time for each
+/// processor, and one after the other where no thread can be started; or the fault of the first that
+/// has one. What is answered does not depend on the threads. Fails only when out of memory.
 fn answered_loads<'a>(
     rt: &(impl Threads + Sync),
     job: &SweepJob<'a>,
     policy: Policy,
     tables: &[Config],
-    loads: &[u64],
+    points: &[Point],
 ) -> Result<Result<Vec<SweptLoad>, SweepFault<'a>>, AllocError>
     ensures { IfOk result (λ answer. IfOk answer (λ swept.
-        AreSweptLoads policy job.now.asked.now tables.now loads.now swept.items)) }
+        AreSweptLoads policy job.now.asked.now tables.now points.now swept.items)) }
 {
-    loads
+    points
         .par_iter()
         .with_min_len(1)
         .map(
-            |load: &u64| -> Result<SweptLoad, SweepFault>
+            |point: &Point| -> Result<SweptLoad, SweepFault>
                 ensures { IfOk result (IsSweptLoad policy
-                    job.entry.now.asked.now tables.entry.now load.now) }
-            { swept_load(job, policy, tables, *load) },
+                    job.entry.now.asked.now tables.entry.now point.now) }
+            { swept_load(job, policy, tables, *point) },
         )
         .collect(rt, job.alloc)
 }
 
-/// For each of these loads a run of each table, in the order of the loads.
+/// Puts a load with each seed that is asked for after some of these. Fails only when out of memory.
+fn put_points(points: &mut Vec<Point>, asked: &Asked<'_>, load: u64) -> Result<(), AllocError>
+    ensures { OnOk result
+        (points.new.items ≡ points.old.items ++ with_seeds asked.now.seed asked.now.seeds load) }
+{
+    for number in 0..asked.seeds {
+        let seed = asked.seed.wrapping_add(number);
+        points.push(Point { load, seed })?;
+    }
+    Ok(())
+}
+
+/// Each load that is asked for in turn, with each of the seeds. Fails only when out of memory.
+fn points_of(alloc: Global, asked: &Asked<'_>) -> Result<Vec<Point>, AllocError>
+    ensures { IfOk result (λ points. points.items ≡ points_of asked.now) }
+{
+    let mut points = Vec::new(alloc);
+    for place in 0..asked.loads.len() {
+        put_points(&mut points, asked, asked.loads[place])?;
+    }
+    Ok(points)
+}
+
+/// For each load that is asked for and each seed a run of each table, in the order of the loads, and
+/// then of the seeds.
 fn swept_loads<'a>(
     rt: &(impl Threads + Sync),
     job: &SweepJob<'a>,
     policy: Policy,
     tables: &[Config],
-    loads: &[u64],
 ) -> Result<Vec<SweptLoad>, SweepFault<'a>>
-    ensures { IfOk result (λ swept.
-        AreSweptLoads policy job.now.asked.now tables.now loads.now swept.items) }
+    ensures { IfOk result (λ swept. AreSweptLoads policy job.now.asked.now tables.now
+        (points_of job.now.asked.now) swept.items) }
 {
-    answered_loads(rt, job, policy, tables, loads)?
+    let points = points_of(job.alloc, job.asked)?;
+    answered_loads(rt, job, policy, tables, points.as_slice())?
 }
 
 /// One table alone. Fails only when out of memory.
@@ -240,8 +278,8 @@ fn tables_of(
 }
 
 /// The table of a job's input, or those that it gives with each value of a variation, and for each
-/// load in turn a run by this policy of each of these tables on arrivals that are made for it
-/// with this load.
+/// load in turn and each seed a run by this policy of each of these tables on arrivals that are made
+/// for it with this load and this seed.
 ///
 /// The fault is that of the table, then `Names` where there are some and not as many as its tasks,
 /// then that of the first word that names a task which it has not, then that of the first value that
@@ -275,7 +313,7 @@ pub fn swept<'a>(
     are_counted(&table, names.labels)?;
     are_known(&table, asked.tasks.as_slice(), asked.named.as_slice())?;
     let tables = tables_of(alloc, table, names.variation)?;
-    let loads = swept_loads(rt, job, policy, tables.as_slice(), asked.loads.as_slice())?;
+    let loads = swept_loads(rt, job, policy, tables.as_slice())?;
     Ok(Sweep { tables, loads })
 }
 

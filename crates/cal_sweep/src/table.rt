@@ -1,8 +1,10 @@
-//! Sweeps as a table: a row for each run, by loads, then by tables, and last by policies.
+//! Sweeps as a table: a row for each run, by loads, then by tables, and last by policies; of several
+//! seeds three rows.
 
 use crate::naming::SweepNames;
 use crate::objective::rank_word;
 use crate::runs::{Sweep, SweptRun};
+use crate::seed_rows::{SEED_ROWS, SeedRow, of_seeds, seed_row_name};
 use crate::shares::best_effort_share;
 use cal_load::Count;
 use cal_machine::Config;
@@ -112,14 +114,14 @@ fn figure_of(table: &Config, run: &SweptRun, task: usize, column: Column) -> Opt
     }
 }
 
-/// The run of a row: its load, in thousandths, and the places of its table and of its policy.
+/// The runs of a row, one with each seed: their load, in thousandths, the place of the first of them
+/// in its sweep, and the places of their table and of their policy.
 #[derive(Clone, Copy)]
-struct RunAt<'a> {
+struct RunsAt {
     load: u64,
+    first: usize,
     table: usize,
     policy: usize,
-    config: &'a Config,
-    run: &'a SweptRun,
 }
 
 /// What stands for a table and for a policy, where one of them has a name, or both have.
@@ -141,6 +143,8 @@ fn joined(
 pub struct ShownSweep<'a> {
     /// The sweep by each policy.
     pub sweeps: &'a [Sweep],
+    /// How many seeds there are, at least one.
+    pub seeds: usize,
     /// The number of the task.
     pub task: usize,
     pub names: SweepNames<'a>,
@@ -187,6 +191,9 @@ impl<'a> ShownSweep<'a> {
         if let Some(name) = self.run_heading(alloc)? {
             row.push(name)?;
         }
+        if self.seeds > 1 {
+            row.push(format!(in alloc; "of {} seeds", self.seeds)?)?;
+        }
         for column in COLUMNS {
             let name = String::from_str(alloc, name_of(column))?;
             self.form_of(column).put_heading(alloc, &mut row, name)?;
@@ -194,20 +201,53 @@ impl<'a> ShownSweep<'a> {
         Ok(row)
     }
 
-    /// The row of a run: the load, what the run is called, and what each column says.
-    fn row(self, alloc: Global, at: RunAt<'_>) -> Result<Vec<String>, AllocError> {
+    /// A row: the load, what its runs are called, which of the seeds' figures stand in it where there
+    /// are several seeds, and what each column says.
+    fn row(self, alloc: Global, at: RunsAt, which: SeedRow) -> Result<Vec<String>, AllocError> {
         let mut row = Vec::new(alloc);
         row.push(number(alloc, at.load, Unit::Thousandth)?)?;
         let (value, policy) = (self.names.value(at.table), self.names.policy(at.policy));
         if let Some(name) = joined(alloc, value, policy)? {
             row.push(name)?;
         }
+        if self.seeds > 1 {
+            row.push(String::from_str(alloc, seed_row_name(which))?)?;
+        }
         for column in COLUMNS {
-            let figure = figure_of(at.config, at.run, self.task, column);
+            let figure = of_seeds(self.figures(alloc, at, column)?, which)?;
             let form = self.form_of(column);
             form.put_figure(alloc, &mut row, figure, unit_of(column))?;
         }
         Ok(row)
+    }
+
+    /// What a column says of the run with each seed. Fails only when out of memory.
+    fn figures(
+        self,
+        alloc: Global,
+        at: RunsAt,
+        column: Column,
+    ) -> Result<Vec<Option<Figure>>, AllocError> {
+        let mut figures = Vec::new(alloc);
+        for number in 0..self.seeds {
+            figures.push(self.figure(at, number, column))?;
+        }
+        Ok(figures)
+    }
+
+    /// What a column says of the run with a seed.
+    fn figure(self, at: RunsAt, number: usize, column: Column) -> Option<Figure> {
+        let sweep = self.sweeps.get(at.policy)?;
+        let table = sweep.tables.as_slice().get(at.table)?;
+        let place = at.first.saturating_add(number);
+        let run = sweep
+            .loads
+            .as_slice()
+            .get(place)?
+            .runs
+            .as_slice()
+            .get(at.table)?;
+        figure_of(table, run, self.task, column)
     }
 
     /// How many tables each sweep has.
@@ -215,38 +255,46 @@ impl<'a> ShownSweep<'a> {
         self.sweeps.first().map_or(0, |first| first.tables.len())
     }
 
-    /// How many rows there are.
+    /// How many rows there are; of several seeds, how many times three.
     fn rows(self) -> usize {
-        let loads = self.sweeps.first().map_or(0, |first| first.loads.len());
+        let points = self.sweeps.first().map_or(0, |first| first.loads.len());
         let of_load = self.tables().saturating_mul(self.sweeps.len());
-        loads.saturating_mul(of_load)
+        (points / self.seeds.max(1)).saturating_mul(of_load)
     }
 
-    /// The run of a row, below the heading.
-    fn run_at(self, row: usize) -> Option<RunAt<'a>> {
+    /// The runs of a row, below the heading.
+    fn runs_at(self, row: usize) -> Option<RunsAt> {
         let policies = self.sweeps.len().max(1);
         let tables = self.tables().max(1);
         let (place, policy) = (row / policies, row % policies);
         let (load, table) = (place / tables, place % tables);
-        let sweep = self.sweeps.get(policy)?;
-        let load = sweep.loads.as_slice().get(load)?;
-        Some(RunAt {
-            load: load.load,
+        let first = load.saturating_mul(self.seeds);
+        let runs = self.sweeps.get(policy)?.loads.as_slice().get(first)?;
+        Some(RunsAt {
+            load: runs.load,
+            first,
             table,
             policy,
-            config: sweep.tables.as_slice().get(table)?,
-            run: load.runs.as_slice().get(table)?,
         })
     }
 
-    /// The runs of the sweeps, a row for each: what came of the task in it. Fails only when out of
-    /// memory.
+    /// Puts the rows of some runs: one, or of several seeds three.
+    fn put_rows(self, alloc: Global, at: RunsAt, sheet: &mut Sheet) -> Result<(), AllocError> {
+        let few = if self.seeds > 1 { SEED_ROWS.len() } else { 1 };
+        for which in SEED_ROWS.iter().take(few) {
+            sheet.put(self.row(alloc, at, *which)?)?;
+        }
+        Ok(())
+    }
+
+    /// The runs of the sweeps, a row for each, or of several seeds three: what came of the task in
+    /// them. Fails only when out of memory.
     pub fn sheet(self, alloc: Global) -> Result<Sheet, AllocError> {
         let mut sheet = Sheet::new(alloc);
         sheet.put(self.heading(alloc)?)?;
         for row in 0..self.rows() {
-            if let Some(run) = self.run_at(row) {
-                sheet.put(self.row(alloc, run)?)?;
+            if let Some(at) = self.runs_at(row) {
+                self.put_rows(alloc, at, &mut sheet)?;
             }
         }
         Ok(sheet)

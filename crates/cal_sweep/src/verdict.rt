@@ -2,16 +2,12 @@
 
 ghost use Rattle.std.specs.Prelude.{◌≡◌};
 ghost use Rattle.std.specs.List.{list_any};
-ghost use Rattle.cal_sweep.specs.Objectives.{is_not_kept, is_not_kept_by};
-ghost use Rattle.cal_sweep.specs.Objectives.{standing_of, status_of_sweeps};
+ghost use Rattle.cal_sweep.specs.Objectives.{is_not_kept, is_not_kept_at, is_not_kept_by};
+ghost use Rattle.cal_sweep.specs.Objectives.{standing_of, standing_with_seeds, stands_at};
+ghost use Rattle.cal_sweep.specs.Objectives.{status_of_sweeps};
 
-use crate::naming::SweepNames;
-use crate::objective::{Objective, Standing, is_kept, rank_word, response_at, standing_at};
+use crate::objective::{Objective, Standing, is_kept, is_same, response_at, standing_at};
 use crate::runs::{Sweep, SweptLoad, SweptRun};
-use cal_load::Count;
-use cal_measure::Time;
-use cal_tables::Labels;
-use std::io::Write;
 
 /// What becomes of an objective in a run: where some requests were left out that came before the end
 /// of the window, it is missed.
@@ -44,7 +40,26 @@ fn is_not_kept_by_any(objective: &Objective, runs: &[SweptRun]) -> bool
     false
 }
 
-/// Whether one of the runs of the last load does not keep an objective.
+/// Whether these runs are of this load, and one of them does not keep an objective.
+fn is_not_kept_at(objective: &Objective, load: u64, of_load: &SweptLoad) -> bool
+    ensures { result ≡ is_not_kept_at objective.now load of_load.now }
+{
+    of_load.load == load && is_not_kept_by_any(objective, of_load.runs.as_slice())
+}
+
+/// Whether one of the runs of a load, with one of its seeds, does not keep an objective.
+fn is_not_kept_with(objective: &Objective, loads: &[SweptLoad], load: u64) -> bool
+    ensures { result ≡ list_any (is_not_kept_at objective.now load) loads.now }
+{
+    for of_load in loads {
+        if is_not_kept_at(objective, load, of_load) {
+            return true;
+        }
+    }
+    false
+}
+
+/// Whether one of the runs of the last load, with one of its seeds, does not keep an objective.
 pub fn is_not_kept(objective: Option<Objective>, loads: &[SweptLoad]) -> bool
     ensures { result ≡ is_not_kept objective loads.now }
 {
@@ -53,7 +68,7 @@ pub fn is_not_kept(objective: Option<Objective>, loads: &[SweptLoad]) -> bool
     };
     match loads.get(loads.len().saturating_sub(1)) {
         None => false,
-        Some(load) => is_not_kept_by_any(&objective, load.runs.as_slice()),
+        Some(last) => is_not_kept_with(&objective, loads, last.load),
     }
 }
 
@@ -81,130 +96,58 @@ pub fn status_of_sweeps(objective: Option<Objective>, sweeps: &[Sweep]) -> u8
     }
 }
 
-/// Writes a line for each table whose run of the last load of a sweep does not keep the objective:
-/// the objective, the load, what stands at the rank there, and up to which load the objective was
-/// kept. Before it stand the value that makes the table and the policy, at this place, where there
-/// are several.
-pub fn say_misses<E: Write>(
-    sweep: &Sweep,
-    policy: usize,
-    objective: &Objective,
-    names: SweepNames<'_>,
-    errors: &mut E,
-) {
-    let loads = sweep.loads.as_slice();
-    let Some(last) = loads.last() else {
-        return;
-    };
-    for table in 0..last.runs.len() {
-        let run = &last.runs[table];
-        if is_not_kept_by(objective, run) {
-            say_name(names, table, policy, errors);
-            let miss = Miss {
-                objective,
-                load: last.load,
-                run,
-            };
-            say_standing(miss, errors);
-            say_time(miss, names.labels, errors);
-            say_kept(kept_up_to(objective, loads, table), errors);
+/// An objective, and the runs of a table at a load, of which there is one with each seed.
+#[derive(Clone, Copy)]
+pub struct AtLoad<'a> {
+    /// The objective.
+    pub objective: &'a Objective,
+    /// The runs of each load with each seed.
+    pub loads: &'a [SweptLoad],
+    /// The load, in thousandths.
+    pub load: u64,
+    /// The place of the table.
+    pub table: usize,
+}
+
+impl AtLoad<'_> {
+    /// Whether these runs are of the load, and the objective stands so in that of the table.
+    pub fn stands_at(self, standing: Standing, of_load: &SweptLoad) -> bool
+        ensures { result ≡ stands_at standing self.objective.now self.load self.table of_load.now }
+    {
+        if of_load.load != self.load {
+            return false;
+        }
+        match of_load.runs.as_slice().get(self.table) {
+            None => false,
+            Some(run) => is_same(standing, standing_of(self.objective, run)),
         }
     }
-}
 
-/// Writes the name of the program, the value that makes the table, and the policy.
-fn say_name<E: Write>(names: SweepNames<'_>, table: usize, policy: usize, errors: &mut E) {
-    let _ = write!(errors, "caladan_view: ");
-    if let (Some(variation), Some(value)) = (names.variation, names.value(table)) {
-        let _ = write!(errors, "{}={value}: ", variation.key);
-    }
-    if let Some(policy) = names.policy(policy) {
-        let _ = write!(errors, "{policy}: ");
-    }
-}
-
-/// A run that does not keep an objective.
-#[derive(Clone, Copy)]
-struct Miss<'a> {
-    objective: &'a Objective,
-    /// The load of the run, in thousandths.
-    load: u64,
-    run: &'a SweptRun,
-}
-
-/// Writes the objective, that a run misses it or leaves it undecided, and the load.
-fn say_standing<E: Write>(miss: Miss<'_>, errors: &mut E) {
-    let Miss {
-        objective,
-        load,
-        run,
-    } = miss;
-    let standing = match standing_of(objective, run) {
-        Standing::Undecided => "undecided",
-        Standing::Missed | Standing::Kept => "missed",
-    };
-    let (ones, rest) = (load / 1000, load % 1000);
-    let _ = write!(
-        errors,
-        "{objective} is {standing} at load {ones}.{rest:03}: "
-    );
-}
-
-/// Writes why a run does not keep an objective: from which turn on requests were left out, or what
-/// stands at its rank.
-fn say_time<E: Write>(miss: Miss<'_>, labels: Labels<'_>, errors: &mut E) {
-    let Miss { objective, run, .. } = miss;
-    if run.is_cut {
-        let turn = left_from(run.counts.as_slice());
-        let _ = write!(errors, "requests are left out from turn {turn} on");
-        return;
-    }
-    let (rank, unit) = (rank_word(objective.rank), labels.ticks());
-    let _ = match response_at(&run.numbers, objective.task, objective.rank) {
-        None => write!(errors, "no requests came"),
-        Some(Time::Known(ticks)) => write!(errors, "{rank} is {ticks} {unit}"),
-        Some(Time::More(ticks)) => {
-            let _ = write!(errors, "{rank} is pending for {ticks} {unit}");
-            match standing_of(objective, run) {
-                Standing::Undecided => write!(errors, ", run longer"),
-                Standing::Missed | Standing::Kept => Ok(()),
+    /// Whether the objective stands so with one of the seeds.
+    fn stands_with_any(self, standing: Standing) -> bool
+        ensures { result ≡
+            list_any (stands_at standing self.objective.now self.load self.table) self.loads.now }
+    {
+        for of_load in self.loads {
+            if self.stands_at(standing, of_load) {
+                return true;
             }
         }
-    };
-}
-
-/// The turn from which on requests were left out; where none were, 0.
-fn left_from(counts: &[Count]) -> u64 {
-    let mut first: Option<u64> = None;
-    for count in counts {
-        first = match (first, count.left_from) {
-            (Some(turn), Some(other)) => Some(turn.min(other)),
-            (one, other) => one.or(other),
-        };
+        false
     }
-    first.unwrap_or(0)
-}
 
-/// Writes up to which load the objective was kept, and ends the line.
-fn say_kept<E: Write>(kept: Option<u64>, errors: &mut E) {
-    let _ = match kept {
-        None => writeln!(errors, "; kept at no load"),
-        Some(load) => {
-            let (ones, rest) = (load / 1000, load % 1000);
-            writeln!(errors, "; kept up to load {ones}.{rest:03}")
+    /// What becomes of the objective with all seeds: it is missed where it is missed with one, else
+    /// undecided where it is undecided with one, and kept where it is kept with all.
+    pub fn standing(self) -> Standing
+        ensures { result ≡
+            standing_with_seeds self.objective.now self.loads.now self.load self.table }
+    {
+        if self.stands_with_any(Standing::Missed) {
+            Standing::Missed
+        } else if self.stands_with_any(Standing::Undecided) {
+            Standing::Undecided
+        } else {
+            Standing::Kept
         }
-    };
-}
-
-/// The last load up to which each run of a table keeps the objective.
-fn kept_up_to(objective: &Objective, loads: &[SweptLoad], table: usize) -> Option<u64> {
-    let mut kept = None;
-    for load in loads {
-        let run = load.runs.as_slice().get(table)?;
-        if is_not_kept_by(objective, run) {
-            break;
-        }
-        kept = Some(load.load);
     }
-    kept
 }

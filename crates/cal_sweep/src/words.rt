@@ -1,6 +1,6 @@
 //! What a sweep is of, as words say it.
 
-ghost use Rattle.std.specs.Prelude.{◌≡◌, ◌<◌, ◌≤◌, IfOk, IfSome, IsTrue, None, Ok};
+ghost use Rattle.std.specs.Prelude.{◌≡◌, ◌<◌, ◌≤◌, ◌+◌, ◌^◌, IfOk, IfSome, IsTrue, None, Ok};
 ghost use Rattle.cal_sweep.specs.Words.{AreLoadedWith, IsAsked, first_tenth, has_load};
 ghost use Rattle.cal_sweep.specs.Words.{last_tenth, swept_task};
 
@@ -10,6 +10,9 @@ use cal_load::{LoadFault, LoadWords, TaskLoad, Timing, Why, number_of, refused, 
 use cal_paced::Plan;
 use cal_tables::NumberForm;
 use std::alloc::{AllocError, Global};
+
+/// With how many seeds a load may run.
+pub const MOST_SEEDS: u64 = 1000;
 
 /// What words ask for, each as it was given.
 #[derive(Debug, Drop)]
@@ -26,6 +29,8 @@ pub struct SweepWords<'a> {
     pub to: Option<&'a str>,
     /// By which plan all runs go; without it they are in lockstep.
     pub plan: Option<Plan>,
+    /// With how many seeds each load runs, from its seed on.
+    pub seeds: Option<&'a str>,
     /// In which form its numbers are written.
     pub form: NumberForm,
 }
@@ -47,7 +52,9 @@ pub struct Asked<'a> {
     pub first: u64,
     /// The first turn after the window.
     pub after: u64,
-    /// The seed of all runs.
+    /// With how many seeds each load runs: the first, and those after it.
+    pub seeds: u64,
+    /// The seed of the runs; of several seeds the first.
     pub seed: u64,
     /// By which plan all runs go; without it they are in lockstep.
     pub plan: Option<Plan>,
@@ -137,8 +144,26 @@ fn asked_turns<'a>(
     }
 }
 
+/// How many seeds a word asks for, from this one on: one without a word, and no more than there are
+/// numbers for. The fault is that of the word.
+fn asked_seeds<'a>(word: Option<&'a str>, first: u64) -> Result<u64, LoadFault<'a>>
+    ensures few { IfOk result (λ seeds. (1 ≤ seeds) × (seeds ≤ MOST_SEEDS)) }
+    ensures fit { IfOk result (λ seeds. first + seeds ≤ 2 ^ 64) }
+    ensures none { word.entry ≡ None → result ≡ Ok 1 }
+{
+    let Some(word) = word else {
+        return Ok(1);
+    };
+    let most = (u64::MAX - first).saturating_add(1).min(MOST_SEEDS);
+    match number_of(word) {
+        Some(seeds) if 1 <= seeds && seeds <= most => Ok(seeds),
+        _ => Err(refused("--seeds", word, Why::NotSeeds(most))),
+    }
+}
+
 /// What words ask for, where they need no table: loads, of one task at most several; an objective
-/// of a task to which requests come; a key with values; a window. The fault is that of the first word.
+/// of a task to which requests come; a key with values; a window; seeds. The fault is that of the
+/// first word.
 pub fn asked_of<'a>(alloc: Global, words: &SweepWords<'a>) -> Result<Asked<'a>, SweepFault<'a>>
     ensures { IfOk result (IsAsked words.now) }
 {
@@ -146,6 +171,7 @@ pub fn asked_of<'a>(alloc: Global, words: &SweepWords<'a>) -> Result<Asked<'a>, 
     let objective = asked_objective(words.slo, stepped.tasks.as_slice())?;
     are_values(words.vary)?;
     let (first, after) = asked_turns(words.from, words.to, words.load.timing.turns)?;
+    let seeds = asked_seeds(words.seeds, words.load.seed)?;
     Ok(Asked {
         loads: stepped.loads,
         objective,
@@ -154,6 +180,7 @@ pub fn asked_of<'a>(alloc: Global, words: &SweepWords<'a>) -> Result<Asked<'a>, 
         timing: words.load.timing,
         first,
         after,
+        seeds,
         seed: words.load.seed,
         plan: words.plan,
         word: stepped.word,

@@ -25,6 +25,7 @@ pub fn sweep_word<'a>(alloc: Global) -> Result<Command<'a>, AllocError> {
         .arg(slo_word(alloc))?
         .arg(from_word(alloc))?
         .arg(to_word(alloc))?
+        .arg(seeds_word(alloc))?
         .arg(csv_word(alloc))?
         .arg(names_word(alloc))?
         .arg(tick_word(alloc))?
@@ -46,6 +47,11 @@ fn to_word<'a>(alloc: Global) -> Arg<'a> {
     value_word(alloc, "to", "TURN", help).hide_short_help(true)
 }
 
+fn seeds_word<'a>(alloc: Global) -> Arg<'a> {
+    let help = "Run each load with N seeds, from --seed on, 1 to 1000";
+    value_word(alloc, "seeds", "N", help).hide_short_help(true)
+}
+
 /// What the words of a parsed command line ask for. Fails only when out of memory.
 pub fn sweep_words<'a>(
     alloc: Global,
@@ -58,6 +64,7 @@ pub fn sweep_words<'a>(
         from: matches.get_str("from"),
         to: matches.get_str("to"),
         plan: plan_asked(matches),
+        seeds: matches.get_str("seeds"),
         form: number_form_of(matches.get_flag("csv")),
     })
 }

@@ -9,11 +9,11 @@ use Rattle.cal_sweep.proofs.runs.answered_loads.Goals as goal
 pub returns : goal.returns
 returns g c =
     let tables = c.args.tables.now in
-    let loads = c.args.loads.now in
+    let points = c.args.points.now in
     let asked = c.args.job.now.asked.now in
     let shown = ap (λ it. it.base.slice.now) c.map.ensures.base ∙ ap (λ it. it.slice.now) c.with_min_len.ensures.base ∙ c.par_iter.ensures in
     IfOk-then c.collect.result _ _ c.collect.ensures (λ answer made.
     let chain = rw c.map.ensures.f at made.1 in
-    let each = slice-AllZip chain.0 loads (chain.1 ∙ shown) (λ load r. IfOk r (IsSweptLoad c.args.policy asked tables load)) made.0 chain.2 in
+    let each = slice-AllZip chain.0 points (chain.1 ∙ shown) (λ point r. IfOk r (IsSweptLoad c.args.policy asked tables point)) made.0 chain.2 in
     ok_then _ _ _ answer made.2 (λ swept of.
-    rw of.2 (each_answered _ (IsSweptLoad c.args.policy asked tables) loads of.0 (rw of.1 at each))))
+    rw of.2 (each_answered _ (IsSweptLoad c.args.policy asked tables) points of.0 (rw of.1 at each))))

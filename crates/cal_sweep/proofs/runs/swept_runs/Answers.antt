@@ -12,6 +12,6 @@ loop-place-preserved c =
     let many : length before ≡ c.loop-place.place = c.loop-place.invariant.many in
     record {
       many = let e = ap (λ (l : List SweptRun). length l) more in omega (arith, e, many, length-append before (now ∷ []));
-      each = subst (λ (l : List SweptRun). EachIsOf (IsSweptRun c.args.policy c.args.job.now.asked.now c.args.load) c.args.tables.now l) (sym more)
-          (one_more (IsSweptRun c.args.policy c.args.job.now.asked.now c.args.load) c.args.tables.now before c.loop-place.place _ now many c.table_at.ensures c.in_ok-of_table.ensures c.loop-place.invariant.each);
+      each = subst (λ (l : List SweptRun). EachIsOf (IsSweptRun c.args.policy c.args.job.now.asked.now c.args.point.load) c.args.tables.now l) (sym more)
+          (one_more (IsSweptRun c.args.policy c.args.job.now.asked.now c.args.point.load) c.args.tables.now before c.loop-place.place _ now many c.table_at.ensures c.in_ok-of_table.ensures c.loop-place.invariant.each);
     }

@@ -6,5 +6,5 @@ use Rattle.cal_sweep.proofs.runs.swept_runs.Given as goal
 abbrev pub invariant-loop-place : goal.invariant-loop-place
 invariant-loop-place l = record {
   many : length l.runs.items ≡ l.place;
-  each : EachIsOf (IsSweptRun l.policy l.job.asked.now l.load) l.tables l.runs.items;
+  each : EachIsOf (IsSweptRun l.policy l.job.asked.now l.point.load) l.tables l.runs.items;
 }
