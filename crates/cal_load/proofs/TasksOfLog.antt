@@ -1,8 +1,8 @@
 -- What comes to the tasks of a table by a log, with one task more.
-use Rattle.std.proofs.Common.{◌≡◌, ◌<◌, ◌≤◌, ◌+◌, ◌∙◌, ◌⊎◌, ◌++◌, ◌∷◌, [], inl, inr, ⊎_elim, ℕ, zero, suc, List, length, map, Some, slice_get, refl, ap, sym, subst, arith, length-append}
+use Rattle.std.proofs.Common.{◌≡◌, ◌<◌, ◌≤◌, ◌+◌, ◌∙◌, ◌⊎◌, ◌++◌, ◌∷◌, [], inl, inr, ⊎_elim, ℕ, zero, suc, List, length, map, Some, slice_get, ap, sym, subst, arith, length-append}
 use Rattle.std.proofs.lemmas.Bool.{cases_eq}
 use Rattle.cal_load.specs.Built.{AreBuilt}
-use Rattle.cal_load.specs.Logs.{AreDealt, AreGiven, IsGivenTo, IsTaskOfLog, rows_for, slots_on}
+use Rattle.cal_load.specs.Logs.{AreDealt, AreGiven, IsGivenTo, IsTaskOfLog, rows_for}
 use Rattle.cal_load.specs.Taken.{IsNoneOf, all_on, taken_by}
 use Rattle.cal_load.specs.declared.log.LogRow.{LogRow}
 use Rattle.cal_load.specs.declared.made.Count.{Count}
