@@ -62,21 +62,20 @@ def decimal(number, digits):
 
 
 def logs():
-    """Logs with their words: whole numbers and fractions, of one task and of several, that come slowly and at once."""
-    for seed in range(6):
-        chance = random.Random(seed)
-        digits = chance.choice([0, 1, 3, 9])
-        time = chance.choice([0, 1_700_000_000 * 10**digits])
-        names = ["kv", "log", "batch"] if seed % 2 else []
-        rows = []
-        for _ in range(chance.choice([1, 40, 400])):
-            time += chance.choice([0, 0, 1, 7, 10, 120]) * 10**digits // chance.choice([1, 3])
-            took = chance.choice([0, 1, 10, 29, 31, 300]) * 10**digits // chance.choice([1, 7])
-            task = names[chance.randrange(3)] if names else str(chance.randrange(3))
+    """Logs with their words: of one request, of fractions, of other units than the turn's, of clocks of a machine, of
+    names, of one task, and of more than the threads can take."""
+    for place, (many, digits, since, unit, turn, turns, ticks) in enumerate([
+            (1, 0, 0, "ms", "7ms", None, 10), (60, 9, 1_700_000_000, "s", "33.25us", None, 1),
+            (300, 3, 0, "us", "0.5us", 20, 7), (300, 1, 100, "ns", "0.01us", None, 10),
+            (100, 0, 4_000_000_000, "ns", "250.5ns", 3000, 10), (40, 2, 7, "ms", "1ms", None, 9)]):
+        chance, named = random.Random(place), place % 2
+        names, time, rows = ["kv", "log", "batch"] if named else [], since * 10**digits, []
+        for _ in range(many):
+            time += chance.choice([0, 0, 1, 7, 10, 333]) * (10**5 if unit == "s" else 1)
+            took = chance.choice([0, 1, 10, 29, 31, 300]) * (10**5 if unit == "s" else 10**digits) // chance.choice([1, 7])
+            task = names[chance.randrange(3)] if named else str(chance.randrange(3))
             fields = [decimal(time, digits), decimal(took, digits)]
-            rows.append(",".join([*fields, "x"] if seed == 2 else [task, *fields]))
-        head = "time,service,client" if seed == 2 else "task,time,service"
-        words = {"unit": chance.choice(list(UNITS)), "names": names, "task": 2 if seed == 2 else 0}
-        words["turn"] = chance.choice(["10", "7", "0.5", "33.25"]) + words["unit"]
-        words["turns"], words["ticks"] = chance.choice([None, None, 20, 3000]), chance.choice([1, 10, 7])
-        yield "\n".join([head, *rows, ""]), words
+            rows.append(",".join([*fields, "x"] if place == 2 else [task, *fields]))
+        head = "time,service,client" if place == 2 else "task,time,service"
+        yield "\n".join([head, *rows, ""]), {"unit": unit, "turn": turn, "turns": turns, "ticks": ticks, "names": names,
+                                             "task": 2 if place == 2 else 0}

@@ -1,6 +1,6 @@
 -- Requests of a log that are given, with one more.
 use Rattle.std.proofs.Common.{◌≡◌, ◌≢◌, ◌<◌, ◌≤◌, ◌+◌, ◌-◌, ◌^◌, ◌∙◌, ◌⊎◌, inl, inr, ⊎_elim, ℕ, zero, suc, List, [], ◌∷◌, ◌++◌, All, length, map, take, set, Some, None, Option, slice_get, cond, eqb, not, refl, ap, sym, subst, arith, length-append}
-use Rattle.std.proofs.lemmas.Bool.{cases_eq, cases_lt, eq-eqb, ne_eqb}
+use Rattle.std.proofs.lemmas.Bool.{cases_eq, eq-eqb, ne_eqb}
 use Rattle.std.proofs.lemmas.List.{append-nil, length-take, map-append, take-append-le}
 use Rattle.std.proofs.lemmas.List.Elements.{All-get_or, filter_more}
 use Rattle.std.proofs.lemmas.List.Filters.{length-filter_both}
@@ -8,8 +8,8 @@ use Rattle.std.proofs.lemmas.List.Sums.{sum_by_push}
 use Rattle.std.proofs.lemmas.Option.{get_or_from_slice_get, slice_get_within}
 use Rattle.std.proofs.Math.Seq.{take-append_seam}
 use Rattle.cal_load.specs.Comings.{IsComing, IsQueue}
-use Rattle.cal_load.specs.Giving.{IsEmpty, IsGiving, IsNothing, IsTaken, placed, turn_for, free_next, out_in}
-use Rattle.cal_load.specs.Logs.{Given, AreDealt, IsOf, IsGivenTo, rows_for, slot_of, slot_on, slots_on, after_last, free_after, left_of}
+use Rattle.cal_load.specs.Giving.{IsEmpty, IsGiving, IsNothing, placed, turn_for, free_next, out_in}
+use Rattle.cal_load.specs.Logs.{Given, AreDealt, IsGivenTo, rows_for, slot_of, slot_on, slots_on, after_last, free_after}
 use Rattle.cal_load.specs.declared.log.LogRow.{LogRow}
 use Rattle.cal_load.specs.declared.made.TheConstants.{MOST_REQUESTS}
 use Rattle.cal_load.specs.declared.making.Coming.{Coming}

@@ -1,8 +1,8 @@
 -- What comes to the tasks of a table by a log, with one task more.
-use Rattle.std.proofs.Common.{◌≡◌, ◌<◌, ◌≤◌, ◌+◌, ◌∙◌, ◌++◌, ◌∷◌, [], inl, inr, ⊎_elim, ℕ, suc, List, length, map, Some, slice_get, refl, ap, sym, subst, arith, length-append}
+use Rattle.std.proofs.Common.{◌≡◌, ◌<◌, ◌≤◌, ◌+◌, ◌∙◌, ◌⊎◌, ◌++◌, ◌∷◌, [], inl, inr, ⊎_elim, ℕ, zero, suc, List, length, map, Some, slice_get, ap, sym, subst, arith, length-append}
 use Rattle.std.proofs.lemmas.Bool.{cases_eq}
 use Rattle.cal_load.specs.Built.{AreBuilt}
-use Rattle.cal_load.specs.Logs.{AreDealt, AreGiven, IsGivenTo, IsTaskOfLog, rows_for, slots_on}
+use Rattle.cal_load.specs.Logs.{AreDealt, AreGiven, IsGivenTo, IsTaskOfLog, rows_for}
 use Rattle.cal_load.specs.Taken.{IsNoneOf, all_on, taken_by}
 use Rattle.cal_load.specs.declared.log.LogRow.{LogRow}
 use Rattle.cal_load.specs.declared.made.Count.{Count}
@@ -19,18 +19,18 @@ use Rattle.cal_trace.specs.declared.arrivals.Arrival.{Arrival}
 
 -- the threads of a task come before the first of each later one
 first_after : (tasks : List Task) (t n : ℕ) → t < n → n ≤ length tasks → first_thread tasks t + (task_at tasks t).limit ≤ first_thread tasks n
-first_after tasks t (suc n) lt le = go (cases_eq t n)
-  where
-    go : (t ≡ n) ⊎ (t ≡ n → ⊥) → first_thread tasks t + (task_at tasks t).limit ≤ first_thread tasks (suc n)
-    go (inl same) =
-        let next = first_next tasks t (omega (arith, same, le)) in
-        let as : first_thread tasks (suc n) ≡ first_thread tasks (t + 1) = ap (λ k. first_thread tasks k) (let e : suc n ≡ t + 1 = omega (arith, same) in e) in
-        omega (arith, next, as)
-    go (inr other) =
-        let before = first_after tasks t n (omega (arith, lt, other)) (omega (arith, le)) in
-        let next = first_next tasks n (omega (arith, le)) in
-        let as : first_thread tasks (suc n) ≡ first_thread tasks (n + 1) = ap (λ k. first_thread tasks k) (let e : suc n ≡ n + 1 = omega arith in e) in
-        omega (arith, before, next, as)
+first_after tasks t zero lt le = elim lt [ ]
+first_after tasks t (suc n) lt le =
+    let next_is : first_thread tasks (suc n) ≡ first_thread tasks (n + 1) = ap (λ k. first_thread tasks k) (let e : suc n ≡ n + 1 = omega arith in e) in
+    let next = first_next tasks n (omega (arith, le)) in
+    ⊎_elim
+    (λ (same : t ≡ n).
+    let here = ap (λ k. first_thread tasks k + (task_at tasks k).limit) same in
+    omega (arith, next, next_is, here))
+    (λ (other : t ≡ n → ⊥).
+    let before = first_after tasks t n (omega (arith, lt, other)) (omega (arith, le)) in
+    omega (arith, before, next, next_is))
+    (cases_eq t n)
 
 -- a task that was given its requests before keeps them
 kept : (table : Table) (rows : List LogRow) (turns : ℕ) (old new : List Arrival) (counts : List Count) (count : Count) (task : ℕ) → task < length counts

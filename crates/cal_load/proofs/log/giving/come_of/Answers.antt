@@ -1,9 +1,8 @@
-use Rattle.std.proofs.Common.{◌≡◌, ◌+◌, ◌∙◌, ℕ, List, All, length, take, take_all, ap, sym, subst, arith}
+use Rattle.std.proofs.Common.{◌≡◌, ◌∙◌, ℕ, List, All, take, take_all, sym, subst, arith}
 use Rattle.cal_load.specs.Comings.{IsQueue}
 use Rattle.cal_load.specs.Logs.{IsGivenTo, rows_for}
 use Rattle.cal_load.specs.declared.log.LogRow.{LogRow}
 use Rattle.cal_load.specs.declared.making.Coming.{Coming}
-use Rattle.cal_load.specs.declared.making.Queue.{Queue}
 use Rattle.cal_load.proofs.Dealt.{given_more, given_none, row_more, row_other, rows_few}
 use Rattle.cal_load.proofs.log.giving.come_of.Goals as goal
 use Rattle.cal_load.proofs.log.giving.come_of.Goals.{then-row-task+in_ok-give, else-row-task}

@@ -15,8 +15,8 @@ loop-task-init c =
     given_nothing c.args.config.now c.args.rows.now c.args.turns c.new-gathered.result (c.new-gathered.ensures.is c.args.config.now [] c.args.turns).built c.new-gathered.ensures.nothing
     c.new-gathered.ensures.none
 
-pub come_of-coming-requires : goal.come_of-coming-requires
-come_of-coming-requires c =
+pub come_of-requires : goal.come_of-requires
+come_of-requires c =
     let tasks = c.args.config.now.tasks in
     let lt : c.loop-task.task < length tasks = let test = c.loop-task-test.true in let count = c.tasks-task-end.ensures.count in omega (arith, test, count) in
     let is = All-get_or IsTask tasks c.loop-task.task no_task lt c.limits.ensures.each in
