@@ -1,5 +1,5 @@
 -- What faults say, and what was read, of an input that asks for a run by a plan.
-use Rattle.std.proofs.Common.{◌≡◌, Result, Ok, Err, refl, subst, sym}
+use Rattle.std.proofs.Common.{◌≡◌, Option, Some, None, Result, Ok, Err, refl, subst, sym}
 use Rattle.cal_input.specs.Parts.{RunInput}
 use Rattle.cal_input.specs.declared.fault.RunFault.TheVariants as faults
 use Rattle.cal_input.specs.declared.fault.RunFault.{RunFault}
@@ -9,7 +9,7 @@ use Rattle.cal_paced.specs.declared.fault.PaceFault.TheVariants as paces
 use Rattle.cal_paced.specs.declared.fault.PaceFault.{PaceFault}
 use Rattle.cal_paced.specs.declared.plan.Plan.{Plan}
 use Rattle.cal_trace.specs.declared.arrivals.Arrivals.{Arrivals}
-use Rattle.cal_tables.specs.Planned.{DecidedBy, FailedBy, IsFaultOfPlan, IsPlannedInput, MayRunBy, fault_of_plan}
+use Rattle.cal_tables.specs.Planned.{DecidedBy, FailedBy, IsFaultBy, IsFaultOfPlan, IsPlannedInput, MayRunBy, fault_of_plan}
 use Rattle.cal_tables.specs.declared.planned.PlannedFault.TheVariants.{Pace, Run}
 use Rattle.cal_tables.specs.declared.planned.PlannedFault.{PlannedFault}
 use Rattle.cal_tables.specs.declared.planned.PlannedInput.{PlannedInput}
@@ -48,3 +48,8 @@ fault_of plan arrivals paces.Rows h = h
 fault_of plan arrivals paces.Passes h = h
 fault_of plan arrivals paces.NoPlan h = h
 fault_of plan arrivals paces.NoMisses h = h
+
+-- memory may be refused of any run
+pub memory_by : (plan : Option Plan) (arrivals : Arrivals) → IsFaultBy plan arrivals (Run faults.Memory)
+memory_by None arrivals = refl
+memory_by (Some plan) arrivals = refl

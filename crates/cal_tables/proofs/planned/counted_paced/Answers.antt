@@ -1,7 +1,7 @@
 use Rattle.std.proofs.Common.{◌≡◌, Err, rules}
 use Rattle.cal_tables.specs.Planned.{fault_of_plan}
 use Rattle.cal_tables.proofs.Planning.{fault_of}
-use Rattle.cal_tables.proofs.planned.measured_paced.Goals as goal
+use Rattle.cal_tables.proofs.planned.counted_paced.Goals as goal
 
 pub returns-in_err-given-clause-fault : goal.returns-in_err-given-clause-fault
 returns-in_err-given-clause-fault c =

@@ -30,6 +30,6 @@ returns-clause-numbers c arrivals planned =
       given = given;
       outcome = run.outcome;
       run = run.run;
-      are = subst (λ (t : Table). AreRunNumbers t given run.outcome c.in_ok-numbers_of_run.field-0) table
+      are = subst (λ (t : Table). AreRunNumbers t given c.args.counted.now run.outcome c.in_ok-numbers_of_run.field-0) table
           (c.in_ok-numbers_of_run.ensures run.outcome at_end);
     }
