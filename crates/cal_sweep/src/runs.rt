@@ -234,7 +234,8 @@ fn points_of(alloc: Global, asked: &Asked<'_>) -> Result<Vec<Point>, AllocError>
 {
     let mut points = Vec::new(alloc);
     for place in 0..asked.loads.len() {
-        put_points(&mut points, asked, asked.loads[place])?;
+        let load = asked.loads[place];
+        put_points(&mut points, asked, load)?;
     }
     Ok(points)
 }

@@ -112,7 +112,8 @@ pub struct AtLoad<'a> {
 impl AtLoad<'_> {
     /// Whether these runs are of the load, and the objective stands so in that of the table.
     pub fn stands_at(self, standing: Standing, of_load: &SweptLoad) -> bool
-        ensures { result ≡ stands_at standing self.objective.now self.load self.table of_load.now }
+        ensures { result ≡ stands_at standing self.entry.objective.now self.entry.load
+            self.entry.table of_load.now }
     {
         if of_load.load != self.load {
             return false;
@@ -126,7 +127,8 @@ impl AtLoad<'_> {
     /// Whether the objective stands so with one of the seeds.
     fn stands_with_any(self, standing: Standing) -> bool
         ensures { result ≡
-            list_any (stands_at standing self.objective.now self.load self.table) self.loads.now }
+            list_any (stands_at standing self.entry.objective.now self.entry.load
+            self.entry.table) self.entry.loads.now }
     {
         for of_load in self.loads {
             if self.stands_at(standing, of_load) {
@@ -140,7 +142,8 @@ impl AtLoad<'_> {
     /// undecided where it is undecided with one, and kept where it is kept with all.
     pub fn standing(self) -> Standing
         ensures { result ≡
-            standing_with_seeds self.objective.now self.loads.now self.load self.table }
+            standing_with_seeds self.entry.objective.now self.entry.loads.now self.entry.load
+            self.entry.table }
     {
         if self.stands_with_any(Standing::Missed) {
             Standing::Missed
