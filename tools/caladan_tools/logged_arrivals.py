@@ -68,11 +68,11 @@ def logs():
             (1, 0, 0, "ms", "7ms", None, 10), (60, 9, 1_700_000_000, "s", "33.25us", None, 1),
             (300, 3, 0, "us", "0.5us", 20, 7), (300, 1, 100, "ns", "0.01us", None, 10),
             (100, 0, 4_000_000_000, "ns", "250.5ns", 3000, 10), (40, 2, 7, "ms", "1ms", None, 9)]):
-        chance, named = random.Random(place), place % 2
+        chance, named, scale = random.Random(place), place % 2, 10**5 if unit == "s" else 1
         names, time, rows = ["kv", "log", "batch"] if named else [], since * 10**digits, []
         for _ in range(many):
-            time += chance.choice([0, 0, 1, 7, 10, 333]) * (10**5 if unit == "s" else 1)
-            took = chance.choice([0, 1, 10, 29, 31, 300]) * (10**5 if unit == "s" else 10**digits) // chance.choice([1, 7])
+            time += chance.choice([0, 0, 1, 7, 10, 333]) * scale
+            took = chance.choice([0, 1, 10, 29, 31, 300]) * max(scale, 10**min(digits, 3)) // chance.choice([1, 7])
             task = names[chance.randrange(3)] if named else str(chance.randrange(3))
             fields = [decimal(time, digits), decimal(took, digits)]
             rows.append(",".join([*fields, "x"] if place == 2 else [task, *fields]))
