@@ -4,5 +4,5 @@ use Rattle.cal_facts.proofs.paced.series_paced.Goals as goal
 
 pub returns-clause-points : goal.returns-clause-points
 returns-clause-points c =
-    series_asked c.args.policy c.args.plan.now (run_input_of c.args.input.now) (record { config = c.in_ok-config.config; given = c.in_ok-config.given }) _ c.in_ok-points.points.items c.in_ok-config.ensures.read
+    series_asked c.args.policy c.args.plan.now (run_input_of c.args.input.now) c.in_ok-config.field-0 _ c.in_ok-points.points.items c.in_ok-config.ensures.read
     c.in_ok-points.ensures.points

@@ -4,5 +4,5 @@ use Rattle.cal_facts.proofs.paced.spans_paced.Goals as goal
 
 pub returns-clause-facts : goal.returns-clause-facts
 returns-clause-facts c =
-    spans_asked c.args.policy c.args.plan.now (run_input_of c.args.input.now) (record { config = c.in_ok-config.config; given = c.in_ok-config.given }) _ c.in_ok-facts.facts c.in_ok-config.ensures.read
+    spans_asked c.args.policy c.args.plan.now (run_input_of c.args.input.now) c.in_ok-config.field-0 _ c.in_ok-facts.facts c.in_ok-config.ensures.read
     c.in_ok-facts.ensures.facts
