@@ -37,7 +37,10 @@ fn log_word<'a>(alloc: Global) -> Result<Arg<'a>, AllocError> {
     value_word(alloc, "log", "FILE", help)
         .requires_arg("unit")?
         .requires_arg("turn")?
-        .conflicts_with_all(&["load", "service", "pattern", "seed"])
+        .conflicts_with("load")?
+        .conflicts_with("service")?
+        .conflicts_with("pattern")?
+        .conflicts_with("seed")
 }
 
 fn unit_word<'a>(alloc: Global) -> Result<Arg<'a>, AllocError> {

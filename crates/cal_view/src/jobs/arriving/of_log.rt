@@ -7,8 +7,8 @@ use crate::jobs::arriving::Arriving;
 use crate::jobs::arriving::unmade::Unmade;
 use cal_input::RunFault;
 use cal_load::{
-    LoadFault, LogFault, LogScale, LogTerms, Made, RowFault, Timing, Why, logged_arrivals,
-    read_log, refused, scale_of, turns_for, word_at,
+    LoadFault, LogFault, LogTerms, Made, RowFault, Timing, Why, logged_arrivals, read_log, refused,
+    scale_of, turns_for, word_at,
 };
 use cal_machine::Config;
 use cal_why::place_of_field;
@@ -16,11 +16,10 @@ use std::alloc::{AllocError, Global};
 use std::fmt::Write;
 use std::rt::Files;
 
-/// A log as words ask for it.
+/// A log as words ask for it, whose unit and length of a turn are known.
 #[derive(Clone, Copy, Drop)]
 pub struct AskedLog<'a> {
     words: LogWords<'a>,
-    scale: LogScale,
 }
 
 /// Where the file of this name is.
@@ -60,8 +59,8 @@ impl<'a> Arriving<'a> {
         if tasks.len() > 1 {
             return Err(refused("--task", word_at(tasks, 1), Why::OneTask));
         }
-        let scale = scale_of(words.unit, words.turn)?;
-        Ok(AskedLog { words, scale })
+        scale_of(words.unit, words.turn)?;
+        Ok(AskedLog { words })
     }
 
     /// The task of all rows, where a word says it; one that the table has.
@@ -103,7 +102,7 @@ impl<'a> Arriving<'a> {
             return Err(Unmade::Names(names, tasks));
         }
         let terms = LogTerms {
-            scale: log.scale,
+            scale: scale_of(log.words.unit, log.words.turn)?,
             tasks,
             names: self.names,
             task: self.task_of_log(config)?,
