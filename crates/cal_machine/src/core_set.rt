@@ -84,6 +84,7 @@ impl CoreSet {
         }
         Some((MOST_CORES - 1) as u8 - self.bits.leading_zeros() as u8)
     }
+
     /// How many cores of the set are below this one.
     pub fn count_below(&self, end: u8) -> usize
         requires { end ≤ MOST_CORES }

@@ -14,7 +14,7 @@ pub struct Turn {
     pub served: Option<u64>,
     /// The stamp of its publication, in clock ticks.
     pub stamp: u64,
-    /// Whether its publication shows a core, and a request or the turn served one.
+    /// Whether its publication shows a core, and it shows a request or ends a turn that served one.
     pub at_work: bool,
     /// Whether its publication shows a suspended request.
     pub suspended: bool,

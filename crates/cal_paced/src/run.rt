@@ -23,9 +23,9 @@ use std::alloc::{AllocError, Global};
 /// where a collector of the caller's makes its passes and takes what its turns hand out, as in
 /// `lockstep_collected_by`. The watch makes no round.
 ///
-/// Takes paced arrivals (`planned_arrivals`), and gives them back with the
-/// figures that the passes got. Fails only when out of memory, or where the collector does; what the
-/// collector holds then is of no run.
+/// Takes paced arrivals (`planned_arrivals`), and gives them back with the figures that the passes
+/// got. Fails only when out of memory, or where the collector does; what the collector holds then is
+/// of no run.
 pub fn paced_collected_by<C: Collector>(
     alloc: Global,
     config: &Config,

@@ -44,8 +44,7 @@ pub struct Comparison<R> {
 ///
 /// The fault is the input's `Separator`, else the first table's that has one, else that of the
 /// arrivals, which is the first table's, else that of the first table which they do not fit, or
-/// whose arrivals are refused for the plan.
-/// `Memory` may come at any place.
+/// whose arrivals are refused for the plan. `Memory` may come at any place.
 pub fn compared<R: OfRun>(
     alloc: Global,
     policy: Policy,
@@ -77,7 +76,8 @@ pub struct Variation<'a> {
 ///
 /// The faults are those of the word `lockstep`, in its order; then that of the first value that
 /// makes the table faulty (a key that it has not is unknown), then that of the first value which
-/// makes a table that the arrivals do not fit, or whose arrivals are refused for the plan. `Memory` may come at any place.
+/// makes a table that the arrivals do not fit, or whose arrivals are refused for the plan. `Memory`
+/// may come at any place.
 pub fn compared_values<R: OfRun>(
     alloc: Global,
     policy: Policy,
@@ -96,8 +96,8 @@ pub fn compared_values<R: OfRun>(
     Ok(Comparison { tables, runs })
 }
 
-/// The runs of an input by this policy and plan: of its tables, or of those that its table gives with some
-/// values. The faults are those of `compared`, or of `compared_values`.
+/// The runs of an input by this policy and plan: of its tables, or of those that its table gives with
+/// some values. The faults are those of `compared`, or of `compared_values`.
 pub fn comparison_of<R: OfRun>(
     alloc: Global,
     policy: Policy,

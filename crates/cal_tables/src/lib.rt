@@ -1,7 +1,8 @@
 //! What a task table makes of arrivals, in numbers: a run on one thread, measured; and what a
 //! recorded history comes to.
 //!
-//! Which numbers these are is proved (`counted_run`, `counted_by`); how they are written is only tested.
+//! Which numbers these are is proved (`counted_run`, `counted_by`); how they are written is only
+//! tested.
 #![tactic(auto)]
 
 mod collecting;
