@@ -105,6 +105,8 @@ def parser_of() -> Parser:
     add = sweep.options.add_argument
     add("--slo", default="", metavar="task.T.R=N", help="the objective: the response at rank R is at most N ticks")
     add("--table", metavar="FILE", help="the task table of CSV: its cores and tasks")
+    word_of(words, "seeds", "measures of runs with several seeds: the median, the least and the greatest",
+            "rows of runs: what is set, the seed, the measures, as bench/interference keeps them")
     return parser
 
 
@@ -112,7 +114,7 @@ def answer(words: Sequence[str]) -> int:
     """Draws what the words ask for; answers the status."""
     space = parser_of().parse_args(words)
     if not space.word:
-        raise Refusal(f"no word; there are run, compare and sweep; {NAME} --help says more")
+        raise Refusal(f"no word; there are run, compare, sweep and seeds; {NAME} --help says more")
     checked("--names", space.names, MOST_NAME)
     checked("--tick", [space.tick] if space.tick else [], MOST_UNIT)
     logging.getLogger("matplotlib").setLevel(logging.ERROR)

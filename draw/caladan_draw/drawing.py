@@ -12,7 +12,8 @@ from .paper import Paper
 from .refusal import Refusal
 from .run_picture import draw_run
 from .saving import format_of, save
-from .sources import Given, compared_from, read_file, run_from, swept_from
+from .seeds_picture import SeedsScene, draw_seeds
+from .sources import Given, compared_from, read_file, run_from, seeds_from, swept_from
 from .sweep_picture import SweepScene, draw_sweep, objective_of
 from .tables import Table, count, named_tasks
 from .window import window_of
@@ -76,7 +77,12 @@ def cores_of(table: Table, key: str, values: Sequence[str]) -> tuple[int, ...]:
     return tuple(int(it.partition(",")[0]) if key == "cores" else table.cores for it in values)
 
 
-WORDS = {"run": of_run, "compare": of_compare, "sweep": of_sweep}
+def of_seeds(space: Namespace, palette: Palette) -> Drawn:
+    runs = seeds_from(read_all(space))
+    return Drawn(draw_seeds(SeedsScene(runs, palette, space.width, tuple(space.names), space.tick)))
+
+
+WORDS = {"run": of_run, "compare": of_compare, "sweep": of_sweep, "seeds": of_seeds}
 
 
 def drawn(space: Namespace) -> Drawn:

@@ -74,6 +74,8 @@ def kind_of(text: str) -> str:
     if head.startswith("load") and ",p50,p50 bound," in head:
         return "sweep"
     cells = next(csv.reader([head]), [])
+    if "seed" in cells[1:-1]:
+        return "seeds"
     return "compare" if len(cells) > 3 and cells[2:4] == [f"{cells[1]} bound", f"{cells[1]} of"] else ""
 
 

@@ -20,6 +20,7 @@ EXPECTED = {
                "LABEL of and so on, with four columns for each further table",
     "sweep": "not the CSV of `caladan_view sweep --csv`, whose first line is load,(a key,)p50,p50 bound,p50 of and so "
              "on, to best-effort share",
+    "seeds": "not the rows of runs with several seeds, whose first line is what is set in a run,seed,MEASURE,..",
 }
 
 

@@ -9,6 +9,7 @@ from .facts import (Request, Run, Span, Standing, by_pass, kind_of, read_facts, 
                     standing_of, table_of)
 from .numbers import Comparison, Sweep, read_comparison, read_sweep
 from .refusal import Refusal
+from .seeds import Seeds, read_seeds
 from .tables import Table, Task, read_table
 from .viewer import ARRIVALS, SIGNALS, Viewer, trace_of
 
@@ -17,6 +18,7 @@ WANTED = {
     "compare": "an input, or the CSV of `caladan_view compare --csv`, and of each table's run those of `requests` and "
                "`series` or none",
     "sweep": "a task table, or the CSV of `caladan_view sweep --csv`",
+    "seeds": "the rows of runs with several seeds, as bench/interference keeps them",
 }
 
 
@@ -200,3 +202,11 @@ def swept_from(given: Sequence[Given], words: Sequence[str], goal: str, table: O
     of_kind("sweep", given, "sweep")
     known = read_table(table.text, table.name) if table else None
     return Swept(read_sweep(given[0].text, given[0].name), known)
+
+
+def seeds_from(given: Sequence[Given]) -> Seeds:
+    """Runs with several seeds, of one file."""
+    if len(given) != 1 or given[0].kind != "seeds":
+        names = ", ".join(it.name for it in given)
+        raise Refusal(f"{names}: wanted: {WANTED['seeds']}")
+    return read_seeds(given[0].text, given[0].name)

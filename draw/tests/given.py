@@ -27,6 +27,8 @@ VIEW = os.environ.get("CALADAN_VIEW", f"{TOP}/crates/caladan_view/out/caladan_vi
 # Inputs of every kind: arrivals, signals, a history, and signals of 128 cores.
 RUNS = ["lockstep/tour", "decide/tour", "audit/tour", "decide/hundred_twenty_eight_cores"]
 DELAYS = "task.0.delay=10,30,50"
+# Runs with several seeds, by the picture of docs/pictures that is drawn of them.
+KEPT_RUNS = {it: f"{TOP}/bench/interference_runs/{it}.csv" for it in ("memory", "siblings", "pace")}
 FOLDER = tempfile.TemporaryDirectory()
 atexit.register(FOLDER.cleanup)
 Rows = list[dict[str, str]]

@@ -3,9 +3,11 @@
     PYTHONPATH=draw /usr/bin/python3 draw/tests/pictures.py     draws them anew; `tools/draw_tests --write` runs it"""
 from __future__ import annotations
 
-from given import DELAYS, TOP, as_csv, drawn, example, file, text_of
+from given import DELAYS, KEPT_RUNS, TOP, as_csv, drawn, example, file, text_of
 
 FOLDER = f"{TOP}/docs/pictures"
+NAMES = {"memory": "the service,the batch job", "siblings": "the service,the batch job",
+         "pace": "task 0,task 1,the batch job"}
 
 
 def pictures() -> dict[str, list[str]]:
@@ -16,6 +18,7 @@ def pictures() -> dict[str, list[str]]:
         "lockstep_tour": ["run", example("lockstep/tour")],
         "compare_tour": ["compare", "--vary", DELAYS, example("lockstep/tour")],
         "sweep_rising": ["sweep", swept, "--table", example("sweep/rising"), "--slo", "task.0.p99=250"],
+        **{name: ["seeds", given, "--names", NAMES[name]] for name, given in KEPT_RUNS.items()},
     }
 
 

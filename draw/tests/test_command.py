@@ -13,7 +13,7 @@ import xml.etree.ElementTree as tree
 from caladan_draw.colours import DARK, LIGHT, colours_of
 from caladan_draw.command import main
 from caladan_draw.saving import as_svg, save
-from given import (DELAYS, RUNS, TOP, VIEW, as_csv, drawn, example, facts, file, path_of, run_files, text_of,
+from given import (DELAYS, KEPT_RUNS, RUNS, TOP, VIEW, as_csv, drawn, example, facts, file, path_of, run_files, text_of,
                    words_of)
 
 DRAW = os.path.join(TOP, "caladan_draw")
@@ -72,6 +72,7 @@ class Read(unittest.TestCase):
 
     def test_words_are_large_enough_and_do_not_cover_each_other(self):
         for words in (*(("run", example(it)) for it in RUNS[:3]), ("sweep", example("sweep/team_csv", "output")),
+                      *(("seeds", it) for it in KEPT_RUNS.values()),
                       ("compare", "--vary", DELAYS, example("lockstep/tour")),
                       ("run", example("audit/tour"), "--from", "4", "--passes", "4", "--width", "480")):
             with self.subTest(words):
@@ -106,7 +107,7 @@ class Refused(unittest.TestCase):
         nothing = file("nothing.csv", as_csv(text_of(example("sweep/nothing_comes", "output"))))
         letters = file("letters.csv", f"{head}\nx,6,2,3,held,,,,,3,4,160,180\n")
         for words, line in (
-                ([], "no word; there are run, compare and sweep"),
+                ([], "no word; there are run, compare, sweep and seeds"),
                 (["run", tour], "required: -o"),
                 (["run", tour, "-o", "x.gif"], "a file that ends in .svg, .png or .pdf"),
                 (["run", "none", *out], "none: No such file or directory"),

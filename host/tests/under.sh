@@ -244,19 +244,21 @@ groups() { # see host/tests/groups_test.c
 other_group() { # SCHED_IDLE says nothing between two scheduling groups side by side
     local group=/sys/fs/cgroup/cpu/caladan-$$
     what="another scheduling group"
-    { [ -e /sys/fs/cgroup/cpu/cpu.idle ] && mkdir "$group"; } 2> /dev/null || { skip "$what, for want of rights, or of its folder"; return; }
-    local in_group=(sh -c 'echo 0 > "$0/cgroup.procs" && exec "$@"' "$group")
+    { [ -e /sys/fs/cgroup/cpu/cpu.idle ] && mkdir -p "$group/below"; } 2> /dev/null || { skip "$what, for want of rights, or of its folder"; return; }
+    local enter='echo 0 > "$0/cgroup.procs" && exec "$@"'
+    # both groups are our own: a session is a group beside them, where autogroups are on
+    local above=(sh -c "$enter" "$group") below=(sh -c "$enter" "$group/below")
     start -g 100000 -u 1
-    go 60 "${in_group[@]}" "$bin/load" lc -n "$name" -u 0 -k 200 -q 100 -s 50
+    go 60 "${below[@]}" "$bin/load" lc -n "$name" -u 0 -k 200 -q 100 -s 50
     wait_for 20 child_of $last
-    timeout 30 "$bin/load" be -n "$name" -u 1 -k 200 -s 0.3 > "$build/process.above" 2>&1
+    timeout 30 "${above[@]}" "$bin/load" be -n "$name" -u 1 -k 200 -s 0.3 > "$build/process.above" 2>&1
     note $? "$what: who is in the group above it was not let in: $(cat "$build/process.above")"
     kill -9 "$child"
     wait $last
-    go 60 "$bin/load" lc -n "$name" -u 0 -k 200 -q 100 -s 50
+    go 60 "${above[@]}" "$bin/load" lc -n "$name" -u 0 -k 200 -q 100 -s 50
     wait_for 20 child_of $last
-    refuses "this process is in another scheduling group" "${in_group[@]}" "$bin/load" be -n "$name" -u 1 -k 200
+    refuses "this process is in another scheduling group" "${below[@]}" "$bin/load" be -n "$name" -u 1 -k 200
     stop $last
     above 3 attached
-    rmdir "$group"
+    rmdir "$group/below" "$group"
 } 2> /dev/null

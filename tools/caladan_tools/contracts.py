@@ -9,7 +9,7 @@ import os
 import re
 
 from . import edits
-from .crates import TOP, crates, files_of, text_of
+from .crates import TOP, below, crates, files_of, text_of
 
 # A public function: its crate, its path as a caller writes it (`Book::open`), its file and line, the first sentence and
 # the first paragraph of its doc, its head, and its clauses as (requires or ensures, name or '', text), each text on
@@ -136,6 +136,66 @@ def definition(file, name):
         if re.search(rf"^(?:abbrev )?pub (?:record |data )?{name} ", block, re.M):
             return block.strip("\n")
     return ""
+
+
+ITEM = re.compile(r"^pub (?:struct|enum|trait|union|const|type|static) (\w+).*?(?:;$|^\}$)", re.M | re.S)
+DEFINED = re.compile(r"Rattle\.(\w+)\.specs\.([\w.]+)")
+
+
+def bare(text):
+    """A text without its lines of comment."""
+    return "\n".join(it for it in text.splitlines() if not it.lstrip().startswith(("//", "-- ")))
+
+
+@functools.cache
+def stated(crate, is_own=True):
+    """What the functions, the types and the constants of a crate state, each as its name and its text; from outside,
+    the public ones. Bodies and proofs are no part of it."""
+    found = []
+    for file in files_of([crate], "src"):
+        found += [(it[1], bare(it[0])) for it in ITEM.finditer(text_of(file))]
+    for it in edits.functions(crate):
+        lines = text_of(f"{TOP}/crates/{crate}/{it.file}").splitlines()
+        if is_own or is_public(crate, it, lines[it.first - 1]):
+            head, clauses = contract_below(lines, it.first)
+            said = [bare(f"{word} {name} {text}") for word, name, text in clauses]
+            found.append((it.path.split("::")[-1], "\n".join([it.path, head, *said])))
+    return found
+
+
+@functools.cache
+def cited(file):
+    """The files of specs/ that a file takes definitions from."""
+    found = set()
+    for crate, path in DEFINED.findall(text_of(f"{TOP}/{file}")):
+        parts = path.rstrip(".").split(".")
+        # (the last part may be a name in the file)
+        names = ["/".join(parts[:n]) for n in (len(parts), len(parts) - 1) if n]
+        files = [f"crates/{crate}/specs/{name}.antt" for name in names]
+        found |= {it for it in files if os.path.isfile(f"{TOP}/{it}")}
+    return found
+
+
+def definitions_of(crate):
+    """The files of specs/ that a crate's code and definitions stand on, its own among them."""
+    waiting = {os.path.relpath(it, TOP) for it in files_of([crate], "src", "specs")}
+    seen = set()
+    while waiting:
+        file = waiting.pop()
+        seen.add(file)
+        waiting |= cited(file) - seen
+    return sorted(it for it in seen if "/specs/" in it)
+
+
+@functools.cache
+def terms_of(crate):
+    """All in whose terms the functions of a crate are proved or refused: the definitions that it stands on, what it
+    states itself, and what the crates below it state of what it names."""
+    named = set(re.findall(r"\w+", "\n".join(text_of(it) for it in files_of([crate], "src"))))
+    said = [bare(text_of(f"{TOP}/{it}")) for it in definitions_of(crate)] + [text for _, text in stated(crate)]
+    for lower in below(crate, crates(), []):
+        said += [text for name, text in stated(lower, is_own=False) if name in named]
+    return "\n".join(said)
 
 
 def is_law(it):

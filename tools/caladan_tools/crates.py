@@ -1,4 +1,5 @@
 """The crates of the repository, as crates.txt lists them, for the scripts that build them."""
+import functools
 import hashlib
 import os
 import shutil
@@ -51,6 +52,7 @@ def sum_of(at, names, *parts):
     return made.hexdigest()
 
 
+@functools.cache
 def kit():
     """The folder of the kit."""
     said = subprocess.run(["rt", "doc"], capture_output=True, text=True, check=True).stdout.strip()

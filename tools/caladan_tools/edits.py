@@ -1,8 +1,7 @@
 """The wrong bodies of the repository: what each edit says of itself, and whether the prover refused it there.
 
-An edit is a file crates/CRATE/must-fail/NAME.edit (the chief mistakes, one or more against each promise, which `rt ci`
-tries by itself, each by a check of the whole crate) or crates/CRATE/witnesses/NAME.edit (all others, which
-tools/witnesses tries):
+An edit is a file crates/CRATE/witnesses/NAME.edit, which tools/witnesses tries, or, in three small crates,
+crates/CRATE/must-fail/NAME.edit, which `rt ci` tries by itself, each by a check of the whole crate:
 
     # mistake: the mistake that the body makes
     # refused: FUNCTION: CLAUSE, CLAUSE
@@ -11,9 +10,10 @@ tools/witnesses tries):
     new: the text in its place
 
 and further `old:` and `new:` pairs. FUNCTION is where the proof fails, as the end of its path (`take`,
-`BareThread::turn`); each CLAUSE is one of its clauses, a call whose requirement it owes (`store`), or `invariant`; what
-a loop keeps carries the clauses of its function. A function alone stands for its one clause without a name, or, where
-it has no clause at all, for its safety. `NAME-is` alone is an equation of specs/Limits.antt."""
+`BareThread::turn`); each CLAUSE is one of its clauses, a call whose requirement it owes (`store`), `invariant`, or a
+lemma of its own proof; what a loop keeps carries the clauses of its function. A function alone stands for its one
+clause without a name, or, where it has no clause at all, for its safety. `NAME-is` alone is an equation of
+specs/Limits.antt."""
 import collections
 import functools
 import glob
@@ -23,6 +23,8 @@ import re
 from .crates import TOP, text_of
 
 FOLDERS = ("must-fail", "witnesses")
+# Rises where fault_of, at the end, is to judge otherwise what it has judged before.
+JUDGED = 1
 # An edit: its file, the crate, its name, the mistake, the function and what of it is refused, and the pairs of texts
 # as (file, old, new).
 Edit = collections.namedtuple("Edit", "file crate name mistake function clauses pairs")
@@ -197,9 +199,18 @@ def clause_of(goal):
     return owed[1].split("-")[-1] if owed else None
 
 
+def lemmas_of(edit):
+    """The lemmas that stand in the proof of the function that an edit names."""
+    paths = [it.path.replace("::", "/") for it in named(edit.crate, edit.function)]
+    files = [file for it in paths for file in glob.glob(f"{TOP}/crates/{edit.crate}/proofs/{it}/*.antt")]
+    return {name for file in files for name in re.findall(r"^([a-z][\w-]*) : ", text_of(file), re.M)}
+
+
 def is_refused_at(edit, goal):
     """Whether a goal of the function that the edit names stands for what it names."""
     if edit.function.endswith("-is"):
+        return True
+    if goal in edit.clauses and goal in lemmas_of(edit):
         return True
     of = clause_of(goal)
     clauses = [clause for it in named(edit.crate, edit.function) for clause in it.clauses]

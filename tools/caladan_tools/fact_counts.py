@@ -91,16 +91,17 @@ def series(table, history):
     return text(SERIES, rows)
 
 
-def requests(given, served, last):
+def requests(given, served, last, came_to=None):
     """A row for each request of these arrivals: `served` has, by its id, by which thread it was served, when it was
-    begun and when answered, and how long it was worked at; `last` is the run's last clock."""
+    begun and when answered, and how long it was worked at; `last` is the run's last clock; `came_to` has, by its id,
+    to which turn it came, where that is known."""
     table, _, arrivals = given.partition("---\n")
     owner, rows = owners(table)[0], []
     turns = [int(row.split(",")[1]) for row in arrivals.splitlines() if row.startswith("turn,")]
     for row in arrivals.splitlines():
         if row.startswith("request,"):
             thread, turn, name, work, _ = map(int, row.split(",")[1:])
-            came = turns[turn]
+            came = turns[came_to[name] if came_to else turn]
             of_it = [*served[name], None] if name in served else [None, None, None, None, last - came]
             rows.append(line(name, owner[thread], thread, came, work, *of_it))
     return text(REQUESTS, rows)

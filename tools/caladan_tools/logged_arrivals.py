@@ -28,7 +28,7 @@ def logged(given, rows, turns=None, ticks=10):
     """The arrivals, the summary, and when requests came."""
     limits, rows = numbers(given, "limit"), list(rows)
     turns = turns or max(turn for _, turn, _ in rows) + 1 + max(work for *_, work in rows)
-    made, told, came = [], [f"passes {turns} turns {turns}"], ["id,turn"]
+    made, told, came, left_out = [], [f"passes {turns} turns {turns}"], ["id,turn"], []
     for task, limit in enumerate(limits):
         chance, queues, left, count = seeded(1, task), [[] for _ in range(limit)], 0, 0
         for of, turn, work in rows:
@@ -41,6 +41,7 @@ def logged(given, rows, turns=None, ticks=10):
                 queue.append((place, work, turn))
             else:
                 left += 1
+        left_out += [f"left out,{task},{left}"] if left else []
         later = sum(place > turn for queue in queues for place, _, turn in queue)
         total = sum(work for queue in queues for _, work, _ in queue)
         load = (2000 * total + turns * limit) // (2 * turns * limit)
@@ -52,7 +53,7 @@ def logged(given, rows, turns=None, ticks=10):
     made = [*(f"pass,{ticks * it},0" for it in range(1, turns + 1)),
             *(f"turn,{ticks * it + ticks // 2}" for it in range(1, turns + 1)), *made]
     text = "\n".join(["caladan-arrivals,1", *made, f"end,{len(made)}", ""])
-    return text, "\n".join([*told, ""]), "\n".join([*came, ""])
+    return text, "\n".join([*told, ""]), "\n".join([*came, *left_out, ""])
 
 
 def decimal(number, digits):

@@ -11,6 +11,7 @@ that is the tree still; `keep_witnesses` adds how many wrong bodies tools/witnes
 that did not pass, that does not say of each wrong body of the tree that it was refused, or that is another tree's. All
 of that is against mistakes: anyone who makes a release could write other text, and PROOF says how others check it."""
 import collections
+import fcntl
 import hashlib
 import json
 import os
@@ -57,7 +58,8 @@ Proved, crate by crate
 
 Each function of each crate keeps its contract, is safe, and returns (but for those that run threads, which wait at
 their joins). A wrong body is a body with a mistake in it that the prover must refuse, and refused: crates/*/witnesses
-and crates/*/must-fail of the sources have them.
+and crates/*/must-fail of the sources have them. Of those that did not change, nor what they are judged by, the file
+`refused` beside them says so, from an earlier run; `tools/witnesses --anew` tries them all.
 
 {rows}
 
@@ -212,23 +214,33 @@ def keep(log):
     write(kept)
 
 
+def add(change):
+    """Changes what is kept of this tree; parts of the gate that run side by side do so in turn."""
+    tree = tree_sum()
+    with open(f"{KEPT}/lock", "w", encoding="utf-8") as lock:
+        fcntl.flock(lock, fcntl.LOCK_EX)
+        kept = facts()
+        if kept["tree"] != tree:
+            raise Refused("the tree is another than `rt ci` passed")
+        change(kept)
+        write(kept)
+
+
 def keep_archive(line):
     """Keeps the sum of the C library that was built after `rt ci` passed, and the line that says how much of it was
     proved."""
-    kept = facts()
-    if kept["tree"] != tree_sum():
-        raise Refused("the tree is another than `rt ci` passed")
-    kept["sums"]["caladan_c"], kept["archive"] = sum_of(file_of("caladan_c")), line
-    write(kept)
+    def change(kept):
+        kept["sums"]["caladan_c"], kept["archive"] = sum_of(file_of("caladan_c")), line
+    facts()
+    add(change)
 
 
 def keep_witnesses(refused):
     """Keeps of each crate how many wrong bodies of its witnesses/ were refused, after `rt ci` passed."""
-    kept = facts()
-    if kept["tree"] != tree_sum():
-        raise Refused("the tree is another than `rt ci` passed")
-    kept["witnesses"] = refused
-    write(kept)
+    def change(kept):
+        kept["witnesses"] = refused
+    facts()
+    add(change)
 
 
 def functions_in(line):

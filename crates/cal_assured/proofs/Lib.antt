@@ -3,5 +3,4 @@ pub mod ByHolders
 pub mod Ending
 pub mod Legality
 pub mod PassLaws
-pub mod Points
 pub mod RingLemmas

@@ -11,9 +11,7 @@
 mod histories;
 mod order;
 mod passes;
-mod permitted;
 mod rings;
-mod safety;
 mod worked;
 
 pub use histories::{nothing_is_legal, one_pass_more_is_legal, prefixes_are_legal};
@@ -23,12 +21,5 @@ pub use passes::{
     others_take_what_is_not_lacked, owed_cores_are_kept, revocations_have_cause,
     the_later_comes_first,
 };
-pub use permitted::passes_are_permitted;
 pub use rings::rings_have_room;
-pub use safety::{
-    banned_are_emptied_at_once, commands_go_where_is_room, freed_cores_were_left,
-    grants_keep_to_caps, no_banned_is_granted, no_pair_is_banned, passes_are_short,
-    passes_leave_safe, revocations_leave_guarantees, tasks_keep_to_caps, tasks_keep_to_limits,
-    threads_are_sent_one_command, threads_have_one_core,
-};
 pub use worked::{bans_are_as_worked, flight_is_as_worked, kept_is_as_worked, order_is_as_worked};

@@ -2,12 +2,13 @@
 
 ghost use Rattle.cal_assured.specs.Rings.{RingsHaveRoom};
 
-use crate::safety::threads_are_sent_one_command;
+use cal_guard::{each_policy_is_permitted, threads_are_sent_one_command};
 
 /// A thread that has taken all that was sent to it before the last three passes has fewer than four
 /// commands in its ring, which has four places.
 pub fn rings_have_room()
     ensures { RingsHaveRoom }
 {
+    each_policy_is_permitted();
     threads_are_sent_one_command();
 }

@@ -1,3 +1,4 @@
 pub mod Came
 pub mod Windows
 pub mod Counting
+pub mod Asked

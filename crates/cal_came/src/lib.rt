@@ -4,10 +4,12 @@
 //! the turns between. Its times count from when it came.
 #![tactic(auto)]
 
+mod asked;
 mod came;
 mod counted;
 mod window;
 
+pub use asked::{CameFile, CountAsked, CountFault, CountedRequests, counted_requests, is_asked};
 pub use came::{Came, clock_of, each_own};
 pub use counted::{Counted, counted_as_given};
 pub use window::{Window, is_within, window_of};

@@ -1,57 +1,34 @@
 -- A history that is written pass by pass.
-use Rattle.std.proofs.Common.{◌≡◌, ℕ, List, [], ◌++◌, Option, append_assoc, length, map, take, sym, ap, subst, ◌∙◌, arith}
-use Rattle.std.specs.Prelude.{min}
+use Rattle.std.proofs.Common.{◌≡◌, ℕ, List, [], ◌∷◌, ◌++◌, Option, Result, Ok, Err, IfOk, IfErr, true, append_assoc, length, sym, ap, subst, ◌∙◌}
+use Rattle.std.specs.Result.{is_ok}
+use Rattle.std.proofs.lemmas.Bool.{false≢true}
 use Rattle.std.specs.Io.KnownBytes.{Appends}
 use Rattle.std.specs.List.{flat_map}
 use Rattle.std.proofs.KnownBytes.{Appends-trans}
 use Rattle.std.proofs.lemmas.Grind.{flat_map-append}
-use Rattle.std.proofs.lemmas.List.{length-map, length-take, nil_from_length, take_min}
-use Rattle.cal_machine.specs.Table.{Table}
-use Rattle.cal_policy.specs.Policies.{IsLegalBy}
-use Rattle.cal_policy.specs.declared.policy.Policy.{Policy}
+use Rattle.std.proofs.lemmas.List.{append-nil}
 use Rattle.cal_policy.specs.declared.history.entry.PassEntry.{PassEntry}
-use Rattle.cal_run.specs.Outcome.{figures_of}
 use Rattle.cal_trace.specs.History.Text.{begun_text, end_fields, entry_rows, header_row, history_text, lines_of}
 use Rattle.cal_trace.specs.Rows.Text.{line_of}
-use Rattle.cal_trace.specs.declared.arrivals.Arrivals.{Arrivals}
 use Rattle.cal_trace.proofs.HistoryLemmas.Lines.{begun_ends}
-use Rattle.cal_engine.specs.Running.{AreFirstPasses}
 
--- a history of the policy, where that and the table are the same
-pub legal_alike : (policy by : Policy) (table other : Table) (history : List PassEntry) → policy ≡ by → table ≡ other → IsLegalBy policy table history → IsLegalBy by other history
-legal_alike policy by table other history same is legal =
-    subst (λ (p : Policy). IsLegalBy p other history) same (subst (λ (t : Table). IsLegalBy policy t history) is legal)
-
--- the first passes, where the policy and the table are the same
-pub first_alike : (policy by : Policy) (table other : Table) (arrivals : Arrivals) (history : List PassEntry) → policy ≡ by → table ≡ other
-    → AreFirstPasses policy (record { table = table; arrivals = arrivals }) history → AreFirstPasses by (record { table = other; arrivals = arrivals }) history
-first_alike policy by table other arrivals history same is first =
-    record { legal = legal_alike policy by table other history same is first.legal; given = first.given }
-
--- a history of the policy of the first passes that are given
-pub first_passes : (policy : Policy) (table : Table) (arrivals : Arrivals) (p : ℕ) (history : List PassEntry) → IsLegalBy policy table history
-    → map figures_of history ≡ take p arrivals.passes → AreFirstPasses policy (record { table = table; arrivals = arrivals }) history
-first_passes policy table arrivals p history legal given =
-    let many : length history ≡ min p (length arrivals.passes) = sym (length-map history figures_of) ∙ ap (λ l. length l) given ∙ length-take p arrivals.passes in
-    record { legal = legal; given = given ∙ sym (take_min p arrivals.passes) ∙ ap (λ n. take n arrivals.passes) (sym many) }
-
--- the rows of some passes, and then those of more
-pub told_more : (a b c : Option (List ℕ)) (history more : List PassEntry) → Appends a b (lines_of (flat_map entry_rows history)) → Appends b c (lines_of (flat_map entry_rows more))
-    → Appends a c (lines_of (flat_map entry_rows (history ++ more)))
-told_more a b c history more p q =
-    let e = ap lines_of (flat_map-append entry_rows history more) ∙ flat_map-append line_of (flat_map entry_rows history) (flat_map entry_rows more) in
+-- the rows of some passes, and then those of the next one
+pub told_more : (a b c : Option (List ℕ)) (before after : List PassEntry) (entry : PassEntry) → after ≡ before ++ entry ∷ []
+    → Appends a b (lines_of (flat_map entry_rows before)) → Appends b c (lines_of (entry_rows entry)) → Appends a c (lines_of (flat_map entry_rows after))
+told_more a b c before after entry is p q =
+    let e = ap (λ h. lines_of (flat_map entry_rows h)) is ∙ ap lines_of (flat_map-append entry_rows before (entry ∷ []))
+    ∙ flat_map-append line_of (flat_map entry_rows before) (flat_map entry_rows (entry ∷ []))
+    ∙ ap (λ (rows : List (List (List ℕ))). lines_of (flat_map entry_rows before) ++ lines_of rows) (append-nil (entry_rows entry)) in
     subst (Appends a c) (sym e) (Appends-trans a b c _ _ p q)
 
--- no pass was made yet
-pub none_passed : (history : List PassEntry) → map figures_of history ≡ [] → history ≡ []
-none_passed history none = nil_from_length history (sym (length-map history figures_of) ∙ ap (λ l. length l) none)
+-- what a run told, whether it was made to its end or stopped
+pub in_any_case : {T E S : Type 0} (r : Result T E) (P : T → Type 0) → ((x : T) → P x → S) → IfOk r P → IfErr r (λ _. S) → S
+in_any_case (Ok x) P f made stopped = f x made
+in_any_case (Err e) P f made stopped = stopped
 
--- all that is given were made
-pub all_passed : (arrivals : Arrivals) (history : List PassEntry) → map figures_of history ≡ take (length arrivals.passes) arrivals.passes → length history ≡ length arrivals.passes
-all_passed arrivals history given =
-    let many : length history ≡ min (length arrivals.passes) (length arrivals.passes) =
-    sym (length-map history figures_of) ∙ ap (λ l. length l) given ∙ length-take (length arrivals.passes) arrivals.passes in
-    omega (arith, many)
+pub at_ok : {T E : Type 0} (r : Result T E) (P : T → Type 0) → is_ok r ≡ true → IfOk r P → (x : T) × P x
+at_ok (Ok x) P e made = (x, made)
+at_ok (Err f) P e made = absurd (false≢true e)
 
 -- what stands before a history and its first row, and then the rows of its passes
 pub begun : (front : List ℕ) (a b c : Option (List ℕ)) (text : List ℕ) (history : List PassEntry) → text ≡ front ++ line_of header_row → Appends a b text

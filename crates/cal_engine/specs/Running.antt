@@ -1,13 +1,13 @@
 -- Whole runs: what is written of what one came to.
-use Rattle.std.specs.Prelude.{◌≡◌, ◌++◌, ℕ, List, length, map, take, Bool, true, false, Option}
+use Rattle.std.specs.Prelude.{◌≡◌, ◌++◌, ℕ, List, length, Bool, true, false, Option}
 use Rattle.std.specs.Prelude.{Result, Ok, Err, IsOk}
 use Rattle.std.specs.Io.KnownBytes.{Appends}
-use Rattle.cal_policy.specs.Policies.{IsLegalBy}
 use Rattle.cal_policy.specs.declared.history.entry.PassEntry.{PassEntry}
 use Rattle.cal_policy.specs.declared.policy.Policy.{Policy}
 use Rattle.cal_trace.specs.History.Text.{begun_text, history_text}
 use Rattle.cal_trace.specs.Report.Summary.{summary_text}
-use Rattle.cal_run.specs.Outcome.{IsRunBy, figures_of}
+use Rattle.cal_run.specs.Outcome.{IsRunBy}
+use Rattle.cal_run.specs.Parts.{AreFirstPasses}
 use Rattle.cal_run.specs.declared.outcome.Outcome.{Outcome}
 use Rattle.cal_input.specs.Answers.{Failed}
 use Rattle.cal_input.specs.Parts.{RunInput}
@@ -85,13 +85,6 @@ is_told History = true
 is_told WithTable = true
 is_told _ = false
 
--- a history of the policy whose passes have the clocks and the bandwidth figures of the first passes
--- that are given; that its looks are those of a run is not said
-pub record AreFirstPasses (policy : Policy) (input : RunInput) (history : List PassEntry) : Type 0
-  where
-    pub legal : IsLegalBy policy input.table history
-    pub given : map figures_of history ≡ take (length history) input.arrivals.passes
-
 -- a run on this by a policy came to some outcome, and after this its history was written
 pub record IsTold (policy : Policy) (head : List ℕ) (input : RunInput) (old new : Option (List ℕ))
     : Type 0 where
@@ -104,7 +97,7 @@ pub record IsTold (policy : Policy) (head : List ℕ) (input : RunInput) (old ne
 pub record IsBegunTold (policy : Policy) (head : List ℕ) (input : RunInput)
     (old new : Option (List ℕ)) : Type 0 where
   pub history : List PassEntry
-  pub first : AreFirstPasses policy input history
+  pub first : AreFirstPasses policy input.table input.arrivals history
   pub written : Appends old new (head ++ begun_text history)
 
 -- the input gives a run, which was made and told

@@ -4,4 +4,3 @@ pub mod ServedLemmas
 pub mod PointLemmas
 pub mod RangeLemmas
 pub mod WrittenLemmas
-pub mod PacedLemmas

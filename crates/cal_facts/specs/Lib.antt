@@ -4,11 +4,6 @@ pub mod StateCells
 pub mod Stretches
 pub mod Series
 pub mod PassAt
-pub mod Runs
 pub mod Served
 pub mod RequestRows
-pub mod Asking
-pub mod RunAsked
 pub mod Telling
-pub mod PacedRuns
-pub mod PacedTelling

@@ -1,15 +1,20 @@
 -- What each pass of a history found of each task and left it with: the rows of the word `series`.
-use Rattle.std.specs.Prelude.{◌-◌, ◌++◌, ℕ, zero, suc, List, [], ◌∷◌, codes, decimal, length}
+use Rattle.std.specs.Prelude.{◌≡◌, ◌-◌, ◌++◌, ℕ, zero, suc, List, [], ◌∷◌, codes, decimal, length}
 use Rattle.std.specs.Prelude.{Option, Some, None, if◌then◌else◌}
 use Rattle.std.specs.List.{concat, flat_map}
 use Rattle.cal_machine.specs.Table.{Table}
 use Rattle.cal_machine.specs.TableTasks.{is_latency_critical, limit_of}
+use Rattle.cal_paced.specs.declared.plan.Plan.{Plan}
 use Rattle.cal_policy.specs.Board.Counts.{booked_by, cap_of, held_by}
 use Rattle.cal_policy.specs.History.Lists.{each_of}
 use Rattle.cal_policy.specs.History.{actions_of}
 use Rattle.cal_policy.specs.Pass.Grants.{is_congested, task_delay}
 use Rattle.cal_policy.specs.Setting.{setting_of}
 use Rattle.cal_policy.specs.declared.history.entry.PassEntry.{PassEntry}
+use Rattle.cal_policy.specs.declared.policy.Policy.{Policy}
+use Rattle.cal_run.specs.declared.outcome.Outcome.{Outcome}
+use Rattle.cal_tables.specs.Planned.{IsRunGiven}
+use Rattle.cal_trace.specs.declared.arrivals.Arrivals.{Arrivals}
 use Rattle.cal_facts.specs.Cells.{cell, truth_number}
 use Rattle.cal_facts.specs.declared.series.point.Point.{Point}
 
@@ -82,3 +87,12 @@ text_of_series table points = series_columns ++ flat_map (point_line table) poin
 -- the text of the series of a history
 abbrev pub series_text : Table → List PassEntry → List ℕ
 series_text table history = text_of_series table (series_of table history)
+
+-- a run on these arrivals, by the plan or in lockstep, came to some outcome, and this is the series of
+-- its history
+pub record IsSeriesOfRun (plan : Option Plan) (policy : Policy) (table : Table)
+    (arrivals : Arrivals) (points : List Point) : Type 0 where
+  pub given : Arrivals
+  pub outcome : Outcome
+  pub run : IsRunGiven plan policy table arrivals given outcome
+  pub are : points ≡ series_of table outcome.history

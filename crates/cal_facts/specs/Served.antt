@@ -9,10 +9,11 @@ use Rattle.cal_measure.specs.Ends.{timed_of}
 use Rattle.cal_measure.specs.Services.{services_of}
 use Rattle.cal_measure.specs.Turns.{turns_of}
 use Rattle.cal_measure.specs.declared.services.Service.{Service}
+use Rattle.cal_paced.specs.declared.plan.Plan.{Plan}
 use Rattle.cal_policy.specs.History.Lists.{last_of}
 use Rattle.cal_policy.specs.declared.policy.Policy.{Policy}
-use Rattle.cal_run.specs.Outcome.{IsRunBy}
 use Rattle.cal_run.specs.declared.outcome.Outcome.{Outcome}
+use Rattle.cal_tables.specs.Planned.{IsRunGiven}
 use Rattle.cal_trace.specs.declared.arrivals.Arrivals.{Arrivals}
 use Rattle.cal_facts.specs.declared.requests.served.Served.{Served}
 use Rattle.cal_facts.specs.declared.requests.served.ServedRequests.{ServedRequests}
@@ -44,10 +45,10 @@ service_of all id = last_of (told_of id) all
 pub record AreServed (all : List Served) (served : ServedRequests) : Type 0 where
   pub same : (id : ℕ) → get nat_eq served.by_id id ≡ service_of all id
 
--- a run by the policy on these arrivals came to some outcome, and these are the requests that its
--- threads served
-pub record IsRunServed (policy : Policy) (table : Table) (arrivals : Arrivals)
-    (served : ServedRequests) : Type 0 where
+-- a run on these arrivals, which was given these, came to some outcome, and these are the requests
+-- that its threads served
+pub record IsRunServed (plan : Option Plan) (policy : Policy) (table : Table)
+    (arrivals given : Arrivals) (served : ServedRequests) : Type 0 where
   pub outcome : Outcome
-  pub run : IsRunBy policy table arrivals outcome
-  pub are : AreServed (served_from (run_end arrivals) 0 outcome.journals) served
+  pub run : IsRunGiven plan policy table arrivals given outcome
+  pub are : AreServed (served_from (run_end given) 0 outcome.journals) served

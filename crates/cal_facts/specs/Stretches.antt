@@ -11,7 +11,8 @@ use Rattle.cal_measure.specs.declared.spans.span.Left.{Left}
 use Rattle.cal_measure.specs.declared.spans.span.Span.{Span}
 use Rattle.cal_policy.specs.declared.history.entry.PassEntry.{PassEntry}
 use Rattle.cal_policy.specs.declared.policy.Policy.{Policy}
-use Rattle.cal_run.specs.Outcome.{IsRunBy}
+use Rattle.cal_paced.specs.declared.plan.Plan.{Plan}
+use Rattle.cal_tables.specs.Planned.{IsRunGiven}
 use Rattle.cal_run.specs.declared.outcome.Outcome.{Outcome}
 use Rattle.cal_trace.specs.declared.arrivals.Arrivals.{Arrivals}
 use Rattle.cal_facts.specs.Bans.{bans_of, lifted_of}
@@ -114,9 +115,11 @@ pub record AreSpanFacts (cores : ℕ) (history : List PassEntry) (facts : SpanFa
   pub bans : facts.bans.items ≡ bans_of cores history
   pub clocks : facts.clocks.items ≡ clocks_of history
 
--- a run by the policy on these arrivals came to some outcome, and these are those of its history
-pub record IsRunOfSpans (policy : Policy) (table : Table) (arrivals : Arrivals)
-    (facts : SpanFacts) : Type 0 where
+-- a run on these arrivals, by the plan or in lockstep, came to some outcome, and these are those of
+-- its history
+pub record IsRunOfSpans (plan : Option Plan) (policy : Policy) (table : Table)
+    (arrivals : Arrivals) (facts : SpanFacts) : Type 0 where
+  pub given : Arrivals
   pub outcome : Outcome
-  pub run : IsRunBy policy table arrivals outcome
+  pub run : IsRunGiven plan policy table arrivals given outcome
   pub are : AreSpanFacts table.cores outcome.history facts

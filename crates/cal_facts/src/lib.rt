@@ -6,14 +6,11 @@
 //! columns, is Doranjei's.
 #![tactic(auto)]
 
-mod asked;
 mod cells;
-mod paced;
 mod requests;
 mod series;
 mod spans;
 
-pub use paced::{write_requests_paced, write_series_paced, write_spans_paced};
 pub use requests::served::{Served, ServedRequests};
 pub use requests::write_requests;
 pub use series::point::Point;

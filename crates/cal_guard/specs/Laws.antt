@@ -1,5 +1,4 @@
--- What every permitted history is safe from, at every place: the laws of cal_laws that speak of
--- safety, in its words.
+-- What every permitted history is safe from, at every place, in the words of cal_laws.
 use Rattle.std.specs.Prelude.{◌≡◌, ◌≢◌, ℕ, ◌+◌, ◌<◌, ◌≤◌, true}
 use Rattle.std.specs.Prelude.{false, List, length, take, Some, ◌⊎◌}
 use Rattle.cal_machine.specs.Table.{Table}

@@ -1,5 +1,6 @@
-//! What every permitted history is safe from, at every point of it. What cal_laws has by the same
-//! name is of legal ones.
+//! What every permitted history is safe from, at every point of it; so a history of each policy, by
+//! `each_policy_is_permitted`. What cal_laws has by the same name is of legal ones: two are stronger,
+//! and the others show that legal histories are permitted.
 
 ghost use Rattle.cal_guard.specs.Laws.{ThreadsHaveOneCore, HoldersAreOfTheirLastRun};
 ghost use Rattle.cal_guard.specs.Laws.{RunsGoToIdleThreads, KeptRecordsAreTrue};
@@ -24,7 +25,8 @@ pub fn threads_have_one_core()
 }
 
 /// At every point the number of a core's holder is that of the last Run that was sent to its
-/// thread, a Run of this core.
+/// thread, a Run of this core. Where the core is held it is the thread's last command; where it is
+/// being left, one Park came after.
 pub fn holders_are_of_their_last_run()
     ensures { HoldersAreOfTheirLastRun }
 {
@@ -38,7 +40,9 @@ pub fn runs_go_to_idle_threads()
     ensures { RunsGoToIdleThreads }
 {}
 
-/// Kept records acknowledge no more than was sent, and show threads where they were.
+/// At every point each thread's kept record acknowledges no more commands than were sent to the
+/// thread. Where it shows its thread on a core, that core was held or being left by the thread, by
+/// a Run that the record acknowledges, as the pass began in which the record was kept.
 pub fn kept_records_are_true()
     ensures { KeptRecordsAreTrue }
 {
@@ -46,7 +50,9 @@ pub fn kept_records_are_true()
     look_is_one_more();
 }
 
-/// Where a kept record shows its thread on a core, the thread holds or leaves it.
+/// At every point, where a thread's kept record shows it on a core, the thread holds or leaves that
+/// core, by a Run that the record acknowledges: a core is not freed before its thread is shown to
+/// have left it.
 pub fn kept_threads_are_on_core()
     ensures { KeptThreadsAreOnCore }
 {
@@ -55,7 +61,9 @@ pub fn kept_threads_are_on_core()
     look_is_one_more();
 }
 
-/// A core is freed only where its thread's kept record shows that it was left.
+/// A core is freed only where it is one of the machine's and is held or being left, and the kept
+/// record of its thread has `taken` at least the number of the Run that put it there and `running`
+/// 0. (After Caladan's yields; the test is Doranjei's.)
 pub fn freed_cores_were_left()
     ensures { FreedCoresWereLeft }
 {

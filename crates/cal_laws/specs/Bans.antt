@@ -79,11 +79,6 @@ BansAreDue = (here : Point) → IsPoint here → (core thread started : ℕ) →
     next_at here ≡ Some (Ban core thread started) →
     IsDueBan (setting_at here) (actions_at here) core thread started
 
--- a core and its sibling are not banned at once
-abbrev pub NoPairIsBanned : Type 0
-NoPairIsBanned = (here : Point) → IsPoint here → (core : ℕ) →
-    is_banned (actions_at here) core ≡ true → is_banned (actions_at here) (sibling_of core) ≡ false
-
 -- no banned core is held
 pub record NoneHeld (x : List Action) : Type 0 where
   pub empty : (core : ℕ) → is_banned x core ≡ true → is_held (holder_of x core) ≡ false

@@ -45,8 +45,3 @@ pub record IsSafeBetween (table : Table) (history : List PassEntry) (x : List Ac
   pub caps : (t : ℕ) → is_latency_critical table t ≡ false → held_by table x t ≤ cap_of table x t
   pub apart : NoPairBanned x
   pub empty : NoneHeld x
-
--- every legal history, the empty one included, is safe at its end
-abbrev pub LegalIsSafeBetween : Type 0
-LegalIsSafeBetween = (table : Table) (history : List PassEntry) → IsTable table →
-    IsLegal table history → IsSafeBetween table history (actions_of history)

@@ -4,24 +4,18 @@ use Rattle.cal_machine.specs.declared.command.Command.{Command}
 use Rattle.cal_machine.specs.declared.command.Command.TheVariants.{Run, Park}
 use Rattle.cal_machine.specs.Table.{Table}
 use Rattle.cal_policy.specs.declared.history.action.Action.{Action}
-use Rattle.cal_policy.specs.declared.history.action.Action.TheVariants.{Grant}
 use Rattle.cal_policy.specs.declared.board.holders.Placement as placements
 use Rattle.cal_policy.specs.declared.board.holders.Holder.{Holder}
 use Rattle.cal_policy.specs.declared.board.holders.Holder.TheVariants.{Free, Held, Leaving}
 use Rattle.cal_policy.specs.History.{holder_of, commands_to}
 use Rattle.cal_policy.specs.Board.Counts.{is_with}
 use Rattle.cal_policy.specs.Board.{placement_of}
-use Rattle.cal_laws.specs.Point.{Point, IsPoint, actions_at, next_at}
 
 -- after the actions x a thread holds or leaves at most one core of the machine
 abbrev pub HaveOneCore : Table → List Action → Type 0
 HaveOneCore table x = (c d : ℕ) (p q : placements.Placement) → c < table.cores → d < table.cores →
     placement_of (holder_of x c) ≡ Some p → placement_of (holder_of x d) ≡ Some q →
     p.thread ≡ q.thread → c ≡ d
-
--- at every point each thread holds or leaves at most one core
-abbrev pub ThreadsHaveOneCore : Type 0
-ThreadsHaveOneCore = (here : Point) → IsPoint here → HaveOneCore here.table (actions_at here)
 
 -- the thread's last commands are the Run of core c, with the number that it has there, and these
 -- after it
@@ -38,19 +32,8 @@ IsByLastRun x c Free = Unit {0}
 IsByLastRun x c (Held placement) = WasRun x c placement []
 IsByLastRun x c (Leaving placement cause) = WasRun x c placement (Park ∷ [])
 
--- at every point the holder of each core has it by its last Run
-abbrev pub HoldersAreOfTheirLastRun : Type 0
-HoldersAreOfTheirLastRun = (here : Point) → IsPoint here → (c : ℕ) → c < here.table.cores →
-    IsByLastRun (actions_at here) c (holder_of (actions_at here) c)
-
 -- a core that is granted is free, and its thread neither holds nor leaves any core
 pub record GoesToIdle (table : Table) (x : List Action) (core thread : ℕ) : Type 0 where
   pub low : core < table.cores
   pub free : holder_of x core ≡ Free
   pub on_none : (c : ℕ) → c < table.cores → is_with thread (holder_of x c) ≡ false
-
--- wherever a Run is sent, its core is free and its thread has none
-abbrev pub RunsGoToIdleThreads : Type 0
-RunsGoToIdleThreads = (here : Point) → IsPoint here → (core thread class : ℕ) →
-    next_at here ≡ Some (Grant core thread class) →
-    GoesToIdle here.table (actions_at here) core thread

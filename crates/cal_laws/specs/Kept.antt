@@ -8,8 +8,7 @@ use Rattle.cal_policy.specs.declared.history.look.Seen.TheVariants.{Whole}
 use Rattle.cal_policy.specs.declared.board.holders.Placement as placements
 use Rattle.cal_policy.specs.History.{actions_of, holder_of, sent_to}
 use Rattle.cal_policy.specs.Board.{placement_of}
-use Rattle.cal_policy.specs.Setting.{kept_now}
-use Rattle.cal_laws.specs.Point.{Point, IsPoint, setting_at, actions_at}
+use Rattle.cal_laws.specs.Point.{Point, actions_at}
 
 -- after the actions x thread k holds or leaves the core that the record shows it on, by a Run that
 -- the record acknowledges
@@ -36,15 +35,3 @@ pub record IsTrueRecord (here : Point) (k : ℕ) (rec : Record) : Type 0 where
   pub sent : rec.taken ≤ sent_to (actions_at here) k
   pub shown : rec.running ≢ 0 →
       (pass : ℕ) × (pass ≤ here.pass) × WasKeptOnCore here.table here.history k rec pass
-
--- at every point the kept record of each thread is true
-abbrev pub KeptRecordsAreTrue : Type 0
-KeptRecordsAreTrue = (here : Point) → IsPoint here → (k : ℕ) →
-    IsTrueRecord here k (kept_now (setting_at here) k)
-
--- at every point, where a thread's kept record shows it on a core, the thread holds or leaves that
--- core, by a Run that the record acknowledges
-abbrev pub KeptThreadsAreOnCore : Type 0
-KeptThreadsAreOnCore = (here : Point) → IsPoint here → (k : ℕ) →
-    (kept_now (setting_at here) k).running ≢ 0 →
-    IsOnItsCore here.table (actions_at here) k (kept_now (setting_at here) k)

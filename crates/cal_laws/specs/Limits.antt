@@ -1,6 +1,6 @@
 -- No task has more than it may, and none is preempted below its guarantee.
 use Rattle.std.specs.Prelude.{◌≡◌, ℕ, ◌+◌, ◌<◌, ◌≤◌, ◌⊎◌, true, false}
-use Rattle.std.specs.Prelude.{List, [], ◌∷◌, ◌++◌, length, Some}
+use Rattle.std.specs.Prelude.{List, [], ◌∷◌, ◌++◌, Some}
 use Rattle.cal_machine.specs.Table.{Table}
 use Rattle.cal_machine.specs.TableTasks.{owner_of, limit_of, guaranteed_of, is_latency_critical}
 use Rattle.cal_policy.specs.declared.history.action.Action.{Action}
@@ -17,11 +17,6 @@ use Rattle.cal_laws.specs.Point.{Point, IsPoint, made_at, actions_at, next_at}
 pub record IsWithinLimit (table : Table) (x : List Action) (t : ℕ) : Type 0 where
   pub held : held_by table x t ≤ booked_by table x t
   pub booked : booked_by table x t ≤ limit_of table t
-
--- at every point each task is within its limit
-abbrev pub TasksKeepToLimits : Type 0
-TasksKeepToLimits = (here : Point) → IsPoint here → (t : ℕ) → t < length here.table.tasks →
-    IsWithinLimit here.table (actions_at here) t
 
 -- a task may be granted one core more: it has booked less than its limit and, if it is best-effort,
 -- less than its cap

@@ -8,7 +8,7 @@ use Rattle.cal_policy.specs.declared.history.entry.PassEntry.{PassEntry}
 use Rattle.cal_policy.specs.History.{holder_of, commands_to}
 use Rattle.cal_policy.specs.Board.{placement_of}
 use Rattle.cal_policy.specs.Setting.{kept_now}
-use Rattle.cal_laws.specs.Point.{Point, IsPoint, point_at, setting_at, actions_at, next_at}
+use Rattle.cal_laws.specs.Point.{Point, point_at, setting_at, actions_at, next_at}
 
 -- command number `number` to thread k is a Run of core c; commands are numbered from 1
 pub record IsRunOf (x : List Action) (k number c : ℕ) : Type 0 where
@@ -48,8 +48,3 @@ pub record RunsStand (table : Table) (history : List PassEntry) (x : List Action
   pub own : (k number c : ℕ) → IsRunOf x k number c → c < table.cores
   pub stand : (k number c : ℕ) → IsRunOf x k number c →
       IsThereBy x k number c ⊎ WasLeft table history x k number c
-
--- at every point: each Run stands, or its core was left
-abbrev pub RunsStandUntilLeft : Type 0
-RunsStandUntilLeft = (here : Point) → IsPoint here →
-    RunsStand here.table here.history (actions_at here)

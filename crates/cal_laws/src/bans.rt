@@ -2,15 +2,13 @@
 //!
 //! At every point of a legal history. What cal_guard has by the same name is of permitted ones.
 
-ghost use Rattle.cal_laws.specs.Bans.{NoBannedIsGranted, BansAreDue, NoPairIsBanned};
+ghost use Rattle.cal_laws.specs.Bans.{NoBannedIsGranted, BansAreDue};
 ghost use Rattle.cal_laws.specs.Bans.{BannedAreEmptyAfterPasses, BannedAreEmptiedAtOnce};
 ghost use Rattle.cal_laws.specs.Bans.{BansEndUnshown, BansAreShownAfterPasses};
 ghost use Rattle.cal_laws.specs.DueBans.{BansEndInEachPass, NoBanIsLeftDue};
 ghost use Rattle.cal_laws.specs.DueBans.{LongRequestsHaveBannedSiblings};
 
-use cal_policy::laws::{
-    action_is_one_more, chosen_is_of_least_class, legal_is_apart, legal_is_sound,
-};
+use cal_policy::laws::{action_is_one_more, chosen_is_of_least_class, legal_is_sound};
 
 /// No core is granted while it is banned. (After Caladan's controller of hyperthread siblings.)
 pub fn no_banned_is_granted()
@@ -48,13 +46,6 @@ pub fn long_requests_have_banned_siblings()
 {
     no_ban_is_left_due();
     banned_are_emptied_at_once();
-}
-
-/// A core and its sibling are never banned at once.
-pub fn no_pair_is_banned()
-    ensures { NoPairIsBanned }
-{
-    legal_is_apart();
 }
 
 /// After each pass no banned core is held.

@@ -2,22 +2,14 @@
 //!
 //! At every point of a legal history. What cal_guard has by the same name is of permitted ones.
 
-ghost use Rattle.cal_laws.specs.Limits.{TasksKeepToLimits, GrantsKeepToCaps};
+ghost use Rattle.cal_laws.specs.Limits.{GrantsKeepToCaps};
 ghost use Rattle.cal_laws.specs.Limits.{TasksKeepToCaps, RevocationsLeaveGuarantees};
 
 use cal_machine::laws::threads_are_of_their_task;
 use cal_policy::laws::{
     action_is_one_more, chosen_has_waited_longest, chosen_is_of_least_class, legal_is_sound,
-    legal_is_steady, victim_has_most_misses,
+    victim_has_most_misses,
 };
-
-/// At every point every task holds no more cores than it books, and books no more than its limit.
-pub fn tasks_keep_to_limits()
-    ensures { TasksKeepToLimits }
-{
-    legal_is_steady();
-    legal_is_sound();
-}
 
 /// A task is granted a core only where it has booked less than its limit and, if it is best-effort,
 /// less than its cap. (After Caladan's controller of memory bandwidth; the cap is Doranjei's.)

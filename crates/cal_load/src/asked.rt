@@ -5,6 +5,7 @@ ghost use Rattle.cal_load.specs.Known.{AreKnown};
 ghost use Rattle.cal_load.specs.Refused.{IsRefusedFor};
 
 use crate::clocks::Timing;
+use crate::decimal::number_of;
 use crate::fault::{LoadFault, Why, refused};
 use crate::loads::{FLAG, loads_of};
 use crate::making::{TaskLoad, pattern_of};
@@ -19,6 +20,8 @@ const TASK: &str = "--task";
 pub struct LoadWords<'a> {
     /// The tasks to which requests come.
     pub tasks: Vec<&'a str>,
+    /// The names of the table's tasks, in task order with commas between.
+    pub names: Option<&'a str>,
     /// One load for all of them, or one for each. The next two are given in the same way.
     pub loads: Vec<&'a str>,
     /// The turns that requests take.
@@ -79,9 +82,21 @@ fn word_for<'a>(
     Err(refused(flag, last, Why::NotOneEach(times as u64, tasks as u64)))
 }
 
-/// The task that a number names; of none that no table has.
-fn task_of(word: &str) -> usize {
-    word.parse::<usize>().unwrap_or(usize::MAX)
+/// The task that a word names: by its number, or by the first of these names that it is.
+pub fn task_named(names: Option<&str>, word: &str) -> Option<usize> {
+    if let Some(number) = number_of(word) {
+        return usize::try_from(number).ok();
+    }
+    names?.split(',').position(|name| name == word)
+}
+
+/// The task that the word at this place names.
+pub fn task_at<'a>(words: &LoadWords<'a>, place: usize) -> Result<usize, LoadFault<'a>> {
+    let word = word_at(words.tasks.as_slice(), place);
+    match task_named(words.names, word) {
+        Some(task) => Ok(task),
+        None => Err(refused(TASK, word, Why::NotNamed(words.names))),
+    }
 }
 
 /// What words ask of the task that is named at this place.
@@ -91,13 +106,14 @@ fn asked_task<'a>(
     place: usize,
 ) -> Result<AskedTask<'a>, LoadFault<'a>> {
     let tasks = words.tasks.len();
+    let task = task_at(words, place)?;
     let word = word_for(FLAG, words.loads.as_slice(), tasks, place)?;
     let service = word_for("--service", words.services.as_slice(), tasks, place)?;
     let pattern = word_for("--pattern", words.patterns.as_slice(), tasks, place)?;
     let loads = loads_of(alloc, word)?;
     let load = loads.as_slice().get(0).copied().unwrap_or(0);
     let of_task = TaskLoad {
-        task: task_of(word_at(words.tasks.as_slice(), place)),
+        task,
         load,
         service: service_of(alloc, service)?,
         pattern: pattern_of(pattern)?,

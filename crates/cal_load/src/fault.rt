@@ -7,7 +7,7 @@ use std::fmt;
 
 /// What is wrong with a word.
 #[derive(Clone, Copy, Debug, PartialEq, Eq)]
-pub enum Why {
+pub enum Why<'a> {
     /// It is no load: a number above 0 and at most 10, with up to three digits after the point.
     NotALoad,
     /// Several loads do not rise, or `..` does not stand between two loads and a last one.
@@ -20,6 +20,8 @@ pub enum Why {
     NotAPattern,
     /// It is no task of the table, which has so many.
     NotATask(u64),
+    /// It is neither a number nor one of these names, with commas between; of no names a number.
+    NotNamed(Option<&'a str>),
     /// The task was named before.
     Twice,
     /// It is given so often, and there are so many tasks.
@@ -42,6 +44,8 @@ pub enum Why {
     NothingComes,
     /// It is no key of a table with values.
     NotAVariation,
+    /// The key is varied before.
+    VariedTwice,
     /// It is no turn of a run, or its end: a number of at most so many turns.
     NotATurn(u64),
     /// There are no turns from this one up to that.
@@ -51,7 +55,7 @@ pub enum Why {
 }
 
 /// The reason in words.
-impl fmt::Display for Why {
+impl<'a> fmt::Display for Why<'a> {
     fn fmt<W: fmt::Write>(&self, f: &mut fmt::Formatter<W>) -> fmt::Result {
         match self {
             Why::NotALoad => f.write_str(
@@ -73,6 +77,8 @@ shares, as 90%:1,10%:20",
                 "requests come poisson, even or in bursts:N, N from 2 to 10000",
             ),
             Why::NotATask(tasks) => write!(f, "the table has {tasks} tasks, numbered from 0"),
+            Why::NotNamed(Some(names)) => write!(f, "the tasks are called {names}"),
+            Why::NotNamed(None) => f.write_str("a task is a number, or a name that --names gives"),
             Why::Twice => f.write_str("this task has a load already"),
             Why::NotOneEach(times, tasks) => {
                 write!(
@@ -98,6 +104,7 @@ us, ms or s, as 10us",
             Why::NotAVariation => f.write_str(
                 "a key is varied as task.0.delay=10,20: the key, =, and its values",
             ),
+            Why::VariedTwice => f.write_str("this key is varied already"),
             Why::NotATurn(turns) => write!(f, "a turn is a number up to {turns}, the run's end"),
             Why::NoTurns(first, after) => write!(f, "no turns are from {first} up to {after}"),
             Why::NotSeeds(most) => write!(f, "a number of seeds is from 1 to {most}"),
@@ -113,7 +120,7 @@ pub struct WordFault<'a> {
     /// The word as it was given.
     pub word: &'a str,
     /// What is wrong.
-    pub why: Why,
+    pub why: Why<'a>,
 }
 
 /// The word with its flag, and the reason.
@@ -154,9 +161,9 @@ impl<'a, T: Drop> From<AllocFailed<T>> for LoadFault<'a> {
 }
 
 /// The fault of a word.
-pub fn refused<'a>(flag: &'a str, word: &'a str, why: Why) -> LoadFault<'a>
+pub fn refused<'a>(flag: &'a str, word: &'a str, why: Why<'a>) -> LoadFault<'a>
     ensures { result ≡ LoadFault.Word
-        (record { flag = flag.entry; word = word.entry; why = why }) }
+        (record { flag = flag.entry; word = word.entry; why = why.entry }) }
 {
     LoadFault::Word(WordFault { flag, word, why })
 }

@@ -19,7 +19,9 @@ mod requests;
 mod service;
 mod variate;
 
-pub use asked::{LoadWords, SteppedLoads, are_known, asked_loads, stepped_loads, word_at};
+pub use asked::{
+    LoadWords, SteppedLoads, are_known, asked_loads, stepped_loads, task_at, task_named, word_at,
+};
 pub use clocks::{MOST_TICKS, Timing};
 pub use comings::turn_of;
 pub use decimal::number_of;

@@ -1,6 +1,6 @@
 -- What came of the cores of a task, and of the machine's, over a whole history.
-use Rattle.std.specs.Prelude.{◌≡◌, ℕ, ◌+◌, ◌-◌, ◌*◌, Bool, nat_lt, List, length, take}
-use Rattle.std.specs.Prelude.{slice_get, Option, Some, None, if◌then◌else◌}
+use Rattle.std.specs.Prelude.{◌≡◌, ℕ, ◌+◌, ◌-◌, ◌*◌, ◌^◌, ◌≤◌, Bool, nat_lt, List, length}
+use Rattle.std.specs.Prelude.{slice_get, take, Option, Some, None, if◌then◌else◌}
 use Rattle.cal_machine.specs.Table.{Table}
 use Rattle.cal_policy.specs.Board.Counts.{booked_by, held_by}
 use Rattle.cal_policy.specs.History.{actions_of}
@@ -58,6 +58,11 @@ congested_for table history t = sum_below
 abbrev pub lasted : List PassEntry → ℕ
 lasted history = sum_below (λ p. lasts_at history p) (length history)
 
+-- no history has more core time: it has at most 2 ^ 20 passes, from each to the next there are
+-- fewer than 2 ^ 64 ticks, and a machine has fewer than 2 ^ 8 cores
+abbrev pub most_core_time : ℕ
+most_core_time = 2 ^ 92
+
 -- the numbers of task t's cores in this history
 pub record AreCoresOf (table : Table) (history : List PassEntry) (t : ℕ)
     (numbers : TaskCores) : Type 0 where
@@ -66,6 +71,8 @@ pub record AreCoresOf (table : Table) (history : List PassEntry) (t : ℕ)
   pub held : numbers.held ≡ core_time history (held_after table history t)
   pub leaving : numbers.leaving ≡ core_time history (left_after table history t)
   pub congested : numbers.congested ≡ congested_for table history t
+  pub few_held : numbers.held ≤ most_core_time
+  pub few_leaving : numbers.leaving ≤ most_core_time
 
 -- for each task, in task order, the numbers of its cores in this history
 pub record AreCoresOfTasks (table : Table) (history : List PassEntry)
@@ -83,6 +90,7 @@ pub record AreMachineCores (table : Table) (history : List PassEntry)
   pub banned : numbers.banned ≡ core_time history (in_state_after table history states.Banned)
   pub free : numbers.free ≡ core_time history (in_state_after table history states.Free)
   pub over_limit : numbers.over_limit ≡ over_limit_for table history
+  pub few : numbers.lasted ≤ most_core_time
 
 -- the parts of the machine's core time make the whole
 abbrev pub MakeTheWhole : Table → MachineCores → Type 0

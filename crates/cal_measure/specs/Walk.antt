@@ -8,6 +8,7 @@ use Rattle.cal_policy.specs.State.{Agrees, IsReady}
 use Rattle.cal_policy.specs.declared.history.action.Action.{Action}
 use Rattle.cal_policy.specs.declared.history.action_list.TheConstants.{MOST_ACTIONS}
 use Rattle.cal_policy.specs.declared.history.entry.PassEntry.{PassEntry}
+use Rattle.cal_policy.specs.declared.history.entry.TheConstants.{MOST_PASSES}
 use Rattle.cal_measure.specs.Actions.{AreActionsOf}
 use Rattle.cal_measure.specs.Cores.{AreMachineCores, congested_for, core_time}
 use Rattle.cal_measure.specs.Cores.{held_after, in_state_after, is_over_limit, left_after}
@@ -107,3 +108,4 @@ pub record IsWalkOf (table : Table) (history : List PassEntry) (walk : Walk) : T
   pub times : EachTask (IsTimeOf table history) walk.times.items
   pub machine : IsMachineTimeOf table history walk.machine
   pub few_actions : length (actions_of history) ≤ length history * MOST_ACTIONS
+  pub few : length history ≤ MOST_PASSES

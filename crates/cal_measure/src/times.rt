@@ -1,12 +1,10 @@
 //! How long the requests of a task took.
 
-ghost use Rattle.std.specs.Prelude.{◌≡◌, ℕ, List, [], IfOk, map, option_map};
+ghost use Rattle.std.specs.Prelude.{◌≡◌, ℕ, List, [], IfOk, map};
 ghost use Rattle.cal_came.specs.declared.came.Came.{Came};
 ghost use Rattle.cal_measure.specs.Clocks.{AreClocksOf};
 ghost use Rattle.cal_measure.specs.Requests.{AreTimesOf, response_of, slowdown_of};
 ghost use Rattle.cal_measure.specs.Requests.{slowdowns_of, so_far_of, wait_of, worked_of};
-ghost use Rattle.cal_measure.specs.Services.{clocked};
-ghost use Rattle.cal_measure.specs.Shares.{thousandths_of};
 ghost use Rattle.cal_measure.specs.Spread.{IsSpread};
 
 use crate::clocks::ArrivalClocks;
@@ -85,16 +83,6 @@ fn works(alloc: Global, services: &[Service]) -> Result<Vec<u64>, AllocError>
     Ok(times)
 }
 
-/// How many thousandths of a time another one is, up to the greatest clock; of no time nothing.
-fn thousandths_clocked(part: u64, whole: u64) -> Option<u64>
-    ensures { result ≡ option_map clocked (thousandths_of part whole) }
-{
-    match thousandths(part as u128, whole as u128) {
-        Some(share) => Some(share.min(u64::MAX as u128) as u64),
-        None => None,
-    }
-}
-
 /// The slowdown of a request, in thousandths, where it was worked at for some time.
 fn slowdown(clocks: &ArrivalClocks, service: &Service) -> Option<u64>
     ensures { (came : List Came) → AreClocksOf came clocks.now →
@@ -103,7 +91,7 @@ fn slowdown(clocks: &ArrivalClocks, service: &Service) -> Option<u64>
     let response = service
         .answered
         .saturating_sub(clocks.of_request(service.id));
-    thousandths_clocked(response, service.worked)
+    thousandths(response as u128, service.worked as u128)
 }
 
 /// The slowdowns of these requests. Fails only when out of memory.

@@ -13,6 +13,7 @@ pub mod Legality
 pub mod Length
 pub mod Preempting
 pub mod Made
+pub mod NoneGranted
 pub mod NoneOpen
 pub mod NothingDue
 pub mod Pairs

@@ -118,8 +118,3 @@ pub record IsCollectedEndBy (policy : Policy)
   pub run : IsRunBy policy table arrivals outcome
   pub collected : holds outcome.history outcome.journals
   pub left : outcome.left ≡ remaining
-
-abbrev pub IsCollectedEnd : (List PassEntry → List (List Entry) → Type 0) → Table → Arrivals →
-    List (List Request) → Type 0
-IsCollectedEnd holds table arrivals remaining =
-    IsCollectedEndBy Caladan holds table arrivals remaining

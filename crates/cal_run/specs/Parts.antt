@@ -7,6 +7,8 @@ use Rattle.cal_command.specs.Rings.{RingId, SenderView}
 use Rattle.cal_signal.specs.Ends.{ObserverView}
 use Rattle.cal_signal.specs.declared.look.Look.{Look}
 use Rattle.cal_signal.specs.declared.look.Look.TheVariants.{Busy}
+use Rattle.cal_policy.specs.Policies.{IsLegalBy}
+use Rattle.cal_policy.specs.declared.history.entry.PassEntry.{PassEntry}
 use Rattle.cal_policy.specs.declared.policy.Policy.{Policy}
 use Rattle.cal_machine.specs.TableTasks.{threads_of_table}
 use Rattle.cal_sched.specs.Scheduler.{HaveSeenNothing, SchedulerView}
@@ -62,6 +64,13 @@ pub record AreOfOneTeam (table : Table) (scheduler : SchedulerSeat) (seats : Lis
 -- the scheduler has made the first p passes of those given, and no other
 abbrev pub HasPassed : Arrivals → ℕ → SchedulerView → Type 0
 HasPassed arrivals p scheduler = map figures_of scheduler.history ≡ take p arrivals.passes
+
+-- a history of the policy whose passes have the clocks and the bandwidth figures of the first passes
+-- that are given; that its looks are those of a run is not said
+pub record AreFirstPasses (policy : Policy) (table : Table) (arrivals : Arrivals)
+    (history : List PassEntry) : Type 0 where
+  pub legal : IsLegalBy policy table history
+  pub given : map figures_of history ≡ take (length history) arrivals.passes
 
 -- how many watched rounds the outcome of a run has
 abbrev pub rounds_of : Arrivals → ℕ

@@ -133,24 +133,6 @@ pub fn end_run(
     })
 }
 
-/// Ends a run whose history was told pass by pass, whose passes and turns were all made, and whose
-/// watch made no more rounds than the outcome of a run has. Fails only when out of memory.
-pub fn end_told(
-    alloc: Global,
-    config: &Config,
-    arrivals: &Arrivals,
-    parts: Parts,
-) -> Result<(), AllocError>
-    requires fits { FitsTable config.now arrivals.now }
-    requires made { MayBeEnded config.now arrivals.now parts }
-    ensures { IfOk result (λ _. (outcome : Outcome)
-        × IsRunBy parts.scheduler.policy config.now arrivals.now outcome
-        × (outcome.history ≡ parts.scheduler.history)) }
-{
-    end_run(alloc, config, arrivals, parts)?;
-    Ok(())
-}
-
 /// The outcome of a run by this policy that ended with these. Fails only when out of memory.
 fn with_events(
     alloc: Global,

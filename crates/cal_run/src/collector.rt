@@ -1,14 +1,13 @@
 //! Who collects what the passes and the turns of a run hand out.
 
 pub mod collected;
-pub mod nobody;
 pub mod open_journal;
 pub mod scheduler;
 pub mod tallies;
 pub mod worker;
 
 ghost use Rattle.std.specs.Prelude.{◌≡◌, ◌≤◌, ◌<◌, ◌+◌, ◌++◌, List, Some, length, slice_get};
-ghost use Rattle.std.specs.Prelude.{slice_set, IfOk, OnOk};
+ghost use Rattle.std.specs.Prelude.{slice_set, IfErr, IfOk, OnOk, ⊤};
 ghost use Rattle.cal_kthread.specs.Turn.Entries.{entries_of};
 ghost use Rattle.cal_kthread.specs.declared.journal.entry.Entry.{Entry};
 ghost use Rattle.cal_kthread.specs.declared.kernel_thread.TheConstants.{MOST_ENTRIES};
@@ -16,6 +15,7 @@ ghost use Rattle.cal_machine.specs.Table.{Table};
 ghost use Rattle.cal_policy.specs.declared.history.entry.PassEntry.{PassEntry as EntryOfPass};
 ghost use Rattle.cal_run.specs.Parts.{HasPassed, scheduler_seat_of};
 ghost use Rattle.cal_run.specs.Workers.{FitSomeTable};
+ghost use Rattle.cal_sched.specs.Scheduler.{IsKept};
 
 use cal_kthread::TurnEntries;
 use cal_sched::BareScheduler;
@@ -35,6 +35,12 @@ pub trait Collector {
     /// Of which tables' runs it can take passes.
     ghost suits: { Self → Table → Type 0 };
 
+    /// What it has written of these passes, where it was the first before any of them.
+    ghost wrote: { Self → Self → List EntryOfPass → Type 0 } = { λ _ _ _. ⊤ };
+
+    /// That it borrows the same as the first.
+    ghost same: { Self → Self → Type 0 } = { λ _ _. ⊤ };
+
     /// Makes pass `p` of those given, the next one, and takes of it what it collects.
     fn make_pass(
         &mut self,
@@ -51,7 +57,13 @@ pub trait Collector {
         ensures seat { scheduler_seat_of scheduler.new ≡ scheduler_seat_of scheduler.old }
         ensures collected { (journals : List (List Entry)) →
             holds self.old scheduler.old.history journals →
-            OnOk result (holds self.new scheduler.new.history journals) };
+            OnOk result (holds self.new scheduler.new.history journals) }
+        ensures kept { IsKept scheduler.new }
+        ensures wrote { (first : Self) → wrote first self.old scheduler.old.history →
+            OnOk result (wrote first self.new scheduler.new.history) }
+        ensures stopped { (first : Self) → wrote first self.old scheduler.old.history →
+            IfErr result (λ _. wrote first self.new scheduler.old.history) }
+        ensures same { (first : Self) → same first self.old → same first self.new };
 
     /// Takes what a turn of thread `k` added to its journal.
     fn add_turn(&mut self, k: usize, entries: &TurnEntries) -> Result<(), Self::Fault>
@@ -62,5 +74,8 @@ pub trait Collector {
             slice_get journals k ≡ Some journal →
             length (journal ++ entries_of entries.now) ≤ MOST_ENTRIES →
             OnOk result (holds self.new history
-            (slice_set journals k (journal ++ entries_of entries.now))) };
+            (slice_set journals k (journal ++ entries_of entries.now))) }
+        ensures wrote { (first : Self) (history : List EntryOfPass) →
+            wrote first self.old history → wrote first self.new history }
+        ensures same { (first : Self) → same first self.old → same first self.new };
 }

@@ -17,15 +17,15 @@ mod parts;
 mod rounds;
 mod workers;
 
-pub use closing::{RunRest, close_parts, end_parts, end_run, end_told};
+pub use closing::{RunRest, close_parts, end_parts, end_run};
 pub use collector::Collector;
 pub use collector::collected::{Collected, OpenCollection};
 pub use collector::scheduler::CollectingScheduler;
 pub use collector::worker::{CollectingWorker, split_workers};
 pub use fault::SimFault;
 pub use one_thread::{
-    lockstep, lockstep_by, lockstep_collected, lockstep_collected_by, lockstep_end,
-    lockstep_end_by, lockstep_tallied, lockstep_tallied_by,
+    lockstep, lockstep_by, lockstep_collected_by, lockstep_end, lockstep_end_by, lockstep_tallied,
+    lockstep_tallied_by,
 };
 pub use outcome::given_once::given_stand_once;
 pub use outcome::headline::{headline_of_runs, headline_of_runs_by};
@@ -34,7 +34,7 @@ pub use parts::Parts;
 pub use parts::opening::{
     MOST_ROUNDS, open_parts, open_parts_by, open_unwatched, open_unwatched_by,
 };
+pub use rounds::make_rounds;
 pub use rounds::passes::{pass_given, step_given};
 pub use rounds::watch::watch_of_round;
-pub use rounds::{rounds_to_make, told_round};
 pub use workers::worker::Worker;

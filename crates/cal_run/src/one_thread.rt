@@ -2,12 +2,12 @@
 
 ghost use Rattle.std.specs.Prelude.{◌≡◌, [], IfOk, IfErr, length, replicate};
 ghost use Rattle.cal_machine.specs.TableTasks.{threads_of_table};
-ghost use Rattle.cal_run.specs.Collecting.{IsCollectedOf};
+ghost use Rattle.cal_run.specs.Collecting.{HasStopped, IsCollectedOf};
 ghost use Rattle.cal_run.specs.Outcome.Headline.{Headline, HeadlineBy};
 ghost use Rattle.cal_run.specs.Outcome.{EachStandsOnce, IsRun, IsRunBy, IsRunEnd, IsRunEndBy};
-ghost use Rattle.cal_run.specs.Outcome.{IsCollectedEnd, IsCollectedEndBy, outcome_of};
+ghost use Rattle.cal_run.specs.Outcome.{IsCollectedEndBy, outcome_of};
 ghost use Rattle.cal_run.specs.Outcome.{IsTalliedEnd, IsTalliedEndBy};
-ghost use Rattle.cal_run.specs.Parts.{AreParts, rounds_of};
+ghost use Rattle.cal_run.specs.Parts.{AreFirstPasses, AreParts, rounds_of};
 ghost use Rattle.cal_run.specs.declared.fault.SimFault.TheVariants.{Memory};
 ghost use Rattle.cal_trace.specs.Arrivals.FitsTable.{FitsTable};
 
@@ -145,9 +145,17 @@ pub fn lockstep_collected_by<C: Collector>(
     requires fits { FitsTable config.now arrivals.now }
     requires suits { C.suits collector.old config.now }
     requires opened { C.holds collector.old [] (replicate (threads_of_table config.now) []) }
+    requires unwritten { C.wrote collector.old collector.old [] }
+    requires same { C.same collector.old collector.old }
     ensures suits { IfOk result (λ _. C.suits collector.new config.now) }
     ensures run { IfOk result
         (IsCollectedEndBy policy (C.holds collector.new) config.now arrivals.now) }
+    ensures wrote { IfOk result (IsCollectedEndBy policy (λ history _.
+        AreFirstPasses policy config.now arrivals.now history
+        × C.wrote collector.old collector.new history) config.now arrivals.now) }
+    ensures stopped { IfErr result (λ _. HasStopped policy config.now arrivals.now
+        (C.wrote collector.old collector.new)) }
+    ensures same { C.same collector.old collector.new }
 {
     let Ok(mut parts) = open_unwatched_by(alloc, config, policy, arrivals) else {
         return Err(C::Fault::from(AllocError));
@@ -155,22 +163,6 @@ pub fn lockstep_collected_by<C: Collector>(
     make_rounds(&mut parts, arrivals, collector)?;
     let RunRest { left, .. } = end_run(alloc, config, arrivals, parts)?;
     Ok(left)
-}
-
-/// `lockstep_collected_by` of `Policy::Caladan`.
-pub fn lockstep_collected<C: Collector>(
-    alloc: Global,
-    config: &Config,
-    arrivals: &Arrivals,
-    collector: &mut C,
-) -> Result<Listed<RequestList>, C::Fault>
-    requires fits { FitsTable config.now arrivals.now }
-    requires suits { C.suits collector.old config.now }
-    requires opened { C.holds collector.old [] (replicate (threads_of_table config.now) []) }
-    ensures suits { IfOk result (λ _. C.suits collector.new config.now) }
-    ensures run { IfOk result (IsCollectedEnd (C.holds collector.new) config.now arrivals.now) }
-{
-    lockstep_collected_by(alloc, config, Policy::Caladan, arrivals, collector)
 }
 
 /// The parts of a run by this policy, whose passes, turns and rounds were all made, and its history

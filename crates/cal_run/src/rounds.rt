@@ -3,31 +3,28 @@
 pub mod passes;
 pub mod watch;
 
-ghost use Rattle.std.specs.Prelude.{◌≡◌, ◌+◌, ◌++◌, List, length, min, max, option_to_list};
-ghost use Rattle.std.specs.Prelude.{IfOk, OnOk};
+ghost use Rattle.std.specs.Prelude.{◌≡◌, ◌+◌, List, length, min, max, IfErr, IfOk, OnOk};
 ghost use Rattle.cal_policy.specs.Policies.{IsLegalBy};
 ghost use Rattle.cal_kthread.specs.declared.journal.entry.Entry.{Entry};
 ghost use Rattle.cal_machine.specs.Table.{Table};
 ghost use Rattle.cal_policy.specs.declared.history.entry.PassEntry.{PassEntry as EntryOfPass};
-ghost use Rattle.cal_run.specs.Parts.{AreParts, HasPassed, scheduler_seat_of};
+ghost use Rattle.cal_run.specs.Collecting.{HasStopped};
+ghost use Rattle.cal_run.specs.Parts.{AreFirstPasses, AreParts, HasPassed, scheduler_seat_of};
 ghost use Rattle.cal_run.specs.Rounds.{AreAfterRounds};
 ghost use Rattle.cal_run.specs.Workers.{FitSomeTable, HaveMade, journals_of, seats_of};
 
 use crate::collector::Collector;
-use crate::collector::nobody::Nobody;
 use crate::parts::Parts;
-use crate::rounds::passes::pass_given;
 use crate::rounds::watch::watch_of_round;
 use crate::workers::turn_each;
 use crate::workers::worker::Worker;
-use cal_policy::PassEntry;
 use cal_sched::BareScheduler;
 use cal_trace::Arrivals;
-use std::alloc::AllocError;
 
 /// All passes, turns and rounds of the watch, one round after the other. What each pass and each
-/// turn hands out goes to the collector. Fails only when out of memory, or where the collector does.
-pub(crate) fn make_rounds<C: Collector>(
+/// turn hands out goes to the collector. Fails only when out of memory, or where the collector does:
+/// then what the collector wrote is of some first passes.
+pub fn make_rounds<C: Collector>(
     parts: &mut Parts,
     arrivals: &Arrivals,
     collector: &mut C,
@@ -44,6 +41,14 @@ pub(crate) fn make_rounds<C: Collector>(
         (journals_of parts.old.workers.items) →
         OnOk result (C.holds collector.new parts.new.scheduler.history
         (journals_of parts.new.workers.items)) }
+    ensures first { IfOk result (λ _. AreFirstPasses parts.old.scheduler.policy
+        parts.old.scheduler.table arrivals.now parts.new.scheduler.history) }
+    ensures wrote { (first : C) → C.wrote first collector.old parts.old.scheduler.history →
+        OnOk result (C.wrote first collector.new parts.new.scheduler.history) }
+    ensures stopped { (first : C) → C.wrote first collector.old parts.old.scheduler.history →
+        IfErr result (λ _. HasStopped parts.old.scheduler.policy parts.old.scheduler.table
+        arrivals.now (C.wrote first collector.new)) }
+    ensures same { (first : C) → C.same first collector.old → C.same first collector.new }
 {
     for r in 0..rounds_to_make(arrivals) {
         make_round(parts, arrivals, r, collector)?;
@@ -62,6 +67,8 @@ fn make_round<C: Collector>(
     requires suits { C.suits collector.old parts.old.scheduler.table }
     requires fits { FitSomeTable arrivals.now }
     requires before { AreAfterRounds parts.old.scheduler.table arrivals.now r parts.old }
+    requires legal { IsLegalBy parts.old.scheduler.policy parts.old.scheduler.table
+        parts.old.scheduler.history }
     ensures suits { IfOk result (λ _. C.suits collector.new parts.old.scheduler.table) }
     ensures made { IfOk result (λ _.
         AreAfterRounds parts.old.scheduler.table arrivals.now (r + 1) parts.new) }
@@ -71,6 +78,14 @@ fn make_round<C: Collector>(
         (journals_of parts.old.workers.items) →
         OnOk result (C.holds collector.new parts.new.scheduler.history
         (journals_of parts.new.workers.items)) }
+    ensures legal { IfOk result (λ _. IsLegalBy parts.new.scheduler.policy
+        parts.new.scheduler.table parts.new.scheduler.history) }
+    ensures wrote { (first : C) → C.wrote first collector.old parts.old.scheduler.history →
+        OnOk result (C.wrote first collector.new parts.new.scheduler.history) }
+    ensures stopped { (first : C) → C.wrote first collector.old parts.old.scheduler.history →
+        IfErr result (λ _. HasStopped parts.old.scheduler.policy parts.old.scheduler.table
+        arrivals.now (C.wrote first collector.new)) }
+    ensures same { (first : C) → C.same first collector.old → C.same first collector.new }
 {
     pass_of_round(&mut parts.scheduler, arrivals, r, collector)?;
     turns_of_round(parts.workers.as_mut_slice(), arrivals, r, collector)?;
@@ -78,64 +93,13 @@ fn make_round<C: Collector>(
     Ok(())
 }
 
-/// Round `r`, for who makes rounds one by one: the same, and the entry of its pass, if it has one.
-/// What its turns hand out is let go of. Asks for a history of the scheduler's policy, which it keeps
-/// so. Fails only when out of memory.
-pub fn told_round(
-    parts: &mut Parts,
-    arrivals: &Arrivals,
-    r: usize,
-) -> Result<Option<PassEntry>, AllocError>
-    requires fits { FitSomeTable arrivals.now }
-    requires before { AreAfterRounds parts.old.scheduler.table arrivals.now r parts.old }
-    requires legal { IsLegalBy parts.old.scheduler.policy parts.old.scheduler.table
-        parts.old.scheduler.history }
-    ensures made { IfOk result (λ _.
-        AreAfterRounds parts.old.scheduler.table arrivals.now (r + 1) parts.new) }
-    ensures most { IfOk result (λ _. parts.new.watch.most ≡ parts.old.watch.most) }
-    ensures policy { IfOk result (λ _. parts.new.scheduler.policy ≡ parts.old.scheduler.policy) }
-    ensures told { IfOk result (λ entry. parts.new.scheduler.history
-        ≡ parts.old.scheduler.history ++ option_to_list entry) }
-    ensures legal { IfOk result (λ _. IsLegalBy parts.old.scheduler.policy
-        parts.old.scheduler.table parts.new.scheduler.history) }
-{
-    let entry = told_pass(&mut parts.scheduler, arrivals, r)?;
-    turns_of_round(parts.workers.as_mut_slice(), arrivals, r, &mut Nobody)?;
-    watch_of_round(&mut parts.watch);
-    Ok(entry)
-}
-
 /// How many rounds a run on these arrivals has.
-pub fn rounds_to_make(arrivals: &Arrivals) -> usize
+fn rounds_to_make(arrivals: &Arrivals) -> usize
     ensures { result ≡ max (length arrivals.now.passes) (length arrivals.now.turns) }
 {
     let passes = arrivals.passes.as_slice().len();
     let turns = arrivals.turns.as_slice().len();
     passes.max(turns)
-}
-
-/// Pass `r`, if there is one, and its entry. Fails only when out of memory.
-fn told_pass(
-    scheduler: &mut BareScheduler,
-    arrivals: &Arrivals,
-    r: usize,
-) -> Result<Option<PassEntry>, AllocError>
-    requires fits { FitSomeTable arrivals.now }
-    requires passed { HasPassed arrivals.now (min r (length arrivals.now.passes)) scheduler.old }
-    ensures passed { IfOk result (λ _.
-        HasPassed arrivals.now (min (r + 1) (length arrivals.now.passes)) scheduler.new) }
-    ensures entered { IfOk result (λ entry.
-        scheduler.new.history ≡ scheduler.old.history ++ option_to_list entry) }
-    ensures seat { scheduler_seat_of scheduler.new ≡ scheduler_seat_of scheduler.old }
-    ensures legal { IfOk result (λ _.
-        IsLegalBy scheduler.old.policy scheduler.old.table scheduler.old.history →
-        IsLegalBy scheduler.old.policy scheduler.old.table scheduler.new.history) }
-{
-    if r >= arrivals.passes.as_slice().len() {
-        return Ok(None);
-    }
-    let entry = pass_given(scheduler, arrivals, r)?;
-    Ok(Some(entry))
 }
 
 /// Pass `r`, if there is one.
@@ -155,6 +119,13 @@ fn pass_of_round<C: Collector>(
     ensures collected { (journals : List (List Entry)) →
         C.holds collector.old scheduler.old.history journals →
         OnOk result (C.holds collector.new scheduler.new.history journals) }
+    ensures legal { IsLegalBy scheduler.old.policy scheduler.old.table scheduler.old.history →
+        IsLegalBy scheduler.new.policy scheduler.new.table scheduler.new.history }
+    ensures wrote { (first : C) → C.wrote first collector.old scheduler.old.history →
+        OnOk result (C.wrote first collector.new scheduler.new.history) }
+    ensures stopped { (first : C) → C.wrote first collector.old scheduler.old.history →
+        IfErr result (λ _. C.wrote first collector.new scheduler.old.history) }
+    ensures same { (first : C) → C.same first collector.old → C.same first collector.new }
 {
     if r >= arrivals.passes.as_slice().len() {
         return Ok(());
@@ -179,6 +150,9 @@ fn turns_of_round<C: Collector>(
     ensures collected { (history : List EntryOfPass) →
         C.holds collector.old history (journals_of workers.old) →
         OnOk result (C.holds collector.new history (journals_of workers.new)) }
+    ensures wrote { (first : C) (history : List EntryOfPass) →
+        C.wrote first collector.old history → C.wrote first collector.new history }
+    ensures same { (first : C) → C.same first collector.old → C.same first collector.new }
 {
     if r >= arrivals.turns.as_slice().len() {
         return Ok(());

@@ -30,6 +30,9 @@ pub(crate) fn turn_each<C: Collector>(
     ensures collected { (history : List PassEntry) →
         C.holds collector.old history (journals_of workers.old) →
         OnOk result (C.holds collector.new history (journals_of workers.new)) }
+    ensures wrote { (first : C) (history : List PassEntry) →
+        C.wrote first collector.old history → C.wrote first collector.new history }
+    ensures same { (first : C) → C.same first collector.old → C.same first collector.new }
 {
     turns_add_up();
     for k in 0..workers.len() {

@@ -1,3 +1,4 @@
+pub mod Cheapest
 pub mod Faults
 pub mod Objectives
 pub mod SeedRows

@@ -2,7 +2,7 @@
 use Rattle.std.specs.Prelude.{ℕ, nat_le, nat_lt, Bool, true, false, not, List, length}
 use Rattle.std.specs.Prelude.{◌==◌, ◌&&◌, ◌-◌, slice_get}
 use Rattle.std.specs.Prelude.{Option, Some, None, if◌then◌else◌}
-use Rattle.std.specs.List.{list_any}
+use Rattle.std.specs.List.{list_all, list_any}
 use Rattle.cal_measure.specs.declared.requests.TaskRequests.{TaskRequests}
 use Rattle.cal_measure.specs.declared.spread.Time.{Time}
 use Rattle.cal_measure.specs.declared.spread.Time.TheVariants.{Known, More}
@@ -58,10 +58,9 @@ is_not_kept_with objective loads None = false
 is_not_kept_with objective loads (Some last) =
     list_any (is_not_kept_at objective last.load) loads
 
--- the same where there is an objective; where there is none, none is asked
-abbrev pub is_not_kept : Option Objective → List SweptLoad → Bool
-is_not_kept None loads = false
-is_not_kept (Some objective) loads =
+-- the same of the last of these loads
+unfoldable pub is_not_kept : List SweptLoad → Objective → Bool
+is_not_kept loads objective =
     is_not_kept_with objective loads (slice_get loads (length loads - 1))
 
 abbrev pub is_missed : Standing → Bool
@@ -97,7 +96,16 @@ standing_with_seeds objective loads load table =
     if list_any (stands_at Missed objective load table) loads then Missed
     else if list_any (stands_at Undecided objective load table) loads then Undecided else Kept
 
+-- one of the objectives is not kept at the last load of a sweep
+abbrev pub is_any_not_kept : List Objective → Sweep → Bool
+is_any_not_kept objectives sweep = list_any (is_not_kept sweep.loads.items) objectives
+
+-- every objective is kept by the runs of a table at a load, with all its seeds
+abbrev pub keeps_all : List Objective → List SweptLoad → ℕ → ℕ → Bool
+keeps_all objectives loads load table =
+    list_all (λ objective. is_kept (standing_with_seeds objective loads load table)) objectives
+
 -- the exit status: 1 where an objective is not kept at the last load of one of the sweeps, 0 else
-abbrev pub status_of_sweeps : Option Objective → List Sweep → ℕ
-status_of_sweeps objective sweeps =
-    if list_any (λ sweep. is_not_kept objective sweep.loads.items) sweeps then 1 else 0
+abbrev pub status_of_sweeps : List Objective → List Sweep → ℕ
+status_of_sweeps objectives sweeps =
+    if list_any (is_any_not_kept objectives) sweeps then 1 else 0

@@ -1,9 +1,10 @@
 -- What a sweep is of, as words say it.
-use Rattle.std.specs.Prelude.{◌≡◌, ◌==◌, ◌<◌, ◌≤◌, ◌+◌, ◌-◌, ◌/◌, ◌^◌, ℕ, Bool, List, Option, Some, None, IfSome, IsTrue}
-use Rattle.std.specs.Prelude.{map, slice_get, if◌then◌else◌}
+use Rattle.std.specs.Prelude.{◌≡◌, ◌==◌, ◌<◌, ◌≤◌, ◌+◌, ◌-◌, ◌/◌, ◌^◌, ℕ, All, Bool, List, Option, Some, None, IsTrue}
+use Rattle.std.specs.Prelude.{length, map, slice_get, if◌then◌else◌}
 use Rattle.std.specs.List.{list_any}
 use Rattle.cal_load.specs.declared.making.TaskLoad.{TaskLoad}
 use Rattle.cal_trace.specs.Rows.Text.{numbered}
+use Rattle.cal_sweep.specs.declared.objective.Objective.{Objective}
 use Rattle.cal_sweep.specs.declared.words.Asked.{Asked}
 use Rattle.cal_sweep.specs.declared.words.SweepWords.{SweepWords}
 use Rattle.cal_sweep.specs.declared.words.TheConstants.{MOST_SEEDS}
@@ -12,6 +13,12 @@ use Rattle.cal_sweep.specs.declared.words.TheConstants.{MOST_SEEDS}
 abbrev pub has_load : List TaskLoad → ℕ → Bool
 has_load tasks task = list_any (λ of_task. of_task.task == task) tasks
 
+-- so many objectives, each of a task to which requests come
+pub record AreObjectives (tasks : List TaskLoad) (words : ℕ) (objectives : List Objective) :
+    Type 0 where
+  pub many : length objectives ≡ words
+  pub loaded : All (λ objective. IsTrue (has_load tasks objective.task)) objectives
+
 -- the turn after the first tenth of so many turns, and the first of the last tenth
 abbrev pub first_tenth : ℕ → ℕ
 first_tenth turns = turns / 10
@@ -19,16 +26,16 @@ first_tenth turns = turns / 10
 abbrev pub last_tenth : ℕ → ℕ
 last_tenth turns = turns - turns / 10
 
--- the timing, the seed, the plan and the form asked for are those of the words, an objective is of a
--- task to which requests come, the window has turns of the run: without words all but the first and
+-- the timing, the seed, the plan and the form asked for are those of the words, there is an objective
+-- for each word, of a task to which requests come, the window has turns of the run: without words all but the first and
 -- the last tenth of them; and there is a seed, or several, each a number: without a word one
 pub record IsAsked (words : SweepWords) (asked : Asked) : Type 0 where
   pub timing : asked.timing ≡ words.load.timing
   pub seed : asked.seed ≡ words.load.seed
   pub plan : asked.plan ≡ words.plan
   pub form : asked.form ≡ words.form
-  pub objective : IfSome asked.objective (λ objective.
-      IsTrue (has_load asked.tasks.items objective.task))
+  pub objectives : AreObjectives asked.tasks.items (length words.slo.items)
+      asked.objectives.items
   pub window : (asked.first < asked.after) × (asked.after ≤ words.load.timing.turns)
   pub first : words.from ≡ None → asked.first ≡ first_tenth words.load.timing.turns
   pub after : words.to ≡ None → asked.after ≡ last_tenth words.load.timing.turns

@@ -11,10 +11,8 @@ ghost use Rattle.cal_tables.specs.Joining.{table_part};
 use crate::fault::SweepFault;
 use crate::job::SweepJob;
 use crate::misses::say_misses;
-use crate::naming::SweepNames;
-use crate::objective::Objective;
 use crate::runs::{Sweep, swept_by_each};
-use crate::table::ShownSweep;
+use crate::table::{ShownSweep, shown_tasks};
 use crate::verdict::status_of_sweeps;
 use cal_input::RunFault;
 use cal_tables::ComparisonFault;
@@ -24,32 +22,36 @@ use std::thread::Threads;
 
 /// What is written of sweeps, in memory.
 fn text_of(job: &SweepJob<'_>, sweeps: &[Sweep]) -> Result<String, AllocError> {
-    let form = job.asked.form;
+    let (asked, form) = (job.asked, job.asked.form);
+    let tasks = shown_tasks(job.alloc, asked)?;
     let shown = ShownSweep {
         sweeps,
-        seeds: job.asked.seeds.max(1) as usize,
-        task: job.asked.task(),
+        seeds: asked.seeds.max(1) as usize,
+        swept: asked.task(),
+        tasks: tasks.as_slice(),
         names: job.names,
         form,
     };
-    shown.sheet(job.alloc)?.written(job.alloc, form)
+    let mut text = shown.sheet(job.alloc)?.written(job.alloc, form)?;
+    if asked.cheapest {
+        let cheapest = shown.cheapest(job.alloc, asked.objectives.as_slice())?;
+        text.push_str("\n")?;
+        text.push_str(cheapest.written(job.alloc, form)?.as_str())?;
+    }
+    Ok(text)
 }
 
 /// Writes a line for each miss of these sweeps, with its numbers.
-fn say_misses_of_each<E: Write>(
-    sweeps: &[Sweep],
-    objective: &Objective,
-    names: SweepNames<'_>,
-    errors: &mut E,
-) {
+fn say_misses_of_each<E: Write>(job: &SweepJob<'_>, sweeps: &[Sweep], errors: &mut E) {
+    let objectives = job.asked.objectives.as_slice();
     for policy in 0..sweeps.len() {
-        say_misses(&sweeps[policy], policy, objective, names, errors);
+        say_misses(&sweeps[policy], policy, objectives, job.names, errors);
     }
 }
 
 /// Writes the sweeps that a job asked for, one by each policy, and answers the exit status: 1 where
-/// one of the runs of the last load of one does not keep the objective, and 0 else. Of each such
-/// run a line is written to `errors`, with its numbers.
+/// one of the runs of the last load of one does not keep one of the objectives, and 0 else. Of each
+/// such table and objective a line is written to `errors`, with its numbers.
 ///
 /// The fault is `Write`, or `Memory` before anything is written.
 pub fn end_sweeps<'a, W: Write, E: Write>(
@@ -59,7 +61,7 @@ pub fn end_sweeps<'a, W: Write, E: Write>(
     errors: &mut E,
 ) -> Result<u8, SweepFault<'a>>
     ensures status { IfOk result (λ status.
-        status ≡ status_of_sweeps job.now.asked.now.objective sweeps.now) }
+        status ≡ status_of_sweeps job.now.asked.now.objectives.items sweeps.now) }
     ensures kind { IfErr result (λ fault.
         (fault ≡ SweepFault.Run of_writer) ⊎ (fault ≡ SweepFault.Run of_memory)) }
     ensures untouched { IfErr result (λ fault.
@@ -70,11 +72,8 @@ pub fn end_sweeps<'a, W: Write, E: Write>(
     if output.write_all(text.as_bytes()).is_err() || output.flush().is_err() {
         return Err(SweepFault::Run(ComparisonFault::from(RunFault::Write)));
     }
-    let status = status_of_sweeps(job.asked.objective, sweeps);
-    if let Some(objective) = job.asked.objective {
-        say_misses_of_each(sweeps, &objective, job.names, errors);
-    }
-    Ok(status)
+    say_misses_of_each(job, sweeps, errors);
+    Ok(status_of_sweeps(job.asked.objectives.as_slice(), sweeps))
 }
 
 /// Sweeps that were written.
@@ -82,8 +81,8 @@ pub fn end_sweeps<'a, W: Write, E: Write>(
 pub struct EndedSweeps {
     /// The sweep by each policy.
     pub sweeps: Vec<Sweep>,
-    /// The exit status: 1 where one of the runs of the last load of one does not keep the objective,
-    /// and 0 else.
+    /// The exit status: 1 where one of the runs of the last load of one does not keep one of the
+    /// objectives, and 0 else.
     pub status: u8,
 }
 
@@ -103,7 +102,7 @@ pub fn answer_sweep<'a, W: Write, E: Write>(
         sweep.tables.items sweep.loads.items) job.now.names.policies.now ended.sweeps.items) }
     // The status is that of the runs of these very sweeps.
     ensures status { IfOk result (λ ended. ended.status ≡
-        status_of_sweeps job.now.asked.now.objective ended.sweeps.items) }
+        status_of_sweeps job.now.asked.now.objectives.items ended.sweeps.items) }
     // The faults of the table, the names and the words for tasks come first.
     ensures refused { IfErr result (λ fault. fault ≢ SweepFault.Run of_writer →
         SweepDecided fault (IsFirstFault (table_in (table_part job.now.input.now))

@@ -7,6 +7,7 @@
 #![tactic(auto)]
 
 mod answer;
+mod cheapest;
 mod fault;
 mod job;
 mod misses;
@@ -25,5 +26,5 @@ pub use job::SweepJob;
 pub use naming::SweepNames;
 pub use objective::{Objective, Standing, objective_of};
 pub use runs::{Sweep, SweptLoad, SweptRun, swept, swept_by_each};
-pub use verdict::{AtLoad, is_not_kept, standing_of, status_of_sweeps};
+pub use verdict::{AtLoad, is_not_kept, keeps_all, standing_of, status_of_sweeps};
 pub use words::{Asked, MOST_SEEDS, SweepWords, asked_of};

@@ -9,15 +9,28 @@ use cal_measure::Time;
 use cal_tables::Labels;
 use std::io::Write;
 
-/// Writes a line for each table whose runs of the last load of a sweep do not keep the objective:
-/// the objective, the load, with how many of the seeds it stands so where there are several, what
-/// stands at the rank in the first of these runs, and up to which load the objective was kept.
-/// Before it stand the value that makes the table and the policy, at this place, where there are
-/// several.
+/// Writes a line for each objective, and of each for each table whose runs of the last load of a
+/// sweep do not keep it: the objective, the load, with how many of the seeds it stands so where there
+/// are several, what stands at the rank in the first of these runs, and up to which load the
+/// objective was kept. Before it stand the value that makes the table and the policy, at this place,
+/// where there are several.
 pub fn say_misses<E: Write>(
     sweep: &Sweep,
     policy: usize,
-    objective: &Objective,
+    objectives: &[Objective<'_>],
+    names: SweepNames<'_>,
+    errors: &mut E,
+) {
+    for objective in objectives {
+        say_misses_of(sweep, policy, objective, names, errors);
+    }
+}
+
+/// Writes these lines of one objective.
+fn say_misses_of<'x, E: Write>(
+    sweep: &'x Sweep,
+    policy: usize,
+    objective: &'x Objective<'x>,
     names: SweepNames<'_>,
     errors: &mut E,
 ) {
@@ -108,7 +121,8 @@ fn say_standing<E: Write>(miss: Miss<'_>, errors: &mut E) {
         Standing::Missed | Standing::Kept => "missed",
     };
     let (ones, rest) = (load / 1000, load % 1000);
-    let _ = write!(errors, "{objective} is {standing} at load {ones}.{rest:03}");
+    let word = objective.word;
+    let _ = write!(errors, "{word} is {standing} at load {ones}.{rest:03}");
     let (times, seeds, seed) = (miss.times, miss.seeds, miss.seed);
     let _ = if seeds > 1 {
         write!(errors, " with {times} of {seeds} seeds: with seed {seed} ")

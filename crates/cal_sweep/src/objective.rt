@@ -1,22 +1,23 @@
 //! An objective: within how many clock ticks so many of a task's requests are to be answered.
 
-ghost use Rattle.std.specs.Prelude.{◌≡◌, IfErr};
+ghost use Rattle.std.specs.Prelude.{◌≡◌, ◌⊎◌, IfErr, IfOk};
 ghost use Rattle.cal_load.specs.Refused.{IsRefusedFor};
 ghost use Rattle.cal_tables.specs.Rows.{time_in};
 ghost use Rattle.cal_sweep.specs.Objectives.{is_kept, is_missed, is_same, is_undecided};
 ghost use Rattle.cal_sweep.specs.Objectives.{response_at, standing_at};
 
-use cal_load::{LoadFault, Why, number_of, refused};
+use cal_load::{LoadFault, Why, number_of, refused, task_named};
 use cal_measure::Time;
 use cal_tables::{Rank, RunNumbers, time_in};
-use std::fmt;
 
 /// The flag before an objective.
 pub const FLAG: &str = "--slo";
 
 /// Within how many clock ticks the request at a rank of a task's responses is to be answered.
 #[derive(Clone, Copy, Debug, PartialEq, Eq)]
-pub struct Objective {
+pub struct Objective<'a> {
+    /// The word that says it.
+    pub word: &'a str,
     /// The number of the task.
     pub task: usize,
     /// The rank, among all requests that came to the task.
@@ -37,45 +38,57 @@ pub fn rank_word(rank: Rank) -> &'static str {
     }
 }
 
-/// The rank of a word.
-fn rank_of(word: &str) -> Option<Rank> {
-    match word {
-        "p50" => Some(Rank::Median),
-        "p90" => Some(Rank::Ninety),
-        "p99" => Some(Rank::NinetyNine),
-        "p99.9" => Some(Rank::MostOfThousand),
-        "max" => Some(Rank::Greatest),
-        _ => None,
+/// The ranks that an objective may have.
+const RANKS: [Rank; 5] = [
+    Rank::Median,
+    Rank::Ninety,
+    Rank::NinetyNine,
+    Rank::MostOfThousand,
+    Rank::Greatest,
+];
+
+/// The task and the rank of an objective, as `task.0.p99` says them.
+fn task_and_rank(word: &str) -> Option<(&str, Rank)> {
+    let place = word.strip_prefix("task.").unwrap_or(word);
+    for rank in RANKS {
+        if let Some(task) = place.strip_suffix(rank_word(rank)) {
+            return Some((task.strip_suffix('.')?, rank));
+        }
     }
+    None
 }
 
-/// The objective that a word says, as `task.0.p99=65`.
-fn read(word: &str) -> Option<Objective> {
-    let (place, ticks) = word.split_once('=')?;
-    let (task, rank) = place.strip_prefix("task.")?.split_once('.')?;
-    Some(Objective {
-        task: usize::try_from(number_of(task)?).ok()?,
-        rank: rank_of(rank)?,
-        ticks: number_of(ticks)?,
-    })
+/// The task, the rank and the ticks of an objective.
+fn parts_of(word: &str) -> Option<(&str, Rank, u64)> {
+    let (place, ticks) = word.rsplit_once('=')?;
+    let (task, rank) = task_and_rank(place)?;
+    Some((task, rank, number_of(ticks)?))
 }
 
 /// The objective of a word, as `task.0.p99=65`: a task, `p50`, `p90`, `p99`, `p99.9` or `max`, and
-/// clock ticks. Which tasks the table has is not asked. The fault is `NotAnObjective`, of the word.
-pub fn objective_of<'a>(word: &'a str) -> Result<Objective, LoadFault<'a>>
-    ensures { IfErr result (IsRefusedFor FLAG.now word.now Why.NotAnObjective) }
+/// clock ticks. A task may also stand as one of these names, with `task.` or without it. Which tasks
+/// the table has is not asked. The fault is `NotNamed`, of a task that has none of the names, or
+/// `NotAnObjective`, of the word.
+pub fn objective_of<'a>(
+    word: &'a str,
+    names: Option<&'a str>,
+) -> Result<Objective<'a>, LoadFault<'a>>
+    ensures said { IfOk result (λ objective. objective.word ≡ word.entry) }
+    ensures fault { IfErr result (λ fault. IsRefusedFor FLAG.now word.now Why.NotAnObjective fault
+        ⊎ IsRefusedFor FLAG.now word.now (Why.NotNamed names.entry) fault) }
 {
-    match read(word) {
-        Some(objective) => Ok(objective),
+    let Some((place, rank, ticks)) = parts_of(word) else {
+        return Err(refused(FLAG, word, Why::NotAnObjective));
+    };
+    match task_named(names, place) {
+        Some(task) => Ok(Objective {
+            word,
+            task,
+            rank,
+            ticks,
+        }),
+        None if names.is_some() => Err(refused(FLAG, word, Why::NotNamed(names))),
         None => Err(refused(FLAG, word, Why::NotAnObjective)),
-    }
-}
-
-/// The objective as its word says it.
-impl fmt::Display for Objective {
-    fn fmt<W: fmt::Write>(&self, f: &mut fmt::Formatter<W>) -> fmt::Result {
-        let Objective { task, rank, ticks } = *self;
-        write!(f, "task.{task}.{}={ticks}", rank_word(rank))
     }
 }
 

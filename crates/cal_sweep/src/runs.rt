@@ -1,6 +1,6 @@
 //! The runs of a sweep, measured.
 
-ghost use Rattle.std.specs.Prelude.{◌≡◌, ◌++◌, ◌∷◌, [], IfErr, IfOk, Ok, OnOk};
+ghost use Rattle.std.specs.Prelude.{◌≡◌, ◌≤◌, ◌++◌, ◌∷◌, [], IfErr, IfOk, Ok, OnOk};
 ghost use Rattle.std.specs.Prelude.{length};
 ghost use Rattle.cal_machine.specs.Reading.{table_in};
 ghost use Rattle.cal_machine.specs.Table.{Table};
@@ -191,22 +191,37 @@ fn swept_load<'a>(
     Ok(SweptLoad { load, seed, runs })
 }
 
-/// The runs of each of these loads with its seed, at most two of these at a time for each
-/// processor, and one after the other where no thread can be started; or the fault of the first that
-/// has one. What is answered does not depend on the threads. Fails only when out of memory.
+/// How many of so many loads stand in one piece at least, where each piece runs by itself and there are
+/// at most so many pieces.
+fn least_piece(points: usize, jobs: Option<u64>) -> usize
+    ensures { 1 ≤ result }
+{
+    let Some(jobs) = jobs else {
+        return 1;
+    };
+    match points.saturating_sub(1).checked_div(jobs as usize) {
+        Some(least) if least < points => least + 1,
+        _ => 1,
+    }
+}
+
+/// The runs of each of these loads with its seed, at most two pieces of these at a time for each
+/// processor, of so many at least, and one after the other where no thread can be started; or the fault
+/// of the first that has one. What is answered does not depend on the threads. Fails only when out of memory.
 fn answered_loads<'a>(
     rt: &(impl Threads + Sync),
     job: &SweepJob<'a>,
     policy: Policy,
     tables: &[Config],
     points: &[Point],
+    least: usize,
 ) -> Result<Result<Vec<SweptLoad>, SweepFault<'a>>, AllocError>
     ensures { IfOk result (λ answer. IfOk answer (λ swept.
         AreSweptLoads policy job.now.asked.now tables.now points.now swept.items)) }
 {
     points
         .par_iter()
-        .with_min_len(1)
+        .with_min_len(least)
         .map(
             |point: &Point| -> Result<SweptLoad, SweepFault>
                 ensures { IfOk result (IsSweptLoad policy
@@ -252,7 +267,8 @@ fn swept_loads<'a>(
         (points_of job.now.asked.now) swept.items) }
 {
     let points = points_of(job.alloc, job.asked)?;
-    answered_loads(rt, job, policy, tables, points.as_slice())?
+    let least = least_piece(points.len(), job.asked.jobs);
+    answered_loads(rt, job, policy, tables, points.as_slice(), least)?
 }
 
 /// One table alone. Fails only when out of memory.

@@ -1,11 +1,14 @@
-//! Sweeps as a table: a row for each run, by loads, then by tables, and last by policies; of several
-//! seeds three rows.
+//! Sweeps as a table: a row for each run, by loads, then by tables, by policies, and last by tasks; of
+//! several seeds three rows.
 
+use crate::cheapest::{Choice, cheapest_first};
 use crate::naming::SweepNames;
-use crate::objective::rank_word;
+use crate::objective::{Objective, rank_word};
 use crate::runs::{Sweep, SweptRun};
 use crate::seed_rows::{SEED_ROWS, SeedRow, of_seeds, seed_row_name};
 use crate::shares::best_effort_share;
+use crate::verdict::keeps_all;
+use crate::words::Asked;
 use cal_load::Count;
 use cal_machine::Config;
 use cal_tables::{
@@ -13,7 +16,7 @@ use cal_tables::{
 };
 use std::alloc::{AllocError, Global};
 
-/// What a column says of the task that is swept, or of the machine.
+/// What a column says of a task, or of the machine.
 #[derive(Clone, Copy)]
 enum Column {
     /// The time at a rank of its responses.
@@ -115,13 +118,30 @@ fn figure_of(table: &Config, run: &SweptRun, task: usize, column: Column) -> Opt
 }
 
 /// The runs of a row, one with each seed: their load, in thousandths, the place of the first of them
-/// in its sweep, and the places of their table and of their policy.
+/// in its sweep, and the places of their table and of their policy; and the task that the row is of.
 #[derive(Clone, Copy)]
 struct RunsAt {
     load: u64,
     first: usize,
     table: usize,
     policy: usize,
+    task: usize,
+}
+
+/// The tasks that have rows: those of the objectives, in the order of these, where they name several;
+/// else the one that is swept. Fails only when out of memory.
+pub fn shown_tasks(alloc: Global, asked: &Asked<'_>) -> Result<Vec<usize>, AllocError> {
+    let mut tasks = Vec::new(alloc);
+    for objective in asked.objectives.as_slice() {
+        if !tasks.as_slice().contains(&objective.task) {
+            tasks.push(objective.task)?;
+        }
+    }
+    if tasks.len() < 2 {
+        tasks.clear();
+        tasks.push(asked.task())?;
+    }
+    Ok(tasks)
 }
 
 /// What stands for a table and for a policy, where one of them has a name, or both have.
@@ -138,15 +158,17 @@ fn joined(
     Ok(Some(name))
 }
 
-/// Which sweeps are shown, of which task, under which names, and in which form.
+/// Which sweeps are shown, of which tasks, under which names, and in which form.
 #[derive(Clone, Copy)]
 pub struct ShownSweep<'a> {
     /// The sweep by each policy.
     pub sweeps: &'a [Sweep],
     /// How many seeds there are, at least one.
     pub seeds: usize,
-    /// The number of the task.
-    pub task: usize,
+    /// The number of the task that is swept.
+    pub swept: usize,
+    /// The numbers of the tasks that have rows.
+    pub tasks: &'a [usize],
     pub names: SweepNames<'a>,
     pub form: NumberForm,
 }
@@ -164,7 +186,7 @@ impl<'a> ShownSweep<'a> {
 
     /// What stands over the loads: of which task they are, where it has a name.
     fn load_heading(self, alloc: Global) -> Result<String, AllocError> {
-        match self.names.labels.name(self.task) {
+        match self.names.labels.name(self.swept) {
             Some(name) => format!(in alloc; "load of {name}"),
             None => String::from_str(alloc, "load"),
         }
@@ -191,6 +213,9 @@ impl<'a> ShownSweep<'a> {
         if let Some(name) = self.run_heading(alloc)? {
             row.push(name)?;
         }
+        if self.tasks.len() > 1 {
+            row.push(String::from_str(alloc, "task")?)?;
+        }
         if self.seeds > 1 {
             row.push(format!(in alloc; "of {} seeds", self.seeds)?)?;
         }
@@ -201,14 +226,34 @@ impl<'a> ShownSweep<'a> {
         Ok(row)
     }
 
-    /// A row: the load, what its runs are called, which of the seeds' figures stand in it where there
+    /// What the runs of a table by a policy are called, where they have a name.
+    fn name_of(
+        self,
+        alloc: Global,
+        table: usize,
+        policy: usize,
+    ) -> Result<Option<String>, AllocError> {
+        joined(alloc, self.names.value(table), self.names.policy(policy))
+    }
+
+    /// What a task is called.
+    fn task_name(self, alloc: Global, task: usize) -> Result<String, AllocError> {
+        match self.names.labels.name(task) {
+            Some(name) => String::from_str(alloc, name),
+            None => format!(in alloc; "{task}"),
+        }
+    }
+
+    /// A row: the load, what its runs are called, of which task it is where there are several, which of the seeds' figures stand in it where there
     /// are several seeds, and what each column says.
     fn row(self, alloc: Global, at: RunsAt, which: SeedRow) -> Result<Vec<String>, AllocError> {
         let mut row = Vec::new(alloc);
         row.push(number(alloc, at.load, Unit::Thousandth)?)?;
-        let (value, policy) = (self.names.value(at.table), self.names.policy(at.policy));
-        if let Some(name) = joined(alloc, value, policy)? {
+        if let Some(name) = self.name_of(alloc, at.table, at.policy)? {
             row.push(name)?;
+        }
+        if self.tasks.len() > 1 {
+            row.push(self.task_name(alloc, at.task)?)?;
         }
         if self.seeds > 1 {
             row.push(String::from_str(alloc, seed_row_name(which))?)?;
@@ -247,7 +292,7 @@ impl<'a> ShownSweep<'a> {
             .runs
             .as_slice()
             .get(at.table)?;
-        figure_of(table, run, self.task, column)
+        figure_of(table, run, at.task, column)
     }
 
     /// How many tables each sweep has.
@@ -255,18 +300,26 @@ impl<'a> ShownSweep<'a> {
         self.sweeps.first().map_or(0, |first| first.tables.len())
     }
 
+    /// How many loads there are.
+    fn loads(self) -> usize {
+        let points = self.sweeps.first().map_or(0, |first| first.loads.len());
+        points / self.seeds.max(1)
+    }
+
     /// How many rows there are; of several seeds, how many times three.
     fn rows(self) -> usize {
-        let points = self.sweeps.first().map_or(0, |first| first.loads.len());
-        let of_load = self.tables().saturating_mul(self.sweeps.len());
-        (points / self.seeds.max(1)).saturating_mul(of_load)
+        let of_table = self.sweeps.len().saturating_mul(self.tasks.len());
+        let of_load = self.tables().saturating_mul(of_table);
+        self.loads().saturating_mul(of_load)
     }
 
     /// The runs of a row, below the heading.
     fn runs_at(self, row: usize) -> Option<RunsAt> {
+        let tasks = self.tasks.len().max(1);
         let policies = self.sweeps.len().max(1);
         let tables = self.tables().max(1);
-        let (place, policy) = (row / policies, row % policies);
+        let (run, task) = (row / tasks, *self.tasks.get(row % tasks)?);
+        let (place, policy) = (run / policies, run % policies);
         let (load, table) = (place / tables, place % tables);
         let first = load.saturating_mul(self.seeds);
         let runs = self.sweeps.get(policy)?.loads.as_slice().get(first)?;
@@ -275,7 +328,105 @@ impl<'a> ShownSweep<'a> {
             first,
             table,
             policy,
+            task,
         })
+    }
+
+    /// How many runs there are of each load with each seed.
+    fn runs_of_load(self) -> usize {
+        self.tables().saturating_mul(self.sweeps.len())
+    }
+
+    /// The runs of a load that keep every objective, those first that leave most to best effort. Fails
+    /// only when out of memory.
+    fn choices_at(
+        self,
+        alloc: Global,
+        load: usize,
+        objectives: &[Objective<'_>],
+    ) -> Result<Vec<Choice>, AllocError> {
+        let of_load = self.runs_of_load();
+        let mut choices = Vec::new(alloc);
+        for run in 0..of_load {
+            let row = load.saturating_mul(of_load).saturating_add(run);
+            let Some(at) = self.runs_at(row.saturating_mul(self.tasks.len())) else {
+                continue;
+            };
+            if self.keeps_all(at, objectives) {
+                let left = self.figures(alloc, at, Column::BestEffort)?;
+                choices.push(Choice {
+                    table: at.table,
+                    policy: at.policy,
+                    left: of_seeds(left, SeedRow::Median)?,
+                })?;
+            }
+        }
+        cheapest_first(choices)
+    }
+
+    /// Whether some runs keep every objective with all seeds.
+    fn keeps_all(self, at: RunsAt, objectives: &[Objective<'_>]) -> bool {
+        match self.sweeps.get(at.policy) {
+            None => false,
+            Some(sweep) => keeps_all(objectives, sweep.loads.as_slice(), at.load, at.table),
+        }
+    }
+
+    /// A row of the settings that keep every objective at a load, in thousandths: what they are, and
+    /// what they leave.
+    fn choice_row(
+        self,
+        alloc: Global,
+        load: u64,
+        choice: Choice,
+    ) -> Result<Vec<String>, AllocError> {
+        let mut row = Vec::new(alloc);
+        row.push(number(alloc, load, Unit::Thousandth)?)?;
+        if let Some(name) = self.name_of(alloc, choice.table, choice.policy)? {
+            row.push(name)?;
+        }
+        let unit = unit_of(Column::BestEffort);
+        NumberForm::Columns.put_figure(alloc, &mut row, choice.left, unit)?;
+        Ok(row)
+    }
+
+    /// Puts a row for each of the settings that keep every objective at a load.
+    fn put_choices(
+        self,
+        alloc: Global,
+        load: usize,
+        objectives: &[Objective<'_>],
+        sheet: &mut Sheet,
+    ) -> Result<(), AllocError> {
+        let row = load.saturating_mul(self.runs_of_load());
+        let Some(at) = self.runs_at(row.saturating_mul(self.tasks.len())) else {
+            return Ok(());
+        };
+        for choice in self.choices_at(alloc, load, objectives)?.as_slice() {
+            sheet.put(self.choice_row(alloc, at.load, *choice)?)?;
+        }
+        Ok(())
+    }
+
+    /// The settings that keep every objective, for each load in turn: those first that leave most to
+    /// best effort, of several seeds in the median. Fails only when out of memory.
+    pub fn cheapest(
+        self,
+        alloc: Global,
+        objectives: &[Objective<'_>],
+    ) -> Result<Sheet, AllocError> {
+        let mut heading = Vec::new(alloc);
+        heading.push(self.load_heading(alloc)?)?;
+        if let Some(name) = self.run_heading(alloc)? {
+            heading.push(name)?;
+        }
+        heading.push(String::from_str(alloc, name_of(Column::BestEffort))?)?;
+        let mut sheet = Sheet::new(alloc);
+        sheet.put(heading)?;
+        for load in 0..self.loads() {
+            self.put_choices(alloc, load, objectives, &mut sheet)?;
+        }
+        Ok(sheet)
     }
 
     /// Puts the rows of some runs: one, or of several seeds three.
@@ -287,8 +438,8 @@ impl<'a> ShownSweep<'a> {
         Ok(())
     }
 
-    /// The runs of the sweeps, a row for each, or of several seeds three: what came of the task in
-    /// them. Fails only when out of memory.
+    /// The runs of the sweeps, a row for each and each task, or of several seeds three: what came of
+    /// the task in them. Fails only when out of memory.
     pub fn sheet(self, alloc: Global) -> Result<Sheet, AllocError> {
         let mut sheet = Sheet::new(alloc);
         sheet.put(self.heading(alloc)?)?;

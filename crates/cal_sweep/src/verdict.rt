@@ -2,7 +2,8 @@
 
 ghost use Rattle.std.specs.Prelude.{◌≡◌};
 ghost use Rattle.std.specs.List.{list_any};
-ghost use Rattle.cal_sweep.specs.Objectives.{is_not_kept, is_not_kept_at, is_not_kept_by};
+ghost use Rattle.cal_sweep.specs.Objectives.{is_any_not_kept, is_not_kept, is_not_kept_at};
+ghost use Rattle.cal_sweep.specs.Objectives.{is_not_kept_by, keeps_all};
 ghost use Rattle.cal_sweep.specs.Objectives.{standing_of, standing_with_seeds, stands_at};
 ghost use Rattle.cal_sweep.specs.Objectives.{status_of_sweeps};
 
@@ -11,7 +12,7 @@ use crate::runs::{Sweep, SweptLoad, SweptRun};
 
 /// What becomes of an objective in a run: where some requests were left out that came before the end
 /// of the window, it is missed.
-pub fn standing_of(objective: &Objective, run: &SweptRun) -> Standing
+pub fn standing_of(objective: &Objective<'_>, run: &SweptRun) -> Standing
     ensures { result ≡ standing_of objective.now run.now }
 {
     if run.is_cut {
@@ -22,14 +23,14 @@ pub fn standing_of(objective: &Objective, run: &SweptRun) -> Standing
 }
 
 /// Whether a run does not keep an objective.
-fn is_not_kept_by(objective: &Objective, run: &SweptRun) -> bool
+fn is_not_kept_by(objective: &Objective<'_>, run: &SweptRun) -> bool
     ensures { result ≡ is_not_kept_by objective.now run.now }
 {
     !is_kept(standing_of(objective, run))
 }
 
 /// Whether one of some runs does not keep an objective.
-fn is_not_kept_by_any(objective: &Objective, runs: &[SweptRun]) -> bool
+fn is_not_kept_by_any(objective: &Objective<'_>, runs: &[SweptRun]) -> bool
     ensures { result ≡ list_any (is_not_kept_by objective.now) runs.now }
 {
     for run in runs {
@@ -41,14 +42,14 @@ fn is_not_kept_by_any(objective: &Objective, runs: &[SweptRun]) -> bool
 }
 
 /// Whether these runs are of this load, and one of them does not keep an objective.
-fn is_not_kept_at(objective: &Objective, load: u64, of_load: &SweptLoad) -> bool
+fn is_not_kept_at(objective: &Objective<'_>, load: u64, of_load: &SweptLoad) -> bool
     ensures { result ≡ is_not_kept_at objective.now load of_load.now }
 {
     of_load.load == load && is_not_kept_by_any(objective, of_load.runs.as_slice())
 }
 
 /// Whether one of the runs of a load, with one of its seeds, does not keep an objective.
-fn is_not_kept_with(objective: &Objective, loads: &[SweptLoad], load: u64) -> bool
+fn is_not_kept_with(objective: &Objective<'_>, loads: &[SweptLoad], load: u64) -> bool
     ensures { result ≡ list_any (is_not_kept_at objective.now load) loads.now }
 {
     for of_load in loads {
@@ -60,24 +61,34 @@ fn is_not_kept_with(objective: &Objective, loads: &[SweptLoad], load: u64) -> bo
 }
 
 /// Whether one of the runs of the last load, with one of its seeds, does not keep an objective.
-pub fn is_not_kept(objective: Option<Objective>, loads: &[SweptLoad]) -> bool
-    ensures { result ≡ is_not_kept objective loads.now }
+#[tactic(auto, unfolding(crate::specs::Objectives::is_not_kept))]
+pub fn is_not_kept(loads: &[SweptLoad], objective: &Objective<'_>) -> bool
+    ensures { result ≡ is_not_kept loads.now objective.now }
 {
-    let Some(objective) = objective else {
-        return false;
-    };
     match loads.get(loads.len().saturating_sub(1)) {
         None => false,
-        Some(last) => is_not_kept_with(&objective, loads, last.load),
+        Some(last) => is_not_kept_with(objective, loads, last.load),
     }
 }
 
-/// Whether one of some sweeps does not keep an objective at its last load.
-fn is_not_kept_in_any(objective: Option<Objective>, sweeps: &[Sweep]) -> bool
-    ensures { result ≡ list_any (λ sweep. is_not_kept objective sweep.loads.items) sweeps.now }
+/// Whether one of the objectives is not kept at the last load of a sweep.
+fn is_any_not_kept(objectives: &[Objective<'_>], sweep: &Sweep) -> bool
+    ensures { result ≡ is_any_not_kept objectives.now sweep.now }
+{
+    for objective in objectives {
+        if is_not_kept(sweep.loads.as_slice(), objective) {
+            return true;
+        }
+    }
+    false
+}
+
+/// Whether one of the objectives is not kept at the last load of one of some sweeps.
+fn is_not_kept_in_any(objectives: &[Objective<'_>], sweeps: &[Sweep]) -> bool
+    ensures { result ≡ list_any (is_any_not_kept objectives.now) sweeps.now }
 {
     for sweep in sweeps {
-        if is_not_kept(objective, sweep.loads.as_slice()) {
+        if is_any_not_kept(objectives, sweep) {
             return true;
         }
     }
@@ -85,22 +96,40 @@ fn is_not_kept_in_any(objective: Option<Objective>, sweeps: &[Sweep]) -> bool
 }
 
 /// The exit status after some sweeps: 1 where one of the runs of the last load of one does not keep
-/// the objective, and 0 else.
-pub fn status_of_sweeps(objective: Option<Objective>, sweeps: &[Sweep]) -> u8
-    ensures { result ≡ status_of_sweeps objective sweeps.now }
+/// one of the objectives, and 0 else.
+pub fn status_of_sweeps(objectives: &[Objective<'_>], sweeps: &[Sweep]) -> u8
+    ensures { result ≡ status_of_sweeps objectives.now sweeps.now }
 {
-    if is_not_kept_in_any(objective, sweeps) {
+    if is_not_kept_in_any(objectives, sweeps) {
         1
     } else {
         0
     }
 }
 
+/// Whether the runs of a table at a load keep each of some objectives with all seeds.
+pub fn keeps_all(objectives: &[Objective<'_>], loads: &[SweptLoad], load: u64, table: usize) -> bool
+    ensures { result ≡ keeps_all objectives.now loads.now load table }
+{
+    for objective in objectives {
+        let at = AtLoad {
+            objective,
+            loads,
+            load,
+            table,
+        };
+        if !is_kept(at.standing()) {
+            return false;
+        }
+    }
+    true
+}
+
 /// An objective, and the runs of a table at a load, of which there is one with each seed.
 #[derive(Clone, Copy)]
 pub struct AtLoad<'a> {
     /// The objective.
-    pub objective: &'a Objective,
+    pub objective: &'a Objective<'a>,
     /// The runs of each load with each seed.
     pub loads: &'a [SweptLoad],
     /// The load, in thousandths.

@@ -1,8 +1,8 @@
 //! What a sweep is of, as words say it.
 
-ghost use Rattle.std.specs.Prelude.{◌≡◌, ◌<◌, ◌≤◌, ◌+◌, ◌^◌, IfOk, IfSome, IsTrue, None, Ok};
-ghost use Rattle.cal_sweep.specs.Words.{AreLoadedWith, IsAsked, first_tenth, has_load};
-ghost use Rattle.cal_sweep.specs.Words.{last_tenth, swept_task};
+ghost use Rattle.std.specs.Prelude.{◌≡◌, ◌<◌, ◌≤◌, ◌+◌, ◌^◌, IfOk, IsTrue, None, Ok, length};
+ghost use Rattle.cal_sweep.specs.Words.{AreLoadedWith, AreObjectives, IsAsked, first_tenth};
+ghost use Rattle.cal_sweep.specs.Words.{has_load, last_tenth, swept_task};
 
 use crate::fault::SweepFault;
 use crate::objective::{FLAG, Objective, objective_of};
@@ -21,8 +21,8 @@ pub struct SweepWords<'a> {
     pub load: LoadWords<'a>,
     /// A key of the table and its values, as `KEY=V1,V2`.
     pub vary: Option<&'a str>,
-    /// The objective.
-    pub slo: Option<&'a str>,
+    /// The objectives.
+    pub slo: Vec<&'a str>,
     /// The first turn of the window: requests that come in it are ranked.
     pub from: Option<&'a str>,
     /// The first turn after the window.
@@ -31,6 +31,10 @@ pub struct SweepWords<'a> {
     pub plan: Option<Plan>,
     /// With how many seeds each load runs, from its seed on.
     pub seeds: Option<&'a str>,
+    /// Whether the settings that keep every objective are listed.
+    pub cheapest: bool,
+    /// How many loads with their seeds run side by side at most; without it two for each processor.
+    pub jobs: Option<u64>,
     /// In which form its numbers are written.
     pub form: NumberForm,
 }
@@ -40,8 +44,8 @@ pub struct SweepWords<'a> {
 pub struct Asked<'a> {
     /// The loads, in thousandths, rising.
     pub loads: Vec<u64>,
-    /// The objective.
-    pub objective: Option<Objective>,
+    /// The objectives, in the order of their words.
+    pub objectives: Vec<Objective<'a>>,
     /// What comes to each task; of the one at `place` each of the loads in turn.
     pub tasks: Vec<TaskLoad>,
     /// Which of these tasks is swept.
@@ -62,15 +66,24 @@ pub struct Asked<'a> {
     pub word: &'a str,
     /// The words of the tasks.
     pub named: Vec<&'a str>,
+    /// Whether the settings that keep every objective are listed.
+    pub cheapest: bool,
+    /// How many loads with their seeds run side by side at most; without it two for each processor.
+    pub jobs: Option<u64>,
     /// In which form its numbers are written.
     pub form: NumberForm,
 }
 
 /// The objective of a word, of one of the tasks to which requests come.
-fn objective_among<'a>(word: &'a str, tasks: &[TaskLoad]) -> Result<Objective, LoadFault<'a>>
-    ensures { IfOk result (λ objective. IsTrue (has_load tasks.now objective.task)) }
+fn objective_among<'a>(
+    word: &'a str,
+    names: Option<&'a str>,
+    tasks: &[TaskLoad],
+) -> Result<Objective<'a>, LoadFault<'a>>
+    ensures said { IfOk result (λ objective. objective.word ≡ word.entry) }
+    ensures loaded { IfOk result (λ objective. IsTrue (has_load tasks.now objective.task)) }
 {
-    let objective = objective_of(word)?;
+    let objective = objective_of(word, names)?;
     if tasks.iter().any(|of_task| of_task.task == objective.task) {
         Ok(objective)
     } else {
@@ -78,18 +91,22 @@ fn objective_among<'a>(word: &'a str, tasks: &[TaskLoad]) -> Result<Objective, L
     }
 }
 
-/// The objective that words say, if they do.
-fn asked_objective<'a>(
-    slo: Option<&'a str>,
+/// The objective that each of these words says.
+fn asked_objectives<'a>(
+    alloc: Global,
+    slo: &[&'a str],
+    names: Option<&'a str>,
     tasks: &[TaskLoad],
-) -> Result<Option<Objective>, LoadFault<'a>>
-    ensures { IfOk result (λ asked. IfSome asked
-        (λ objective. IsTrue (has_load tasks.now objective.task))) }
+) -> Result<Vec<Objective<'a>>, LoadFault<'a>>
+    ensures { IfOk result (λ objectives. AreObjectives tasks.now (length slo.now)
+        objectives.items) }
 {
-    match slo {
-        None => Ok(None),
-        Some(word) => Ok(Some(objective_among(word, tasks)?)),
+    let mut objectives = Vec::new(alloc);
+    for place in 0..slo.len() {
+        let objective = objective_among(slo[place], names, tasks)?;
+        objectives.push(objective)?;
     }
+    Ok(objectives)
 }
 
 /// Whether the values of a key are such; no word says nothing of them.
@@ -161,20 +178,22 @@ fn asked_seeds<'a>(word: Option<&'a str>, first: u64) -> Result<u64, LoadFault<'
     }
 }
 
-/// What words ask for, where they need no table: loads, of one task at most several; an objective
-/// of a task to which requests come; a key with values; a window; seeds. The fault is that of the
+/// What words ask for, where they need no table: loads, of one task at most several; objectives of
+/// tasks to which requests come; a key with values; a window; seeds. The fault is that of the
 /// first word.
 pub fn asked_of<'a>(alloc: Global, words: &SweepWords<'a>) -> Result<Asked<'a>, SweepFault<'a>>
     ensures { IfOk result (IsAsked words.now) }
 {
     let stepped = stepped_loads(alloc, &words.load)?;
-    let objective = asked_objective(words.slo, stepped.tasks.as_slice())?;
+    let slo = words.slo.as_slice();
+    let names = words.load.names;
+    let objectives = asked_objectives(alloc, slo, names, stepped.tasks.as_slice())?;
     are_values(words.vary)?;
     let (first, after) = asked_turns(words.from, words.to, words.load.timing.turns)?;
     let seeds = asked_seeds(words.seeds, words.load.seed)?;
     Ok(Asked {
         loads: stepped.loads,
-        objective,
+        objectives,
         tasks: stepped.tasks,
         place: stepped.place,
         timing: words.load.timing,
@@ -185,6 +204,8 @@ pub fn asked_of<'a>(alloc: Global, words: &SweepWords<'a>) -> Result<Asked<'a>, 
         plan: words.plan,
         word: stepped.word,
         named: words.load.tasks.clone()?,
+        cheapest: words.cheapest,
+        jobs: words.jobs,
         form: words.form,
     })
 }

@@ -44,6 +44,7 @@ of_table_weaker P Q by (comparison.OfTable place (reasons.Run faults.Spawn)) h =
 of_table_weaker P Q by (comparison.OfTable place (reasons.Run faults.Gate)) h = absurd h
 of_table_weaker P Q by (comparison.OfTable place (reasons.Misfit misfit)) h = absurd h
 of_table_weaker P Q by (comparison.OfTable place (reasons.Pace fault)) h = absurd h
+of_table_weaker P Q by (comparison.OfTable place (reasons.Count fault)) h = absurd h
 of_table_weaker P Q by (comparison.OfTable place (reasons.NoTable tables)) h = absurd h
 
 -- one table more stands before the rest

@@ -1,21 +1,24 @@
--- What faults say, and what was read, of an input that asks for a run by a plan.
+-- What faults say of an input that asks for a run by a plan or in lockstep.
 use Rattle.std.proofs.Common.{◌≡◌, Option, Some, None, Result, Ok, Err, refl, subst, sym}
-use Rattle.cal_input.specs.Parts.{RunInput}
+use Rattle.cal_input.specs.Answers.{Decided}
 use Rattle.cal_input.specs.declared.fault.RunFault.TheVariants as faults
 use Rattle.cal_input.specs.declared.fault.RunFault.{RunFault}
 use Rattle.cal_machine.specs.Table.{Table}
-use Rattle.cal_paced.specs.Planned.{ArePlannedOf, IsPlanFault}
+use Rattle.cal_paced.specs.Planned.{IsPlanFault}
 use Rattle.cal_paced.specs.declared.fault.PaceFault.TheVariants as paces
 use Rattle.cal_paced.specs.declared.fault.PaceFault.{PaceFault}
 use Rattle.cal_paced.specs.declared.plan.Plan.{Plan}
+use Rattle.cal_policy.specs.declared.policy.Policy.{Policy}
+use Rattle.cal_run.specs.Outcome.{IsRunBy}
+use Rattle.cal_run.specs.declared.outcome.Outcome.{Outcome}
 use Rattle.cal_trace.specs.declared.arrivals.Arrivals.{Arrivals}
-use Rattle.cal_tables.specs.Planned.{DecidedBy, FailedBy, IsFaultBy, IsFaultOfPlan, IsPlannedInput, MayRunBy, fault_of_plan}
+use Rattle.cal_tables.specs.Asked.{Subject, of_run}
+use Rattle.cal_tables.specs.Planned.{DecidedBy, FailedBy, IsFaultBy, IsFaultOfPlan, IsRunGiven, MayGoBy, fault_of_plan}
 use Rattle.cal_tables.specs.declared.planned.PlannedFault.TheVariants.{Pace, Run}
 use Rattle.cal_tables.specs.declared.planned.PlannedFault.{PlannedFault}
-use Rattle.cal_tables.specs.declared.planned.PlannedInput.{PlannedInput}
 
 -- a fault before anything is written fails as it must
-pub failed_by : (plan : Plan) (fault : PlannedFault) (asked : Result RunInput RunFault) → DecidedBy plan fault asked → FailedBy plan fault asked
+pub failed_by : (plan : Option Plan) (fault : PlannedFault) (asked : Result Subject RunFault) → DecidedBy plan fault asked → FailedBy plan fault asked
 failed_by plan (Run faults.Length) asked h = h
 failed_by plan (Run faults.Separator) asked h = h
 failed_by plan (Run (faults.Config f)) asked h = h
@@ -27,19 +30,22 @@ failed_by plan (Run faults.Spawn) asked h = absurd h
 failed_by plan (Run faults.Gate) asked h = absurd h
 failed_by plan (Pace f) asked h = h
 
--- where arrivals were read for a run by the plan, there is one
-pub may_run : (plan : Plan) (asked : Result RunInput RunFault) (read : PlannedInput) → IsPlannedInput plan asked read → MayRunBy plan asked
-may_run plan (Err f) read h = absurd h
-may_run plan (Ok input) read h = h.planned.may
+-- where a run was made, it may be
+pub may_go : (plan : Option Plan) (policy : Policy) (table : Table) (arrivals given : Arrivals) (outcome : Outcome) → IsRunGiven plan policy table arrivals given outcome → MayGoBy plan arrivals
+may_go None policy table arrivals given outcome h = tt
+may_go (Some plan) policy table arrivals given outcome h = h.0
 
--- the fault of arrivals that are asked for is that of the input
-pub decided_plan : (plan : Plan) (table : Table) (arrivals : Arrivals) (fault : PaceFault) (asked : Result RunInput RunFault) → asked ≡ Ok (record { table = table; arrivals = arrivals })
-    → IsPlanFault plan arrivals fault → DecidedBy plan (fault_of_plan fault) asked
-decided_plan plan table arrivals paces.Memory asked is h = tt
-decided_plan plan table arrivals paces.Rows asked is h = subst (λ (o : Result RunInput RunFault). DecidedBy plan (Pace paces.Rows) o) (sym is) h
-decided_plan plan table arrivals paces.Passes asked is h = subst (λ (o : Result RunInput RunFault). DecidedBy plan (Pace paces.Passes) o) (sym is) h
-decided_plan plan table arrivals paces.NoPlan asked is h = subst (λ (o : Result RunInput RunFault). DecidedBy plan (Pace paces.NoPlan) o) (sym is) h
-decided_plan plan table arrivals paces.NoMisses asked is h = subst (λ (o : Result RunInput RunFault). DecidedBy plan (Pace paces.NoMisses) o) (sym is) h
+-- a run by a plan is a run on what it was given
+pub on_given : (plan : Option Plan) (policy : Policy) (table : Table) (arrivals given : Arrivals) (outcome : Outcome) → IsRunGiven plan policy table arrivals given outcome → IsRunBy policy table given outcome
+on_given None policy table arrivals given outcome h = subst (λ (a : Arrivals). IsRunBy policy table a outcome) (sym h.0) h.1
+on_given (Some plan) policy table arrivals given outcome h = h.1.run
+
+-- the fault of the arrivals that are asked for is that of the input
+pub decided_run : (plan : Option Plan) (table : Table) (arrivals : Arrivals) (fault : PlannedFault) (asked : Result Subject RunFault)
+    → asked ≡ Ok (of_run (record { table = table; arrivals = arrivals })) → IsFaultBy plan arrivals fault → DecidedBy plan fault asked
+decided_run None table arrivals fault asked is h = subst (λ (f : PlannedFault). DecidedBy None f asked) (sym h) tt
+decided_run (Some plan) table arrivals (Run f) asked is h = subst (λ (r : RunFault). Decided r (asked ≡ Err r)) (sym h) tt
+decided_run (Some plan) table arrivals (Pace f) asked is h = rw is h
 
 -- and the fault of a run on them
 pub fault_of : (plan : Plan) (arrivals : Arrivals) (fault : PaceFault) → IsPlanFault plan arrivals fault → IsFaultOfPlan plan arrivals (fault_of_plan fault)

@@ -1,16 +1,11 @@
--- What an input asks to be measured, and the verdict on it.
-use Rattle.std.specs.Prelude.{◌≡◌, ℕ, List, Result, Ok, Err}
-use Rattle.cal_input.specs.Answers.{Failed}
-use Rattle.cal_input.specs.Parts.{parts_of, Parts, RunInput}
+-- What an input asks for.
+use Rattle.std.specs.Prelude.{◌≡◌, ℕ, Bool, List, Result, Ok, Err, if◌then◌else◌}
+use Rattle.cal_input.specs.Parts.{parts_of, Parts, run_input_of, RunInput}
 use Rattle.cal_input.specs.Recorded.{recorded_in, Run}
 use Rattle.cal_input.specs.declared.fault.RunFault.{RunFault}
 use Rattle.cal_input.specs.declared.fault.RunFault.TheVariants as fault
 use Rattle.cal_machine.specs.Table.{Table}
 use Rattle.cal_machine.specs.Tasks.{threads_in}
-use Rattle.cal_policy.specs.Policies.{IsVerdictBy}
-use Rattle.cal_policy.specs.declared.policy.Policy.{Policy}
-use Rattle.cal_policy.specs.declared.verdict.Verdict.{Verdict}
-use Rattle.cal_policy.specs.declared.verdict.Verdict.TheVariants as verdicts
 use Rattle.cal_trace.specs.Arrivals.{arrivals_of}
 use Rattle.cal_trace.specs.Rows.{rows_of}
 use Rattle.cal_trace.specs.declared.arrivals.Arrivals.{Arrivals}
@@ -52,17 +47,10 @@ asked_in (Ok parts) = asked_on parts.table parts.trace (arrivals_in parts.table 
 abbrev pub asked_of : List ℕ → Result Subject RunFault
 asked_of input = asked_in (parts_of input)
 
--- the verdict by the policy on what is asked for: a run is legal, on a history it is the audit's
-abbrev pub IsVerdictOn : Policy → Verdict → Subject → Type 0
-IsVerdictOn policy verdict (of_run input) = verdict ≡ verdicts.Legal
-IsVerdictOn policy verdict (of_history run) = IsVerdictBy policy run.table run.history verdict
+abbrev pub asked_run : Result RunInput RunFault → Result Subject RunFault
+asked_run (Err f) = Err f
+asked_run (Ok input) = Ok (of_run input)
 
--- something is asked for, and this is the verdict on it
-abbrev pub IsVerdictFor : Policy → Verdict → Result Subject RunFault → Type 0
-IsVerdictFor policy verdict (Err f) = ⊥
-IsVerdictFor policy verdict (Ok asked) = IsVerdictOn policy verdict asked
-
--- the verdict is that on what is asked for, or the fault says what it must of the input
-abbrev pub Judges : Policy → Result Verdict RunFault → Result Subject RunFault → Type 0
-Judges policy (Ok verdict) asked = IsVerdictFor policy verdict asked
-Judges policy (Err f) asked = Failed f asked
+-- what an input asks for that is to be a run alone, or may be a history
+abbrev pub asked_by : Bool → List ℕ → Result Subject RunFault
+asked_by alone input = if alone then asked_run (run_input_of input) else asked_of input

@@ -1,5 +1,9 @@
 -- Runs of several tables on the same arrivals, side by side.
-use Rattle.std.specs.Prelude.{◌≡◌, ℕ, List, [], ◌∷◌, length, Some, None, Ok, slice_get}
+use Rattle.std.specs.Prelude.{◌≡◌, ℕ, List, [], ◌∷◌, length, false, Option, Some, None, Ok}
+use Rattle.std.specs.Prelude.{slice_get}
+use Rattle.cal_came.specs.Asked.{is_asked, IsCountedAs}
+use Rattle.cal_came.specs.declared.asked.CountAsked.{CountAsked}
+use Rattle.cal_came.specs.declared.asked.CountedRequests.{CountedRequests}
 use Rattle.cal_input.specs.Input.{input_parts}
 use Rattle.cal_machine.specs.Reading.{table_in}
 use Rattle.cal_machine.specs.Table.{Table}
@@ -8,6 +12,9 @@ use Rattle.cal_trace.specs.Arrivals.{arrivals_of}
 use Rattle.cal_trace.specs.Rows.{rows_of}
 use Rattle.cal_trace.specs.declared.arrivals.Arrivals.{Arrivals}
 use Rattle.cal_tables.specs.Moved.{AreMoved}
+use Rattle.cal_tables.specs.Planned.{IsCountedBy, IsMeasuredBy}
+use Rattle.cal_tables.specs.declared.comparing.RunTerms.{RunTerms}
+use Rattle.cal_tables.specs.declared.measuring.RunNumbers.{RunNumbers}
 
 -- the tables of an input, each ended by a separator line, and what stands after the last of these
 -- lines
@@ -50,11 +57,32 @@ abbrev pub AreOfTables : {R : Type 0} → (Table → Arrivals → R → Type 0) 
 AreOfTables Is given arrivals tables runs =
     AreEachOf (λ table run. IsOfMoved Is given arrivals table run) tables runs
 
--- the tables of an input, and of each it is so of a run on the input's arrivals, as the table gets
--- them
-pub record IsComparison {R : Type 0} (Is : Table → Arrivals → R → Type 0) (input : List ℕ)
-    (tables : List Table) (runs : List R) : Type 0 where
+-- from when the requests of these arrivals count, where that is asked for
+abbrev pub AreCountedFor : CountAsked → Table → Arrivals → Option CountedRequests → Type 0
+AreCountedFor asked table arrivals None = is_asked asked ≡ false
+AreCountedFor asked table arrivals (Some told) = IsCountedAs asked table arrivals told
+
+-- these are the numbers of a run on these terms, whose requests count so or, where nothing is told of
+-- that, each from the clock of its turn
+abbrev pub IsToldBy : RunTerms → Option CountedRequests → Table → Arrivals → RunNumbers → Type 0
+IsToldBy terms None table arrivals numbers =
+    IsMeasuredBy terms.plan terms.policy table arrivals numbers
+IsToldBy terms (Some told) table arrivals numbers =
+    IsCountedBy terms.plan terms.policy table arrivals told.counted numbers
+
+-- the numbers of each table's run on these terms on arrivals that were given for one of them, as the
+-- table gets them
+pub record AreRunsOn (terms : RunTerms) (given : Table) (arrivals : Arrivals)
+    (tables : List Table) (runs : List RunNumbers) : Type 0 where
+  pub told : Option CountedRequests
+  pub counted : AreCountedFor terms.counting given arrivals told
+  pub are : AreOfTables (IsToldBy terms told) given arrivals tables runs
+
+-- the tables of an input, and the numbers of each one's run on these terms on the input's arrivals, as
+-- the table gets them
+pub record IsComparison (terms : RunTerms) (input : List ℕ) (tables : List Table)
+    (runs : List RunNumbers) : Type 0 where
   pub given : Table
   pub arrivals : Arrivals
   pub with : AreTablesWith input tables given arrivals
-  pub are : AreOfTables Is given arrivals tables runs
+  pub are : AreRunsOn terms given arrivals tables runs

@@ -13,3 +13,6 @@ pub mod Changed
 pub mod InputText
 pub mod Joining
 pub mod Rows
+pub mod Asking
+pub mod Crowding
+pub mod Measuring

@@ -96,4 +96,5 @@ abbrev pub IsReason : (Misfit → Type 0) → Reason → Type 0
 IsReason Is (reasons.Run fault) = fault ≡ Memory
 IsReason Is (reasons.Misfit misfit) = Is misfit
 IsReason Is (reasons.Pace fault) = ⊥
+IsReason Is (reasons.Count fault) = ⊥
 IsReason Is (reasons.NoTable tables) = ⊥

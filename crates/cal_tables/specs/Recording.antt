@@ -1,5 +1,5 @@
 -- A recorded history, measured.
-use Rattle.std.specs.Prelude.{◌≡◌, ℕ, List, Ok}
+use Rattle.std.specs.Prelude.{List}
 use Rattle.cal_machine.specs.Table.{Table}
 use Rattle.cal_policy.specs.Policies.{IsLegalBy, IsVerdictBy}
 use Rattle.cal_policy.specs.declared.history.entry.PassEntry.{PassEntry}
@@ -9,9 +9,6 @@ use Rattle.cal_tables.specs.Measured.{AreHistoryNumbers}
 use Rattle.cal_tables.specs.declared.recorded.HistoryNumbers.{HistoryNumbers}
 use Rattle.cal_tables.specs.declared.recorded.Recorded.{Recorded}
 use Rattle.cal_tables.specs.declared.recorded.Recorded.TheVariants.{Legal, Illegal}
-use Rattle.cal_trace.specs.History.{history_of}
-use Rattle.cal_trace.specs.History.Reading.{extent_of}
-use Rattle.cal_trace.specs.Rows.{rows_of}
 
 -- the history is one of some policy
 pub record IsOfAPolicy (table : Table) (history : List PassEntry) : Type 0 where
@@ -29,10 +26,3 @@ abbrev pub IsMeasured : Policy → Table → List PassEntry → Recorded → Typ
 IsMeasured policy table history (Legal numbers) = AreLegalNumbers policy table history numbers
 IsMeasured policy table history (Illegal pass) =
     IsVerdictBy policy table history (verdicts.Illegal pass)
-
--- what is said by the policy of the history that a text tells
-pub record IsRecorded (policy : Policy) (table : Table) (trace : List ℕ)
-    (recorded : Recorded) : Type 0 where
-  pub history : List PassEntry
-  pub told : history_of (extent_of table) (rows_of trace) ≡ Ok history
-  pub measured : IsMeasured policy table history recorded

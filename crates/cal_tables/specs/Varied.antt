@@ -8,8 +8,12 @@ use Rattle.cal_machine.specs.Table.{Table}
 use Rattle.cal_machine.specs.declared.fault.ConfigFault.{ConfigFault}
 use Rattle.cal_machine.specs.declared.fault.ConfigFault.TheVariants.{UnknownKey}
 use Rattle.cal_tables.specs.TableText.{Line, lines_of, text_of_lines}
-use Rattle.cal_tables.specs.Compared.{AreOfTables, IsComparison}
+use Rattle.cal_policy.specs.declared.policy.Policy.{Policy}
+use Rattle.cal_tables.specs.Compared.{AreRunsOn, IsComparison}
+use Rattle.cal_tables.specs.declared.comparing.ComparedInput.{ComparedInput}
+use Rattle.cal_tables.specs.declared.comparing.RunTerms.{RunTerms}
 use Rattle.cal_tables.specs.declared.comparing.Variation.{Variation}
+use Rattle.cal_tables.specs.declared.measuring.RunNumbers.{RunNumbers}
 use Rattle.cal_trace.specs.declared.arrivals.Arrivals.{Arrivals}
 
 -- the line; if its place is the key, with this value
@@ -42,18 +46,27 @@ pub record AreVariedWith (input key : List ℕ) (values : List (List ℕ)) (tabl
   pub has : run_input_of input ≡ Ok (record { table = given; arrivals = arrivals })
   pub varied : AreVaried given key values tables
 
--- the tables that the table of an input gives with each of these values at this key, and of each it
--- is so of a run on the input's arrivals, as it gets them
-pub record IsVariation {R : Type 0} (Is : Table → Arrivals → R → Type 0) (input key : List ℕ)
-    (values : List (List ℕ)) (tables : List Table) (runs : List R) : Type 0 where
+-- the tables that the table of an input gives with each of these values at this key, and the numbers
+-- of each one's run on these terms on the input's arrivals, as it gets them
+pub record IsVariation (terms : RunTerms) (input key : List ℕ) (values : List (List ℕ))
+    (tables : List Table) (runs : List RunNumbers) : Type 0 where
   pub given : Table
   pub arrivals : Arrivals
   pub with : AreVariedWith input key values tables given arrivals
-  pub are : AreOfTables Is given arrivals tables runs
+  pub are : AreRunsOn terms given arrivals tables runs
 
 -- the runs of the tables of an input, or with a variation those of the tables that its table gives
-abbrev pub IsComparisonOf : {R : Type 0} → (Table → Arrivals → R → Type 0) → List ℕ →
-    Option Variation → List Table → List R → Type 0
-IsComparisonOf Is input None tables runs = IsComparison Is input tables runs
-IsComparisonOf Is input (Some variation) tables runs = IsVariation Is input variation.key.now
-    (map (λ value. value.now) variation.values.now) tables runs
+abbrev pub IsComparisonOf : RunTerms → List ℕ → Option Variation → List Table →
+    List RunNumbers → Type 0
+IsComparisonOf terms input None tables runs = IsComparison terms input tables runs
+IsComparisonOf terms input (Some variation) tables runs = IsVariation terms input
+    variation.key.now (map (λ value. value.now) variation.values.now) tables runs
+
+-- the terms of the runs of an input by one of its policies, and these runs
+abbrev pub terms_by : ComparedInput → Policy → RunTerms
+terms_by input policy =
+    record { policy = policy; plan = input.plan; counting = input.counting }
+
+abbrev pub IsComparisonBy : ComparedInput → Policy → List Table → List RunNumbers → Type 0
+IsComparisonBy input policy tables runs =
+    IsComparisonOf (terms_by input policy) input.bytes.now input.variation tables runs

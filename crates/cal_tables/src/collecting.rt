@@ -14,6 +14,7 @@ ghost use Rattle.cal_policy.specs.declared.history.entry.PassEntry.{PassEntry};
 ghost use Rattle.cal_run.specs.Parts.{HasPassed, scheduler_seat_of};
 ghost use Rattle.cal_run.specs.Workers.{FitSomeTable};
 ghost use Rattle.cal_run.specs.declared.outcome.Outcome.{Outcome};
+ghost use Rattle.cal_sched.specs.Scheduler.{IsKept};
 ghost use Rattle.cal_tables.specs.Measured.{AreNumbersAtEnd, AreNumbersSoFar};
 
 use cal_came::Counted;
@@ -86,6 +87,7 @@ impl OpenNumbers {
         ensures open { IsOpenFor self.old.config self.new.walk }
         ensures passed { HasPassed arrivals.now (p + 1) scheduler.new }
         ensures seat { scheduler_seat_of scheduler.new ≡ scheduler_seat_of scheduler.old }
+        ensures kept { IsKept scheduler.new }
         ensures entered { (entry : PassEntry)
             × (scheduler.new.history ≡ scheduler.old.history ++ entry ∷ []) }
         ensures walk { IsWalkOf self.old.config scheduler.old.history self.old.walk →

@@ -11,16 +11,17 @@ pub mod varying;
 
 ghost use Rattle.std.specs.Prelude.{◌≡◌, ◌≢◌, IfErr, IfOk, map};
 ghost use Rattle.cal_tables.specs.Compared.{AreEachOf, IsComparison};
-ghost use Rattle.cal_tables.specs.Varied.{IsComparisonOf, IsVariation};
+ghost use Rattle.cal_tables.specs.Varied.{IsComparisonBy, IsComparisonOf, IsVariation, terms_by};
 
 use crate::comparing::fault::ComparisonFault;
 use crate::comparing::input_text::input_text;
-use crate::comparing::runs::{OfRun, policy_at, runs_of};
+use crate::comparing::runs::{comparison_on, policy_at};
 use crate::comparing::sheet::ShownComparison;
-use crate::comparing::tables::{GivenTables, given_tables};
+use crate::comparing::tables::given_tables;
 use crate::comparing::varying::varied_given;
 use crate::measuring::RunNumbers;
 use crate::style::NumberStyle;
+use cal_came::{CountAsked, CountedRequests};
 use cal_input::RunFault;
 use cal_machine::Config;
 use cal_paced::Plan;
@@ -28,36 +29,49 @@ use cal_policy::Policy;
 use std::alloc::Global;
 use std::io::Write;
 
-/// Some tables, and of each what is kept of its run.
-#[derive(Drop)]
-pub struct Comparison<R> {
-    /// The tables.
-    pub tables: Vec<Config>,
-    /// The run of each table, in the order of the tables.
-    pub runs: Vec<R>,
+/// By what the runs of some tables are made, and how they are counted.
+#[derive(Clone, Copy)]
+pub struct RunTerms<'a> {
+    /// The policy.
+    pub policy: Policy,
+    /// The plan; without it they are in lockstep.
+    pub plan: Option<Plan>,
+    /// From when their requests count, and which of them are ranked.
+    pub counting: CountAsked<'a>,
 }
 
-/// The tables of an input, each ended by a separator line, and what is kept of each one's run by this
-/// policy, and by this plan or in lockstep, on the arrivals that stand after the last of these lines,
-/// in the order of the tables. The arrivals are given for the first table; each gets them as
+/// Some tables, and the numbers of each one's run.
+#[derive(Drop)]
+pub struct Comparison {
+    /// The tables.
+    pub tables: Vec<Config>,
+    /// The numbers of each table's run, in the order of the tables.
+    pub runs: Vec<RunNumbers>,
+    /// The table that the arrivals are given for.
+    pub given: Config,
+    /// From when their requests count, where that is asked for.
+    pub told: Option<CountedRequests>,
+}
+
+/// The tables of an input, each ended by a separator line, and the numbers of each one's run on these
+/// terms on the arrivals that stand after the last of these lines, in the order of the tables. The
+/// arrivals, and when their requests came, are given for the first table; each gets them as
 /// `moved_arrivals` says, and then they are paced.
 ///
 /// The fault is the input's `Separator`, else the first table's that has one, else that of the
-/// arrivals, which is the first table's, else that of the first table which they do not fit, or
-/// whose arrivals are refused for the plan. `Memory` may come at any place.
-pub fn compared<R: OfRun>(
+/// arrivals, and of the file of when they came, which is the first table's, else that of the first
+/// table which they do not fit, or whose arrivals are refused for the plan. `Memory` may come at any
+/// place.
+pub fn compared(
     alloc: Global,
-    policy: Policy,
-    plan: Option<Plan>,
+    terms: RunTerms<'_>,
     input: &[u8],
-) -> Result<Comparison<R>, ComparisonFault>
-    ensures { IfOk result (λ comparison.
-        IsComparison (R.tells plan policy) input.now comparison.tables.items comparison.runs.items) }
+) -> Result<Comparison, ComparisonFault>
+    ensures { IfOk result (λ comparison. IsComparison terms.entry input.now
+        comparison.tables.items comparison.runs.items) }
 {
     let from = given_tables(alloc, input)?;
-    let runs = runs_of(alloc, policy, plan, &from)?;
-    let GivenTables { tables, .. } = from;
-    Ok(Comparison { tables, runs })
+    comparison_on(alloc, terms, from)
 }
 
 /// A key of a table, and values for it.
@@ -69,52 +83,48 @@ pub struct Variation<'a> {
     pub values: &'a [&'a str],
 }
 
-/// The tables that the one of an input gives with each of these values at this key, and what is kept
-/// of each one's run by this policy, and by this plan or in lockstep, on the input's arrivals, in the
-/// order of the values. The arrivals are given for the input's table; each gets them as
+/// The tables that the one of an input gives with each of these values at this key, and the numbers
+/// of each one's run on these terms on the input's arrivals, in the order of the values. The
+/// arrivals, and when their requests came, are given for the input's table; each gets them as
 /// `moved_arrivals` says, and then they are paced.
 ///
 /// The faults are those of the word `lockstep`, in its order; then that of the first value that
-/// makes the table faulty (a key that it has not is unknown), then that of the first value which
-/// makes a table that the arrivals do not fit, or whose arrivals are refused for the plan. `Memory`
-/// may come at any place.
-pub fn compared_values<R: OfRun>(
+/// makes the table faulty (a key that it has not is unknown), then that of the file of when requests
+/// came, then that of the first value which makes a table that the arrivals do not fit, or whose
+/// arrivals are refused for the plan. `Memory` may come at any place.
+pub fn compared_values(
     alloc: Global,
-    policy: Policy,
-    plan: Option<Plan>,
+    terms: RunTerms<'_>,
     input: &[u8],
     variation: Variation<'_>,
-) -> Result<Comparison<R>, ComparisonFault>
-    ensures { IfOk result (λ comparison. IsVariation (R.tells plan policy) input.now
+) -> Result<Comparison, ComparisonFault>
+    ensures { IfOk result (λ comparison. IsVariation terms.entry input.now
         variation.entry.key.now
         (map (λ value. value.now) variation.entry.values.now)
         comparison.tables.items comparison.runs.items) }
 {
     let from = varied_given(alloc, input, variation)?;
-    let runs = runs_of(alloc, policy, plan, &from)?;
-    let GivenTables { tables, .. } = from;
-    Ok(Comparison { tables, runs })
+    comparison_on(alloc, terms, from)
 }
 
-/// The runs of an input by this policy and plan: of its tables, or of those that its table gives with
-/// some values. The faults are those of `compared`, or of `compared_values`.
-pub fn comparison_of<R: OfRun>(
+/// The runs of an input on these terms: of its tables, or of those that its table gives with some
+/// values. The faults are those of `compared`, or of `compared_values`.
+pub fn comparison_of(
     alloc: Global,
-    policy: Policy,
-    plan: Option<Plan>,
+    terms: RunTerms<'_>,
     input: &[u8],
     variation: Option<Variation<'_>>,
-) -> Result<Comparison<R>, ComparisonFault>
-    ensures { IfOk result (λ comparison. IsComparisonOf (R.tells plan policy) input.now variation.entry
+) -> Result<Comparison, ComparisonFault>
+    ensures { IfOk result (λ comparison. IsComparisonOf terms.entry input.now variation.entry
         comparison.tables.items comparison.runs.items) }
 {
     match variation {
-        Some(variation) => compared_values(alloc, policy, plan, input, variation),
-        None => compared(alloc, policy, plan, input),
+        Some(variation) => compared_values(alloc, terms, input, variation),
+        None => compared(alloc, terms, input),
     }
 }
 
-/// An input of tables and arrivals, and by what its runs are made.
+/// An input of tables and arrivals, by what its runs are made, and how they are counted.
 #[derive(Clone, Copy)]
 pub struct ComparedInput<'a> {
     /// The bytes of the input.
@@ -125,23 +135,37 @@ pub struct ComparedInput<'a> {
     pub policies: &'a [Policy],
     /// By which plan all runs go; without it they are in lockstep.
     pub plan: Option<Plan>,
+    /// From when their requests count, and which of them are ranked.
+    pub counting: CountAsked<'a>,
+}
+
+/// The terms of the runs of an input by one of its policies.
+fn terms_by<'a>(input: ComparedInput<'a>, policy: Policy) -> RunTerms<'a>
+    ensures { result ≡ terms_by input.entry policy }
+{
+    RunTerms {
+        policy,
+        plan: input.plan,
+        counting: input.counting,
+    }
 }
 
 /// The runs of an input by each of its policies, in their order. The fault is that of the first that
 /// has one.
-pub fn comparisons_of<R: OfRun>(
+pub fn comparisons_of(
     alloc: Global,
     input: ComparedInput<'_>,
-) -> Result<Vec<Comparison<R>>, ComparisonFault>
+) -> Result<Vec<Comparison>, ComparisonFault>
     ensures { IfOk result (λ comparisons. AreEachOf
-        (λ policy comparison. IsComparisonOf (R.tells input.entry.plan policy) input.entry.bytes.now
-        input.entry.variation comparison.tables.items comparison.runs.items)
+        (λ policy comparison. IsComparisonBy input.entry policy comparison.tables.items
+        comparison.runs.items)
         input.entry.policies.now comparisons.items) }
 {
     let mut comparisons = Vec::new(alloc);
     for place in 0..input.policies.len() {
         let policy = policy_at(input.policies, place);
-        let runs = comparison_of(alloc, policy, input.plan, input.bytes, input.variation)?;
+        let terms = terms_by(input, policy);
+        let runs = comparison_of(alloc, terms, input.bytes, input.variation)?;
         comparisons.push(runs)?;
     }
     Ok(comparisons)
@@ -153,7 +177,7 @@ fn compared_text(
     input: ComparedInput<'_>,
     style: NumberStyle<'_>,
 ) -> Result<String, ComparisonFault> {
-    let runs: Vec<Comparison<RunNumbers>> = comparisons_of(alloc, input)?;
+    let runs = comparisons_of(alloc, input)?;
     let shown = ShownComparison {
         runs: runs.as_slice(),
         policies: input.policies,

@@ -1,6 +1,7 @@
 //! The numbers of a run's cores, row by row.
 
 ghost use Rattle.std.specs.Prelude.{◌≡◌, ◌≤◌, ◌-◌, ◌*◌, ◌^◌, length, min, None, slice_get, Some};
+ghost use Rattle.cal_measure.specs.Cores.{most_core_time};
 ghost use Rattle.cal_measure.specs.declared.cores.TaskCores.{TaskCores as OfTask};
 ghost use Rattle.cal_tables.specs.Rows.{core_figure_of, exact, machine_figure_of};
 
@@ -118,9 +119,7 @@ pub fn machine_unit(line: MachineLine) -> Unit {
 
 /// What a row says of a task with these numbers of cores, in a run that lasted so long.
 fn core_figure_of(cores: &TaskCores, lasted: u128, line: CoreLine) -> Option<Figure>
-    ensures { cores.now.held ≤ 2 ^ 100 → cores.now.leaving ≤ 2 ^ 100 →
-        cores.now.congested ≤ 2 ^ 100 → lasted ≤ 2 ^ 100 →
-        result ≡ core_figure_of cores.now lasted line }
+    ensures { lasted ≤ most_core_time → result ≡ core_figure_of cores.now lasted line }
 {
     let actions = cores.actions;
     match line {
@@ -145,8 +144,7 @@ fn core_figure_of(cores: &TaskCores, lasted: u128, line: CoreLine) -> Option<Fig
 /// something.
 pub fn core_figure(cores: &[TaskCores], lasted: u128, task: usize, line: CoreLine) -> Option<Figure>
     ensures there { (of_task : OfTask) → slice_get cores.now task ≡ Some of_task →
-        of_task.held ≤ 2 ^ 100 → of_task.leaving ≤ 2 ^ 100 → of_task.congested ≤ 2 ^ 100 →
-        lasted ≤ 2 ^ 100 → result ≡ core_figure_of of_task lasted line }
+        lasted ≤ most_core_time → result ≡ core_figure_of of_task lasted line }
     ensures missing { length cores.now ≤ task → result ≡ None }
 {
     let cores = cores.get(task)?;
@@ -168,9 +166,7 @@ fn machine_figure_of(
     turns: u64,
     line: MachineLine,
 ) -> Option<Figure>
-    ensures { machine.now.held ≤ 2 ^ 100 → machine.now.leaving ≤ 2 ^ 100 →
-        machine.now.banned ≤ 2 ^ 100 → machine.now.free ≤ 2 ^ 100 →
-        machine.now.over_limit ≤ 2 ^ 100 → machine.now.lasted ≤ 2 ^ 100 → whole ≤ 2 ^ 100 →
+    ensures { machine.now.lasted ≤ most_core_time → whole ≤ 2 ^ 100 →
         result ≡ machine_figure_of machine.now whole turns line }
 {
     match line {
@@ -184,6 +180,14 @@ fn machine_figure_of(
     }
 }
 
+/// The core time of so many cores over the passes of a history with these numbers.
+pub fn whole_time(machine: &MachineCores, cores: u8) -> u128
+    ensures whole { machine.now.lasted ≤ most_core_time → result ≡ machine.now.lasted * cores }
+    ensures few { machine.now.lasted ≤ most_core_time → result ≤ 2 ^ 100 }
+{
+    machine.lasted.saturating_mul(cores as u128)
+}
+
 /// What a row says of the machine's cores, of which there are so many, in a run whose turns last so
 /// long, where there is something.
 pub fn machine_figure(
@@ -192,14 +196,10 @@ pub fn machine_figure(
     line: MachineLine,
     cores: u8,
 ) -> Option<Figure>
-    ensures { machine.now.held ≤ 2 ^ 100 → machine.now.leaving ≤ 2 ^ 100 →
-        machine.now.banned ≤ 2 ^ 100 → machine.now.free ≤ 2 ^ 100 →
-        machine.now.over_limit ≤ 2 ^ 100 → machine.now.lasted * cores ≤ 2 ^ 100 →
-        machine.now.lasted ≤ 2 ^ 100 →
+    ensures { machine.now.lasted ≤ most_core_time →
         result ≡ machine_figure_of machine.now (machine.now.lasted * cores) turns line }
 {
-    let whole = machine.lasted.saturating_mul(cores as u128);
-    machine_figure_of(machine, whole, turns, line)
+    machine_figure_of(machine, whole_time(machine, cores), turns, line)
 }
 
 /// Whether a row is there without turns: one of a history alone.

@@ -78,11 +78,11 @@ pub fn count(number: usize) -> Option<Figure>
 
 /// How many thousandths of a whole a part is, where there is a whole.
 pub fn share(part: u128, whole: u128) -> Option<Figure>
-    ensures { part ≤ 2 ^ 100 → whole ≤ 2 ^ 100 → result ≡ share_of part whole }
+    ensures { whole ≤ 2 ^ 100 → result ≡ share_of part whole }
 {
     match thousandths(part, whole) {
         None => None,
-        Some(share) => Some(Figure::of(share.min(u64::MAX as u128) as u64)),
+        Some(share) => Some(Figure::of(share)),
     }
 }
 

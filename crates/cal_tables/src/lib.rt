@@ -5,9 +5,12 @@
 //! tested.
 #![tactic(auto)]
 
+mod asked_fault;
+mod asking;
 mod collecting;
 mod comparing;
 mod core_rows;
+mod crowding;
 mod figures;
 mod joining;
 mod labels;
@@ -19,16 +22,19 @@ mod sheet;
 mod style;
 mod writing;
 
+pub use asked_fault::AskedFault;
+pub use asking::{Asked, read_asked};
 pub use comparing::fault::{ComparisonFault, Misfit, Reason};
 pub use comparing::moving::moved_arrivals;
-pub use comparing::runs::{OfRun, policy_at, table_at};
+pub use comparing::runs::{policy_at, table_at};
 pub use comparing::tables::read_tables;
 pub use comparing::varying::varied_tables;
 pub use comparing::{
-    ComparedInput, Comparison, Variation, compare, compared, compared_values, comparison_of,
-    comparisons_of, write_input,
+    ComparedInput, Comparison, RunTerms, Variation, compare, compared, compared_values,
+    comparison_of, comparisons_of, write_input,
 };
-pub use core_rows::{CoreLine, core_figure};
+pub use core_rows::{CoreLine, core_figure, whole_time};
+pub use crowding::{Crowded, crowded_of};
 pub use figures::{Figure, Rank, Unit, count, number, share, time_in};
 pub use joining::{front_of_table, table_part};
 pub use labels::{Labels, letters};
@@ -36,9 +42,9 @@ pub use laws::{
     own_value_gives_the_table, same_limits_move_nothing, table_text_is_read_back,
     varied_differs_at_its_key,
 };
-pub use measuring::{RunNumbers, counted_run, measure, measured_run};
-pub use planned::{PlannedFault, PlannedInput, counted_by, measure_paced, planned_input};
-pub use recorded::{HistoryNumbers, Recorded, history_numbers, measured_recording};
+pub use measuring::{MeasuredInput, RunNumbers, counted_run, measure, measured_run};
+pub use planned::{PlannedFault, collected_by, counted_by, planned_for};
+pub use recorded::{HistoryNumbers, Recorded, history_numbers, measured};
 pub use sheet::{NumberForm, Sheet};
 pub use style::NumberStyle;
 pub use writing::{Line, request_figure};

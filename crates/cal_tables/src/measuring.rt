@@ -1,27 +1,32 @@
 //! A run on one thread or a recorded history, measured.
 
-ghost use Rattle.std.specs.Prelude.{◌≡◌, ◌≢◌, Err, IfErr, IfOk};
-ghost use Rattle.cal_input.specs.Answers.{Decided};
-ghost use Rattle.cal_input.specs.Recorded.{recorded_in};
+ghost use Rattle.std.specs.Prelude.{◌≡◌, ◌≢◌, ◌≤◌, IfErr, IfOk, length};
 ghost use Rattle.cal_measure.specs.Clocks.{AreClocksOf};
 ghost use Rattle.cal_measure.specs.Walk.{IsOpenFor};
 ghost use Rattle.cal_run.specs.declared.outcome.Outcome.{Outcome};
 ghost use Rattle.cal_trace.specs.Arrivals.FitsTable.{FitsTable};
-ghost use Rattle.cal_tables.specs.Asked.{asked_history, asked_of, IsVerdictFor, Judges};
+ghost use Rattle.cal_policy.specs.Policies.{IsVerdictBy};
+ghost use Rattle.cal_policy.specs.declared.history.entry.TheConstants.{MOST_PASSES};
 ghost use Rattle.cal_tables.specs.Measured.{AreNumbersAtEnd, AreNumbersOf, AreRunNumbers};
 ghost use Rattle.cal_tables.specs.Measured.{IsCountedRun, IsMeasuredRun};
+ghost use Rattle.cal_tables.specs.Measuring.{asked_for, DecidedFor, is_of_run, IsRefusedOn};
+ghost use Rattle.cal_tables.specs.Measuring.{IsVerdictFor, JudgesAs, MayBeMeasured};
 
+use crate::asked_fault::AskedFault;
+use crate::asking::{Asked, read_asked};
 use crate::collecting::{EndedNumbers, OpenNumbers};
-use crate::recorded::{HistoryNumbers, Recorded, measured_recording, numbers_of_walk};
+use crate::planned::counted_by;
+use crate::recorded::{HistoryNumbers, Recorded, measured, numbers_of_walk};
 use crate::style::NumberStyle;
 use crate::writing::{history_sheet, sheet_of};
-use cal_came::{Counted, counted_as_given};
-use cal_input::{RunFault, read_parts};
+use cal_came::{CountAsked, Counted, counted_as_given, counted_requests, is_asked};
+use cal_input::RunFault;
 use cal_machine::Config;
 use cal_measure::{MachineCores, TaskCores, TaskRequests, turns_last};
-use cal_policy::{Policy, Verdict};
+use cal_paced::Plan;
+use cal_policy::{PassEntry, Policy, Verdict};
 use cal_run::lockstep_collected_by;
-use cal_trace::{Arrivals, FaultKind, read_arrivals};
+use cal_trace::Arrivals;
 use std::alloc::{AllocError, Global};
 use std::io::Write;
 
@@ -120,37 +125,58 @@ pub fn measured_run(
     counted_run(alloc, config, policy, arrivals, &counted)
 }
 
-/// What is written of a run by this policy on these arrivals, in memory. Its fault is `Memory`.
+/// An input, and how it is to be measured.
+#[derive(Clone, Copy)]
+pub struct MeasuredInput<'a> {
+    /// The bytes of the input.
+    pub bytes: &'a [u8],
+    /// By which policy its run is made, or its history audited.
+    pub policy: Policy,
+    /// By which plan its run goes; without it the run is in lockstep.
+    pub plan: Option<Plan>,
+    /// From when its requests count, and which of them are ranked.
+    pub counting: CountAsked<'a>,
+}
+
+/// Whether a run on arrivals alone is asked for, and not what a history comes to.
+fn is_of_run(asked: MeasuredInput<'_>) -> bool
+    ensures { result ≡ is_of_run asked.entry }
+{
+    asked.plan.is_some() || is_asked(asked.counting)
+}
+
+/// What is written of a run on these arrivals as it is asked for, in memory.
 fn run_text(
     alloc: Global,
     config: &Config,
-    policy: Policy,
-    arrivals: &Arrivals,
+    asked: MeasuredInput<'_>,
+    arrivals: Arrivals,
     style: NumberStyle<'_>,
-) -> Result<String, RunFault>
-    requires { FitsTable config.now arrivals.now }
-    ensures kind { IfErr result (λ fault. fault ≡ RunFault.Memory) }
+) -> Result<String, AskedFault>
+    requires fits { FitsTable config.now arrivals }
+    ensures may { IfOk result (λ _. MayBeMeasured asked.entry config.now arrivals) }
+    ensures fault { IfErr result (IsRefusedOn asked.entry config.now arrivals) }
 {
-    let numbers = measured_run(alloc, config, policy, arrivals)?;
-    let sheet = sheet_of(alloc, config, &numbers, style)?;
+    let told = counted_requests(alloc, config, &arrivals, asked.counting)?;
+    let counted = &told.counted;
+    let numbers = counted_by(alloc, config, asked.policy, asked.plan, arrivals, counted)?;
+    let sheet = sheet_of(alloc, config, &numbers, &told.comings, style)?;
     Ok(sheet.written(alloc, style.form)?)
 }
 
 /// What an audit by this policy says of a recorded history, and what is written of it, in memory: of
-/// one that is not legal nothing.
-fn recorded_text(
+/// one that is not legal nothing. Fails only when out of memory.
+fn history_text(
     alloc: Global,
     config: &Config,
     policy: Policy,
-    trace: &[u8],
+    history: &[PassEntry],
     style: NumberStyle<'_>,
-) -> Result<(Verdict, String), RunFault>
-    ensures verdict { IfOk result (λ told.
-        IsVerdictFor policy told.0 (asked_history (recorded_in config.now trace.now))) }
-    ensures fault { IfErr result (λ fault.
-        Decided fault (recorded_in config.now trace.now ≡ Err fault)) }
+) -> Result<(Verdict, String), AllocError>
+    requires few { length history.now ≤ MOST_PASSES }
+    ensures { IfOk result (λ told. IsVerdictBy policy config.now history.now told.0) }
 {
-    match measured_recording(alloc, config, policy, trace)? {
+    match measured(alloc, config, policy, history)? {
         Recorded::Legal { numbers } => {
             let sheet = history_sheet(alloc, config, &numbers, style)?;
             Ok((Verdict::Legal, sheet.written(alloc, style.form)?))
@@ -160,57 +186,57 @@ fn recorded_text(
 }
 
 /// The verdict on what an input asks for, and what is written of it, in memory: of the run on its
-/// arrivals or, where what follows the table has not their header, of the history that it records.
+/// arrivals, or of the history that it records.
 fn measured_text(
     alloc: Global,
-    policy: Policy,
-    input: &[u8],
+    asked: MeasuredInput<'_>,
     style: NumberStyle<'_>,
-) -> Result<(Verdict, String), RunFault>
-    ensures verdict { IfOk result (λ told. IsVerdictFor policy told.0 (asked_of input.now)) }
-    ensures fault { IfErr result (λ fault. Decided fault (asked_of input.now ≡ Err fault)) }
+) -> Result<(Verdict, String), AskedFault>
+    ensures verdict { IfOk result (λ told. IsVerdictFor asked.entry told.0 (asked_for asked.entry)) }
+    ensures fault { IfErr result (λ fault. DecidedFor asked.entry fault (asked_for asked.entry)) }
 {
-    let (config, trace) = read_parts(alloc, input)?;
-    match read_arrivals(alloc, &config, trace) {
-        Ok(arrivals) => {
-            let text = run_text(alloc, &config, policy, &arrivals, style)?;
+    match read_asked(alloc, asked.bytes, is_of_run(asked))? {
+        Asked::Run { config, arrivals } => {
+            let text = run_text(alloc, &config, asked, arrivals, style)?;
             Ok((Verdict::Legal, text))
         }
-        Err(fault) if fault.kind == FaultKind::Header => {
-            recorded_text(alloc, &config, policy, trace, style)
+        Asked::History { config, history } => {
+            let history = history.as_slice();
+            Ok(history_text(alloc, &config, asked.policy, history, style)?)
         }
-        Err(fault) => Err(RunFault::from(fault)),
     }
 }
 
 /// Writes the numbers of an input in this style: in columns that line up, or as CSV. Where it is a
-/// task table and arrivals they are those of a whole run by this policy on one thread; where it is a
-/// table and a history, those of the history's cores, if it is legal. What is answered is the audit's
-/// verdict; a run is legal. Nothing is written before the whole text is in memory.
+/// task table and arrivals they are those of a whole run on one thread, counted as it is asked for;
+/// where it is a table and a history, and neither a plan nor a count of requests is asked for, those
+/// of the history's cores, if it is legal. What is answered is the audit's verdict; a run is legal.
+/// Nothing is written before the whole text is in memory.
 ///
-/// The faults are those of the word `lockstep`, in its order; of a history those of `audit`. An
-/// input is not too long here, whatever its length.
+/// The faults are those of the word `lockstep`, in its order; of a history those of `audit`. Then
+/// come those of `counted_requests`, and then those of the plan. An input is not too long here,
+/// whatever its length.
 pub fn measure<W: Write>(
     alloc: Global,
-    policy: Policy,
-    input: &[u8],
+    asked: MeasuredInput<'_>,
     style: NumberStyle<'_>,
     writer: &mut W,
-) -> Result<Verdict, RunFault>
+) -> Result<Verdict, AskedFault>
     // The verdict is that on the run or the history that the input asks for, or the fault says what
     // it must of the input.
-    ensures exact { Judges policy result (asked_of input.now) }
+    ensures exact { JudgesAs asked.entry result }
     // Nothing is written before the run was made, and nothing of a history that is not legal.
-    ensures untouched { IfErr result (λ fault. fault ≢ RunFault.Write → writer.new ≡ writer.old) }
+    ensures untouched { IfErr result (λ fault.
+        fault ≢ AskedFault.Run RunFault.Write → writer.new ≡ writer.old) }
     ensures illegal { IfOk result (λ verdict.
         verdict ≢ Verdict.Legal → writer.new ≡ writer.old) }
 {
-    let (verdict, text) = measured_text(alloc, policy, input, style)?;
+    let (verdict, text) = measured_text(alloc, asked, style)?;
     match verdict {
         Verdict::Illegal { .. } => Ok(verdict),
         Verdict::Legal => match writer.write_all(text.as_bytes()) {
             Ok(()) => Ok(verdict),
-            Err(_) => Err(RunFault::Write),
+            Err(_) => Err(AskedFault::Run(RunFault::Write)),
         },
     }
 }

@@ -1,26 +1,26 @@
 //! A run by a plan, measured.
 
-ghost use Rattle.std.specs.Prelude.{◌≡◌, ◌≢◌, IfErr, IfOk};
-ghost use Rattle.cal_input.specs.Parts.{run_input_of};
+ghost use Rattle.std.specs.Prelude.{◌≡◌, [], IfErr, IfOk, replicate};
 ghost use Rattle.cal_paced.specs.Planned.{AreGivenFor, ArePlannedOf};
 ghost use Rattle.cal_trace.specs.Arrivals.FitsTable.{FitsTable};
 ghost use Rattle.cal_trace.specs.declared.arrivals.Arrivals.{Arrivals as RunArrivals};
-ghost use Rattle.cal_tables.specs.Planned.{AnswersBy, DecidedBy, IsFaultBy, IsFaultOfPlan};
-ghost use Rattle.cal_tables.specs.Planned.{IsCountedBy, IsCountedPaced, IsMeasuredBy, IsPlannedInput};
+ghost use Rattle.cal_machine.specs.Table.{Table};
+ghost use Rattle.cal_machine.specs.TableTasks.{threads_of_table};
+ghost use Rattle.cal_tables.specs.Planned.{AreGivenBy, ArePlannedBy, IsCollectedBy};
+ghost use Rattle.cal_tables.specs.Planned.{IsFaultBy, IsFaultOfPlan};
+ghost use Rattle.cal_tables.specs.Planned.{IsCountedBy, IsCountedPaced, IsMeasuredBy};
 
 use crate::collecting::OpenNumbers;
-use crate::comparing::runs::OfRun;
 use crate::measuring::{RunNumbers, counted_run, numbers_of_run};
-use crate::style::NumberStyle;
-use crate::writing::sheet_of;
 use cal_came::{Counted, counted_as_given};
-use cal_input::{RunFault, run_input};
-use cal_machine::Config;
+use cal_input::RunFault;
+use cal_kthread::RequestList;
+use cal_machine::{Config, Listed};
 use cal_paced::{PaceFault, Plan, paced_collected_by, planned_arrivals};
 use cal_policy::Policy;
+use cal_run::{Collector, lockstep_collected_by};
 use cal_trace::Arrivals;
 use std::alloc::{AllocError, Global};
-use std::io::Write;
 
 /// Why there is no run by a plan.
 #[derive(Clone, Copy, Debug, PartialEq, Eq)]
@@ -66,28 +66,54 @@ impl From<PaceFault> for PlannedFault {
     }
 }
 
-/// A task table, and its arrivals for a run by a plan.
-#[derive(Drop)]
-pub struct PlannedInput {
-    /// The table.
-    pub config: Config,
-    /// The arrivals, paced for the plan.
-    pub given: Arrivals,
+/// What the passes and turns of a run on these arrivals are given: by a plan, the arrivals paced for it;
+/// in lockstep, the same. The fault is `Memory`, or `Pace` for a reason of `planned_arrivals`.
+pub fn planned_for(
+    alloc: Global,
+    plan: Option<Plan>,
+    arrivals: Arrivals,
+) -> Result<Arrivals, PlannedFault>
+    ensures planned { IfOk result (ArePlannedBy plan arrivals) }
+    ensures given { IfOk result (AreGivenBy plan) }
+    ensures fits { IfOk result (λ given.
+        (table : Table) → FitsTable table arrivals → FitsTable table given) }
+    ensures fault { IfErr result (IsFaultBy plan arrivals) }
+{
+    match plan {
+        Some(plan) => Ok(planned_arrivals(alloc, arrivals, &plan)?),
+        None => Ok(arrivals),
+    }
 }
 
-/// The table of an input, and its arrivals for a run by this plan.
-///
-/// The faults are those of the word `lockstep`, in its order, and then those of `planned_arrivals`: a
-/// history has no run.
-pub fn planned_input(alloc: Global, plan: &Plan, input: &[u8]) -> Result<PlannedInput, PlannedFault>
-    ensures read { IfOk result (IsPlannedInput plan.now (run_input_of input.now)) }
-    ensures given { IfOk result (λ read. AreGivenFor plan.now read.given) }
-    ensures fits { IfOk result (λ read. FitsTable read.config read.given) }
-    ensures fault { IfErr result (λ fault. DecidedBy plan.now fault (run_input_of input.now)) }
+/// What is left with the kernel threads of a run by this policy on what `planned_for` gives, by the
+/// plan or in lockstep, where a collector of the caller's makes its passes and takes what its turns
+/// hand out, as in `lockstep_collected_by`. The arrivals are given back with the figures that the
+/// passes got. Fails only when out of memory, or where the collector does; what the collector holds
+/// then is of no run.
+pub fn collected_by<C: Collector>(
+    alloc: Global,
+    config: &Config,
+    policy: Policy,
+    plan: Option<Plan>,
+    given: &mut Arrivals,
+    collector: &mut C,
+) -> Result<Listed<RequestList>, C::Fault>
+    requires fits { FitsTable config.now given.old }
+    requires given { AreGivenBy plan given.old }
+    requires suits { C.suits collector.old config.now }
+    requires opened { C.holds collector.old [] (replicate (threads_of_table config.now) []) }
+    requires unwritten { C.wrote collector.old collector.old [] }
+    requires same { C.same collector.old collector.old }
+    ensures suits { IfOk result (λ _. C.suits collector.new config.now) }
+    ensures fits { IfOk result (λ _. FitsTable config.now given.new) }
+    ensures run { (arrivals : RunArrivals) → ArePlannedBy plan arrivals given.old →
+        IfOk result (IsCollectedBy plan policy (C.holds collector.new) config.now arrivals
+        given.new) }
 {
-    let (config, arrivals) = run_input(alloc, input)?;
-    let given = planned_arrivals(alloc, arrivals, plan)?;
-    Ok(PlannedInput { config, given })
+    match plan {
+        Some(plan) => paced_collected_by(alloc, config, policy, &plan, given, collector),
+        None => lockstep_collected_by(alloc, config, policy, given, collector),
+    }
 }
 
 /// Makes a whole run by this policy and plan on one thread on arrivals for the plan, and measures it,
@@ -154,7 +180,7 @@ pub fn counted_by(
 }
 
 /// The same of all requests, each from the clock of its turn.
-fn measured_by(
+pub(crate) fn measured_by(
     alloc: Global,
     config: &Config,
     policy: Policy,
@@ -167,63 +193,4 @@ fn measured_by(
 {
     let counted = counted_as_given(alloc, &arrivals)?;
     counted_by(alloc, config, policy, plan, arrivals, &counted)
-}
-
-impl OfRun for RunNumbers {
-    ghost use Rattle.cal_tables.specs.Planned.{IsMeasuredBy};
-
-    ghost tells = { IsMeasuredBy };
-
-    fn of_run(
-        alloc: Global,
-        config: &Config,
-        policy: Policy,
-        plan: Option<Plan>,
-        arrivals: Arrivals,
-    ) -> Result<RunNumbers, PlannedFault> {
-        measured_by(alloc, config, policy, plan, arrivals)
-    }
-}
-
-/// What is written of the run by this policy and plan that an input asks for, in memory.
-fn paced_text(
-    alloc: Global,
-    policy: Policy,
-    plan: &Plan,
-    input: &[u8],
-    style: NumberStyle<'_>,
-) -> Result<String, PlannedFault>
-    ensures exact { AnswersBy plan.now result (run_input_of input.now) }
-    ensures unwritten { IfErr result (λ fault. fault ≢ PlannedFault.Run RunFault.Write) }
-{
-    let PlannedInput { config, mut given } = planned_input(alloc, plan, input)?;
-    let counted = counted_as_given(alloc, &given)?;
-    let numbers = numbers_of_paced(alloc, &config, policy, plan, &mut given, &counted)?;
-    let sheet = sheet_of(alloc, &config, &numbers, style)?;
-    Ok(sheet.written(alloc, style.form)?)
-}
-
-/// Writes the numbers of the run by this policy and plan on one thread that an input of a task table
-/// and arrivals asks for, as `measure` does. Nothing is written before the whole text is in memory.
-///
-/// The faults are those of `planned_input`.
-pub fn measure_paced<W: Write>(
-    alloc: Global,
-    policy: Policy,
-    plan: &Plan,
-    input: &[u8],
-    style: NumberStyle<'_>,
-    writer: &mut W,
-) -> Result<(), PlannedFault>
-    // There is a run by the plan on what the input asks for, or the fault says what it must of it.
-    ensures exact { AnswersBy plan.now result (run_input_of input.now) }
-    // Nothing is written before the run was made.
-    ensures untouched { IfErr result (λ fault.
-        fault ≢ PlannedFault.Run RunFault.Write → writer.new ≡ writer.old) }
-{
-    let text = paced_text(alloc, policy, plan, input, style)?;
-    match writer.write_all(text.as_bytes()) {
-        Ok(()) => Ok(()),
-        Err(_) => Err(PlannedFault::Run(RunFault::Write)),
-    }
 }

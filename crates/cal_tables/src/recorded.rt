@@ -1,22 +1,18 @@
 //! A recorded history, measured.
 
-ghost use Rattle.std.specs.Prelude.{◌≡◌, ◌≤◌, Err, IfErr, IfOk, List, length};
-ghost use Rattle.cal_input.specs.Answers.{Decided};
-ghost use Rattle.cal_input.specs.Recorded.{recorded_in};
+ghost use Rattle.std.specs.Prelude.{◌≡◌, ◌≤◌, IfOk, List, length};
 ghost use Rattle.cal_machine.specs.Table.{Table};
 ghost use Rattle.cal_measure.specs.Walk.{IsOpenFor, IsWalkOf};
 ghost use Rattle.cal_policy.specs.Policies.{IsVerdictBy};
 ghost use Rattle.cal_policy.specs.declared.history.entry.PassEntry.{PassEntry as EntryOf};
 ghost use Rattle.cal_policy.specs.declared.history.entry.TheConstants.{MOST_PASSES};
 ghost use Rattle.cal_tables.specs.Measured.{AreHistoryNumbers};
-ghost use Rattle.cal_tables.specs.Recording.{IsMeasured, IsOfAPolicy, IsRecorded};
+ghost use Rattle.cal_tables.specs.Recording.{IsMeasured, IsOfAPolicy};
 
 use cal_guard::{each_policy_is_permitted, passes_are_short, permitted_is_orderly};
-use cal_input::RunFault;
 use cal_machine::Config;
 use cal_measure::{MachineCores, TaskCores, Walk, walked};
 use cal_policy::{Auditor, PassEntry, Policy, Verdict};
-use cal_trace::read_history;
 use std::alloc::{AllocError, Global};
 
 /// The numbers of the cores in a history.
@@ -93,8 +89,8 @@ fn verdict_on(
     Ok(auditor.verdict())
 }
 
-/// What is said of a history by this policy.
-fn measured(
+/// What is said of a history by this policy. Fails only when out of memory.
+pub fn measured(
     alloc: Global,
     config: &Config,
     policy: Policy,
@@ -110,22 +106,4 @@ fn measured(
         }
         Verdict::Illegal { pass } => Ok(Recorded::Illegal { pass }),
     }
-}
-
-/// Reads a history for a table to its end, audits it by this policy, and measures it where it is
-/// legal. The whole history is in memory meanwhile.
-///
-/// The fault is that of the trace. `Memory` may come at any place.
-pub fn measured_recording(
-    alloc: Global,
-    config: &Config,
-    policy: Policy,
-    trace: &[u8],
-) -> Result<Recorded, RunFault>
-    ensures recorded { IfOk result (IsRecorded policy config.now trace.now) }
-    ensures fault { IfErr result (λ fault.
-        Decided fault (recorded_in config.now trace.now ≡ Err fault)) }
-{
-    let history = read_history(alloc, config, trace)?;
-    Ok(measured(alloc, config, policy, history.as_slice())?)
 }

@@ -1,6 +1,7 @@
 //! The numbers of a run, row by row.
 
 ghost use Rattle.std.specs.Prelude.{◌≡◌, ◌≤◌, ◌+◌, ◌^◌, length, None, slice_get, Some};
+ghost use Rattle.cal_measure.specs.Cores.{most_core_time};
 ghost use Rattle.cal_measure.specs.declared.cores.TaskCores.{TaskCores as OfCores};
 ghost use Rattle.cal_measure.specs.declared.requests.TaskRequests.{TaskRequests as OfRequests};
 ghost use Rattle.cal_tables.specs.Rows.{bound_if, figure_of, oldest_in};
@@ -9,6 +10,7 @@ use crate::core_rows::{
     CORE_LINES, CoreLine, MACHINE_LINES, MachineLine, core_figure, core_label, core_unit,
     is_of_passes, machine_figure, machine_label, machine_unit,
 };
+use crate::crowding::{CROWD_LINES, CrowdLine, crowd_figure, crowd_label, crowded_of};
 use crate::figures::{Figure, Rank, Unit, count, rank_name, ranked_figure, share};
 use crate::labels::Labels;
 use crate::measuring::RunNumbers;
@@ -17,6 +19,7 @@ use crate::sheet::{NumberForm, Sheet};
 use crate::style::NumberStyle;
 use cal_machine::{Config, Kind};
 use cal_measure::{MachineCores, TaskCores, TaskRequests, Time};
+use cal_trace::Comings;
 use std::alloc::{AllocError, Global};
 
 /// What a row says of each task's requests and threads.
@@ -132,8 +135,7 @@ fn oldest_in(greatest: Option<Time>) -> Option<Figure>
 /// What a row says of a task with these numbers, which had so much core time, in a run whose turns
 /// last so long.
 fn figure_of(requests: &TaskRequests, had: u128, turns: u64, line: Line) -> Option<Figure>
-    ensures { requests.now.together ≤ 2 ^ 100 → requests.now.work.worked ≤ 2 ^ 100 →
-        had ≤ 2 ^ 100 → result ≡ figure_of requests.now had turns line }
+    ensures { had ≤ 2 ^ 100 → result ≡ figure_of requests.now had turns line }
 {
     match line {
         Line::Given => count(requests.given),
@@ -160,8 +162,7 @@ pub fn request_figure(numbers: &RunNumbers, task: usize, line: Line) -> Option<F
     ensures there { (requests : OfRequests) (cores : OfCores) →
         slice_get numbers.now.requests.items task ≡ Some requests →
         slice_get numbers.now.cores.items task ≡ Some cores →
-        requests.together ≤ 2 ^ 100 → requests.work.worked ≤ 2 ^ 100 →
-        cores.held + cores.leaving ≤ 2 ^ 100 →
+        cores.held ≤ most_core_time → cores.leaving ≤ most_core_time →
         result ≡ figure_of requests (cores.held + cores.leaving) numbers.now.turns line }
     ensures missing { length numbers.now.requests.items ≤ task → result ≡ None }
 {
@@ -291,17 +292,53 @@ impl ToldCores<'_> {
     }
 }
 
-/// The numbers of a run of this table, row by row. Fails only when out of memory.
+/// A row of the requests of each task that found their turns taken.
+fn crowd_row(
+    alloc: Global,
+    config: &Config,
+    comings: &Comings,
+    line: CrowdLine,
+    form: NumberForm,
+) -> Result<Vec<String>, AllocError> {
+    let mut row = Vec::new(alloc);
+    row.push(String::from_str(alloc, crowd_label(line))?)?;
+    for task in 0..config.tasks() {
+        let figure = crowd_figure(crowded_of(config, comings, task), line);
+        form.put_figure(alloc, &mut row, figure, Unit::One)?;
+    }
+    Ok(row)
+}
+
+/// Puts the rows of the requests that found their turns taken.
+fn put_crowded(
+    alloc: Global,
+    config: &Config,
+    comings: &Comings,
+    sheet: &mut Sheet,
+    form: NumberForm,
+) -> Result<(), AllocError> {
+    for line in CROWD_LINES {
+        sheet.put(crowd_row(alloc, config, comings, line, form)?)?;
+    }
+    Ok(())
+}
+
+/// The numbers of a run of this table, row by row, where there are comings with those of requests that
+/// found their turns taken. Fails only when out of memory.
 pub fn sheet_of(
     alloc: Global,
     config: &Config,
     numbers: &RunNumbers,
+    comings: &Option<Comings>,
     style: NumberStyle<'_>,
 ) -> Result<Sheet, AllocError> {
     let mut sheet = Sheet::new(alloc);
     sheet.put(heading(alloc, config, style)?)?;
     for line in LINES {
         sheet.put(line_row(alloc, numbers, line, style)?)?;
+        if let (Line::Left, Some(comings)) = (line, comings) {
+            put_crowded(alloc, config, comings, &mut sheet, style.form)?;
+        }
     }
     let told = ToldCores {
         tasks: numbers.cores.as_slice(),

@@ -21,4 +21,4 @@ mod work;
 mod writing;
 
 pub use counting::count_passes;
-pub use writing::{write_timeline, write_timeline_paced};
+pub use writing::write_timeline;

@@ -6,6 +6,7 @@
 //! come, requests at work, with flows from the one to the other, and responses.
 
 ghost use Rattle.cal_machine.specs.Table.{Table};
+ghost use Rattle.cal_tables.specs.Planned.{AreGivenBy};
 ghost use Rattle.cal_trace.specs.Arrivals.FitsTable.{FitsTable};
 ghost use Rattle.cal_trace.specs.History.Reading.{IsOpen};
 ghost use Rattle.cal_timeline.specs.Walking.{IsWalkOf};
@@ -22,35 +23,36 @@ use cal_input::{RunFault, read_parts, recorded_passes};
 use cal_machine::Config;
 use cal_paced::{Plan, paced_end_by};
 use cal_policy::{Action, PassEntry, Policy};
-use cal_run::lockstep_end_by;
-use cal_tables::{Labels, PlannedFault, PlannedInput, planned_input};
+use cal_run::{RunEnd, SimFault, lockstep_end_by};
+use cal_tables::{Labels, PlannedFault, planned_for};
 use cal_trace::{Arrivals, FaultKind, HistoryRows, read_arrivals};
 use std::alloc::Global;
 use std::io::Write;
 
 /// Writes the history of an input as trace events, under its labels. It takes any history, of
-/// which it keeps no pass. Of an input of a task table and arrivals it writes the run by this policy
-/// on one thread that they make, with its requests. It writes nothing of an input that is refused.
+/// which it keeps no pass. Of an input of a task table and arrivals it writes the run by this policy,
+/// and by this plan or in lockstep, on one thread that they make, with its requests; with a plan it
+/// takes no history. It writes nothing of an input that is refused.
 ///
-/// The faults come in this order: `Separator`, `Config`, `Trace`, `Write`; `Memory` may come at any
-/// place.
+/// The faults come in this order: `Separator`, `Config`, `Trace`, those of the plan, `Write`;
+/// `Memory` may come at any place.
 pub fn write_timeline<W: Write>(
     alloc: Global,
     policy: Policy,
+    plan: Option<Plan>,
     input: &[u8],
     labels: Labels<'_>,
     writer: &mut W,
-) -> Result<(), RunFault> {
+) -> Result<(), PlannedFault> {
     let (config, trace) = read_parts(alloc, input)?;
+    let events = Events::new(alloc, labels);
     match read_arrivals(alloc, &config, trace) {
-        Ok(arrivals) => {
-            let events = Events::new(alloc, labels);
-            write_run(&config, policy, &arrivals, events, writer)
+        Ok(arrivals) => write_run(&config, policy, plan, arrivals, events, writer),
+        Err(fault) if fault.kind == FaultKind::Header && plan.is_none() => {
+            write_history(input, events, writer)?;
+            Ok(())
         }
-        Err(fault) if fault.kind == FaultKind::Header => {
-            write_history(input, Events::new(alloc, labels), writer)
-        }
-        Err(fault) => Err(RunFault::from(fault)),
+        Err(fault) => Err(PlannedFault::from(RunFault::from(fault))),
     }
 }
 
@@ -76,25 +78,48 @@ fn write_history<W: Write>(
     events.page.send(writer)
 }
 
-/// Makes the run by this policy on one thread of a table and arrivals, and writes it, with no event
-/// before it: its history, and then what came of its requests. Nothing is written before the run was
-/// made.
+/// Makes the run by this policy, and by this plan or in lockstep, on one thread of a table and
+/// arrivals, and writes it, with no event before it: its history, and then what came of its requests.
+/// Nothing is written before the run was made.
 fn write_run<W: Write>(
     config: &Config,
     policy: Policy,
-    arrivals: &Arrivals,
+    plan: Option<Plan>,
+    arrivals: Arrivals,
     mut events: Events<'_>,
     writer: &mut W,
-) -> Result<(), RunFault>
-    requires { FitsTable config.now arrivals.now }
+) -> Result<(), PlannedFault>
+    requires { FitsTable config.now arrivals }
 {
-    let end = lockstep_end_by(events.alloc, config, policy, arrivals)?;
+    let mut given = planned_for(events.alloc, plan, arrivals)?;
+    let end = match ended_by(events.alloc, config, policy, plan, &mut given) {
+        Ok(end) => end,
+        Err(fault) => return Err(PlannedFault::from(RunFault::from(fault))),
+    };
     let run = ToldRun {
         config,
-        arrivals,
+        arrivals: &given,
         end: &end,
     };
-    put_run(run, &mut events, writer)
+    put_run(run, &mut events, writer)?;
+    Ok(())
+}
+
+/// What the run by this policy ends with on what `planned_for` gives, by the plan or in lockstep.
+fn ended_by(
+    alloc: Global,
+    config: &Config,
+    policy: Policy,
+    plan: Option<Plan>,
+    given: &mut Arrivals,
+) -> Result<RunEnd, SimFault>
+    requires fits { FitsTable config.now given.old }
+    requires given { AreGivenBy plan given.old }
+{
+    match plan {
+        Some(plan) => paced_end_by(alloc, config, policy, &plan, given),
+        None => lockstep_end_by(alloc, config, policy, given),
+    }
 }
 
 /// Writes a run, with no event before it: its history, and then what came of its requests.
@@ -111,33 +136,6 @@ fn put_run<W: Write>(
     run.put_requests(events, writer)?;
     events.page.put(CLOSING);
     events.page.send(writer)
-}
-
-/// Writes the run by this policy and plan on one thread that an input of a task table and arrivals
-/// asks for, as `write_timeline` does. Nothing is written before the run was made.
-///
-/// The faults are those of `planned_input`.
-pub fn write_timeline_paced<W: Write>(
-    alloc: Global,
-    policy: Policy,
-    plan: &Plan,
-    input: &[u8],
-    labels: Labels<'_>,
-    writer: &mut W,
-) -> Result<(), PlannedFault> {
-    let PlannedInput { config, mut given } = planned_input(alloc, plan, input)?;
-    let end = match paced_end_by(alloc, &config, policy, plan, &mut given) {
-        Ok(end) => end,
-        Err(fault) => return Err(PlannedFault::Run(RunFault::from(fault))),
-    };
-    let run = ToldRun {
-        config: &config,
-        arrivals: &given,
-        end: &end,
-    };
-    let mut events = Events::new(alloc, labels);
-    put_run(run, &mut events, writer)?;
-    Ok(())
 }
 
 /// The clock of the first pass or of the first turn, whichever is earlier; 0 where there is none.

@@ -5,5 +5,6 @@ pub mod HistoryLemmas
 pub mod GivenSignals
 pub mod ArrivalLemmas
 pub mod ArrivalsFit
+pub mod ComingLemmas
 pub mod Ids
 pub mod Tallies

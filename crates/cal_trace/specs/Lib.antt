@@ -7,3 +7,4 @@ pub mod Laws
 pub mod Limits
 pub mod WriteFault
 pub mod Arrivals
+pub mod Comings

@@ -1,5 +1,5 @@
-//! The files of a run: signals, histories and arrivals are read; histories, arrivals, reports and
-//! summaries are written.
+//! The files of a run: signals, histories, arrivals and comings are read; histories, arrivals, comings,
+//! reports and summaries are written.
 //!
 //! What is read is exactly what the rows say that `csv` gives of a text, or the first check that
 //! fails, with its row. What is written is exactly the text, and histories and arrivals that were
@@ -9,6 +9,7 @@
 #![tactic(auto)]
 
 mod arrivals;
+mod comings;
 mod fault;
 mod history;
 mod laws;
@@ -23,6 +24,9 @@ pub use arrivals::reading::{MOST_REQUEST_MISSES, MOST_TURNS, MOST_WORK};
 pub use arrivals::text::write_arrivals;
 pub use arrivals::{Arrival, Arrivals, GivenPass};
 pub use cal_policy::MOST_PASSES;
+pub use comings::file::read_comings;
+pub use comings::text::write_comings;
+pub use comings::{Coming, Comings, LeftOut};
 pub use fault::{FaultKind, TraceFault};
 pub use history::file::{HistoryRows, read_history};
 pub use history::text::{

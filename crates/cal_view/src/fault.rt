@@ -1,5 +1,6 @@
 //! What the program says of the fault of several tables.
 
+use crate::jobs::counting::{CameText, refuse_counting};
 use crate::jobs::pacing::refuse_plan;
 use crate::refusing::end_refusal;
 use cal_input::{RunFault, status};
@@ -14,6 +15,8 @@ use std::io::Write;
 pub struct RefusedRuns<'a> {
     /// The input.
     pub read: RefusedInput<'a>,
+    /// The file of when its requests came, where one is named.
+    pub came: Option<CameText<'a>>,
     /// The key and the values that make its tables, where they are made by some.
     pub variation: Option<Variation<'a>>,
 }
@@ -38,6 +41,10 @@ impl RefusedRuns<'_> {
                 table: _,
                 reason: Reason::Pace(fault),
             } => Ok(refuse_plan(fault, errors)),
+            ComparisonFault::OfTable {
+                table: _,
+                reason: Reason::Count(fault),
+            } => refuse_counting(alloc, self.came, fault, errors),
             ComparisonFault::OfTable { table, reason } => {
                 self.say(table, reason, errors);
                 if let Reason::Run(fault) = reason {

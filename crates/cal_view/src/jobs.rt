@@ -4,6 +4,7 @@
 pub mod arriving;
 pub mod checking;
 pub mod comparing;
+pub mod counting;
 pub mod explaining;
 pub mod input;
 pub mod measuring;

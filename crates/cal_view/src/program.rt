@@ -4,13 +4,15 @@
 ghost use Rattle.std.specs.Prelude.{◌≡◌, ◌≢◌, IfErr};
 
 use crate::command_words::command_line::{InputJob, Job, Request, help, words};
+use crate::command_words::count_words::CountWords;
 use crate::edge::beside::open_beside;
 use crate::edge::failure::Failure;
 use crate::edge::noted::Noted;
-use crate::edge::sources::{open_named, read_tables};
+use crate::edge::sources::{open_named, read_named, read_tables};
 use crate::jobs::arriving::Arriving;
 use crate::jobs::checking::answer_check;
 use crate::jobs::comparing::answer_compare;
+use crate::jobs::counting::CameText;
 use crate::jobs::explaining::answer_explain;
 use crate::jobs::input::JobInput;
 use crate::jobs::measuring::answer_measure;
@@ -19,10 +21,12 @@ use crate::jobs::recording::record;
 use crate::jobs::sweeping::Sweeping;
 use crate::jobs::telling::tell;
 use crate::jobs::timing::answer_timeline;
-use crate::refusing::{end_refusal, refused_input};
+use crate::refusing::{end_refusal, refuse_two_standards, refused_input};
+use cal_came::{CameFile, CountAsked};
 use cal_engine::{refuse_words, words_after_first};
 use cal_input::{RunFault, read_input};
 use cal_tables::Labels;
+use cal_why::RefusedInput;
 use std::alloc::Global;
 use std::io::{BufWriter, Read, Write};
 use std::rt::Files;
@@ -113,6 +117,9 @@ impl<'h, 'a, H: Files + Threads + Sync> ProgramRun<'h, 'a, H> {
     ) -> Result<u8, Failure<'a>> {
         let request = self.request;
         if let Some(status) = refuse_words_of_labels(request.labels, errors) {
+            return Ok(status);
+        }
+        if let Some(status) = refuse_two_standards(request, errors) {
             return Ok(status);
         }
         let tables = read_tables(self.rt, self.alloc, request.tables.as_slice())?;
@@ -251,6 +258,48 @@ impl<'h, 'a, H: Files + Threads + Sync> ProgramRun<'h, 'a, H> {
         }
     }
 
+    /// All bytes of the file of when requests came; none where none is named.
+    fn read_came(&self) -> Result<Vec<u8>, Failure<'a>> {
+        match self.request.counting.came {
+            Some(name) => read_named(self.rt, self.alloc, name),
+            None => Ok(Vec::new(self.alloc)),
+        }
+    }
+
+    /// What a job of an input is done on, where the file of when its requests came has these bytes.
+    fn job_input<'i>(
+        &'i self,
+        read: RefusedInput<'i>,
+        came: &'i [u8],
+        labels: Labels<'i>,
+    ) -> JobInput<'i> {
+        let CountWords {
+            came: named,
+            from,
+            to,
+        } = self.request.counting;
+        let (file, came) = match named {
+            Some(name) => (
+                Some(CameFile { text: came }),
+                Some(CameText { name, text: came }),
+            ),
+            None => (None, None),
+        };
+        JobInput {
+            alloc: self.alloc,
+            read,
+            policies: self.request.policies.as_slice(),
+            plan: self.request.plan,
+            came,
+            counting: CountAsked {
+                came: file,
+                from,
+                to,
+            },
+            labels,
+        }
+    }
+
     /// Reads an input to its end, and does this with it. Of an input that is refused it says why.
     fn look<R: Read + Drop, W: Write, E: Write>(
         &self,
@@ -262,14 +311,12 @@ impl<'h, 'a, H: Files + Threads + Sync> ProgramRun<'h, 'a, H> {
     ) -> Result<u8, RunFault> {
         let alloc = self.alloc;
         let bytes = read_input(alloc, &mut reader)?;
-        let read = refused_input(job, self.request, bytes.as_slice());
-        let input = JobInput {
-            alloc,
-            read,
-            policies: self.request.policies.as_slice(),
-            plan: self.request.plan,
-            labels,
+        let came = match self.read_came() {
+            Ok(came) => came,
+            Err(failure) => return Ok(failure.end(errors)),
         };
+        let read = refused_input(job, self.request, bytes.as_slice());
+        let input = self.job_input(read, came.as_slice(), labels);
         match answer_read(job, &input, output, errors) {
             Ok(status) => Ok(status),
             Err(fault) => end_refusal(alloc, read, fault, errors),

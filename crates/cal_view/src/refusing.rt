@@ -2,7 +2,8 @@
 
 ghost use Rattle.std.specs.Prelude.{◌≡◌, IfErr, IfOk};
 
-use crate::command_words::command_line::{InputJob, Request};
+use crate::command_words::command_line::{InputJob, Job, Request};
+use crate::edge::sources::STANDARD;
 use crate::jobs::telling::Facts;
 use cal_input::RunFault;
 use cal_load::WordFault;
@@ -39,7 +40,7 @@ pub fn refused_input<'a>(
     let tables = request.tables.as_slice();
     RefusedInput {
         input,
-        wanted: traces_of(job, request.plan.is_some()),
+        wanted: traces_of(job, request.plan.is_some() || request.counting.are_given()),
         tables: tables_of(job),
         files: if tables.is_empty() {
             None
@@ -50,6 +51,45 @@ pub fn refused_input<'a>(
             })
         },
     }
+}
+
+/// How many of the files that a request reads are the standard input.
+fn standard_inputs(request: &Request<'_>) -> usize {
+    let mut count = usize::from(request.input.is_none());
+    if request.counting.came == Some(STANDARD) {
+        count = count.saturating_add(1);
+    }
+    for name in request.tables.as_slice() {
+        if *name == STANDARD {
+            count = count.saturating_add(1);
+        }
+    }
+    count
+}
+
+/// Whether both the answer of a request and when requests came go to the standard output.
+fn are_two_outputs(request: &Request<'_>) -> bool {
+    match &request.job {
+        Job::Arrivals { asked } => asked.came == Some(STANDARD) && request.output.is_none(),
+        _ => false,
+    }
+}
+
+/// Says that two files are the standard input, or the standard output, and answers the exit status,
+/// where that is so.
+pub fn refuse_two_standards<E: Write>(request: &Request<'_>, errors: &mut E) -> Option<u8> {
+    let of = if standard_inputs(request) > 1 {
+        "input"
+    } else if are_two_outputs(request) {
+        "output"
+    } else {
+        return None;
+    };
+    let _ = writeln!(
+        errors,
+        "caladan_view: two of the files are the standard {of}"
+    );
+    Some(2)
 }
 
 /// An input of which the table alone is read, for where it is refused.
@@ -70,9 +110,10 @@ pub fn refuse_word<E: Write>(fault: &WordFault<'_>, errors: &mut E) -> u8
     2
 }
 
-/// The traces that a job reads: where its runs go by a plan, arrivals alone.
-fn traces_of(job: InputJob<'_>, has_plan: bool) -> &'static [TraceKind] {
-    if has_plan {
+/// The traces that a job reads: where a run alone is asked for, by a plan or to count its requests,
+/// arrivals.
+fn traces_of(job: InputJob<'_>, alone: bool) -> &'static [TraceKind] {
+    if alone {
         return &[TraceKind::Arrivals];
     }
     match job {

@@ -3,9 +3,10 @@
 use crate::attempt::{Stop, Tried, answer, begin};
 use crate::table_and_trace::TableAndTrace;
 use crate::texts::write_legal;
+use cal_came::CountAsked;
 use cal_engine::{RunAnswer, decide, run_audit, run_lockstep, run_sim};
 use cal_policy::Policy;
-use cal_tables::{ComparedInput, Labels, NumberForm, NumberStyle, compare, measure};
+use cal_tables::{ComparedInput, Labels, MeasuredInput, NumberForm, NumberStyle, compare, measure};
 use cal_trace::read_history;
 use std::alloc::Global;
 use std::io::Write;
@@ -72,16 +73,13 @@ fn in_columns() -> NumberStyle<'static> {
 pub fn measured(rt: &HostRuntime, given: &TableAndTrace) -> Tried<()> {
     let mut text = writer(rt.alloc())?;
     begin(rt)?;
-    answer(
-        rt,
-        measure(
-            rt.alloc(),
-            Policy::Caladan,
-            given.text,
-            in_columns(),
-            &mut text,
-        ),
-    )?;
+    let asked = MeasuredInput {
+        bytes: given.text,
+        policy: Policy::Caladan,
+        plan: None,
+        counting: CountAsked::NONE,
+    };
+    answer(rt, measure(rt.alloc(), asked, in_columns(), &mut text))?;
     rt.stdout().write_all(text.as_slice())?;
     Ok(())
 }
@@ -95,6 +93,7 @@ pub fn compared(rt: &HostRuntime, given: &TableAndTrace) -> Tried<()> {
         variation: None,
         policies: [Policy::Caladan].as_slice(),
         plan: None,
+        counting: CountAsked::NONE,
     };
     answer(rt, compare(rt.alloc(), input, in_columns(), &mut text))?;
     rt.stdout().write_all(text.as_slice())?;

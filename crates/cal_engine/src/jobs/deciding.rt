@@ -81,7 +81,7 @@ fn decided_report(alloc: Global, policy: Policy, input: &[u8]) -> Result<Vec<u8>
 {
     let mut lines = ReportLines::new(alloc);
     let (config, decider) = decide_input(alloc, policy, input, &mut lines)?;
-    lines.end(&config, &decider)
+    lines.end(&config, decider.book.board())
 }
 
 /// The history that an input's signals lead to by `Policy::Caladan`, as a file in memory. The faults

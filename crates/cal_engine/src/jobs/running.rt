@@ -11,12 +11,13 @@ ghost use Rattle.cal_engine.specs.Running.{TellsRun};
 
 use crate::jobs::accepted::AcceptedInput;
 use crate::jobs::answer::write_after_front;
+use crate::jobs::deciding::report_lines::ReportLines;
 use crate::jobs::front::Front;
-use crate::jobs::run_text::{run_text, tallied_summary};
+use crate::jobs::run_text::tallied_summary;
 use crate::jobs::telling::tell_lockstep;
 use cal_input::{RunFault, read_input, run_input};
 use cal_policy::Policy;
-use cal_run::{lockstep_end_by, lockstep_tallied_by};
+use cal_run::{end_run, lockstep_tallied_by, make_rounds, open_unwatched_by};
 use std::alloc::Global;
 use std::io::{Read, Write};
 
@@ -36,8 +37,8 @@ pub enum RunAnswer {
 /// Reads an input of a task table and arrivals to its end, makes a whole run of them on one thread by
 /// `Policy::Caladan`, and writes what is asked for and nothing else: its history as a file, its
 /// summary or its report. Nothing is written before the input was accepted. A history is written pass
-/// by pass, each as soon as its round was made, and no pass is kept; a summary or a report is in
-/// memory first.
+/// by pass, each as soon as it was made, and no pass is kept; a summary or a report is in memory
+/// first.
 ///
 /// The faults come in this order: `Read` or `Length`, whichever comes first, `Separator`, `Config`,
 /// `Trace`, `Write`. `Memory` may come at any place, and only where memory was refused: of a history
@@ -151,13 +152,15 @@ pub(crate) fn run_front(answer: RunAnswer) -> Front
     }
 }
 
-/// What is written of a run on one thread on the arrivals of an input, in memory.
+/// What is written of a run on one thread on the arrivals of an input, in memory, where that is no
+/// history.
 fn lockstep_text(
     alloc: Global,
     policy: Policy,
     answer: RunAnswer,
     input: &[u8],
 ) -> Result<Vec<u8>, RunFault>
+    requires untold { is_told answer ≡ false }
     ensures text { IfOk result (λ text. TellsRun policy answer (run_input_of input.now) text.items) }
     ensures fault { IfErr result (λ fault. Decided fault (run_input_of input.now ≡ Err fault)) }
 {
@@ -171,14 +174,15 @@ fn lockstep_text(
     lockstep_on(alloc, answer, &accepted)
 }
 
-/// What is written of a run on one thread on the arrivals of an accepted input, in memory. Its
-/// fault is `Memory`.
+/// What is written of a run on one thread on the arrivals of an accepted input, in memory, where that
+/// is no history. Its fault is `Memory`.
 fn lockstep_on(
     alloc: Global,
     answer: RunAnswer,
     accepted: &AcceptedInput<'_>,
 ) -> Result<Vec<u8>, RunFault>
     requires fits { FitsTable accepted.now.config.now accepted.now.arrivals.now }
+    requires untold { is_told answer ≡ false }
     ensures text { IfOk result (λ text. IsTextOfRun accepted.now.policy answer
         (record { table = accepted.now.config.now; arrivals = accepted.now.arrivals.now })
         text.items) }
@@ -191,9 +195,25 @@ fn lockstep_on(
             let end = lockstep_tallied_by(alloc, config, policy, arrivals)?;
             tallied_summary(alloc, arrivals, &end)
         }
-        _ => {
-            let end = lockstep_end_by(alloc, config, policy, arrivals)?;
-            run_text(alloc, answer, accepted, &end)
-        }
+        RunAnswer::Report => lockstep_report(alloc, accepted),
+        RunAnswer::History | RunAnswer::WithTable => unreachable!(),
     }
+}
+
+/// The report of a run on one thread on the arrivals of an accepted input, in memory. Its lines are
+/// made as its passes are, and no pass is kept. Its fault is `Memory`.
+fn lockstep_report(alloc: Global, accepted: &AcceptedInput<'_>) -> Result<Vec<u8>, RunFault>
+    requires fits { FitsTable accepted.now.config.now accepted.now.arrivals.now }
+    ensures text { IfOk result (λ text. IsTextOfRun accepted.now.policy RunAnswer.Report
+        (record { table = accepted.now.config.now; arrivals = accepted.now.arrivals.now })
+        text.items) }
+    ensures kind { IfErr result (λ fault. fault ≡ RunFault.Memory) }
+{
+    let (config, arrivals) = (accepted.config, accepted.arrivals);
+    let mut parts = open_unwatched_by(alloc, config, accepted.policy, arrivals)?;
+    let mut lines = ReportLines::new(alloc);
+    make_rounds(&mut parts, arrivals, &mut lines)?;
+    let text = lines.end(config, parts.scheduler.board())?;
+    end_run(alloc, config, arrivals, parts)?;
+    Ok(text)
 }

@@ -1,32 +1,103 @@
 //! A run on one thread whose history is written pass by pass.
 
-ghost use Rattle.std.specs.Prelude.{◌≡◌, ◌⊎◌, ◌++◌, List, length, max, option_to_list, IfOk, IfErr};
-ghost use Rattle.std.specs.Prelude.{OnOk};
-ghost use Rattle.std.specs.List.{flat_map};
+ghost use Rattle.std.specs.Prelude.{◌≡◌, ◌⊎◌, ◌++◌, IfOk, IfErr, OnOk, false, true};
 ghost use Rattle.std.specs.Io.KnownBytes.{Appends};
-ghost use Rattle.cal_run.specs.Parts.{AreParts};
-ghost use Rattle.cal_run.specs.Rounds.{AreAfterRounds};
-ghost use Rattle.cal_run.specs.Workers.{FitSomeTable};
 ghost use Rattle.cal_trace.specs.Arrivals.FitsTable.{FitsTable};
-ghost use Rattle.cal_policy.specs.declared.history.entry.PassEntry.{PassEntry as EntryOfPass};
 ghost use Rattle.cal_trace.specs.History.Text.{end_fields, entry_rows, header_row, lines_of};
 ghost use Rattle.cal_trace.specs.Rows.Text.{line_of};
 ghost use Rattle.cal_engine.specs.Front.{front_of};
-ghost use Rattle.cal_engine.specs.Running.{AreFirstPasses, IsBegunTold, IsTold};
+ghost use Rattle.cal_engine.specs.Running.{IsBegunTold, IsTold};
 
 use crate::jobs::accepted::AcceptedInput;
 use crate::jobs::answer::write_answer;
 use crate::jobs::front::{Front, write_front};
 use cal_input::RunFault;
+use cal_kthread::TurnEntries;
 use cal_policy::PassEntry;
-use cal_run::{Parts, end_told, open_unwatched_by, rounds_to_make, told_round};
+use cal_run::{Collector, lockstep_collected_by, pass_given};
+use cal_sched::BareScheduler;
 use cal_trace::{Arrivals, write_history_end, write_history_header, write_history_pass};
-use std::alloc::Global;
+use std::alloc::{AllocError, Global};
 use std::io::Write;
 
+/// The passes of a history, written as they are made. None is kept.
+#[derive(Drop)]
+struct Telling<'a, W: Write> {
+    writer: &'a mut W,
+    /// Room for the rows of a pass.
+    text: Vec<u8>,
+    /// Whether the writer returned an error.
+    failed: bool,
+}
+
+/// A history is told no further: memory was refused, or its writer failed, which its `Telling` says.
+#[derive(Drop)]
+struct Stopped;
+
+impl From<AllocError> for Stopped {
+    fn from(_e: AllocError) -> Stopped {
+        Stopped
+    }
+}
+
+impl<'a, W: Write> Telling<'a, W> {
+    /// Writes the rows of a pass: first into memory, and then at once.
+    fn tell(&mut self, entry: &PassEntry) -> Result<(), Stopped>
+        ensures same { self.new.writer.ghost_name ≡ self.old.writer.ghost_name }
+        ensures bytes { OnOk result ((self.new.failed ≡ self.old.failed)
+            × Appends (W.contents self.old.writer.now) (W.contents self.new.writer.now)
+            (lines_of (entry_rows entry.now))) }
+        ensures unwritten { IfErr result (λ _. self.new.failed ≡ false →
+            (self.old.failed ≡ false) × (self.new.writer.now ≡ self.old.writer.now)) }
+    {
+        self.text.clear();
+        if write_history_pass(entry, &mut self.text).is_err() {
+            return Err(Stopped);
+        }
+        if self.writer.write_all(self.text.as_slice()).is_err() {
+            self.failed = true;
+            return Err(Stopped);
+        }
+        Ok(())
+    }
+}
+
+impl<'a, W: Write> Collector for Telling<'a, W> {
+    ghost use Rattle.std.specs.Prelude.{◌≡◌, ⊤, false};
+    ghost use Rattle.std.specs.Io.KnownBytes.{Appends};
+    ghost use Rattle.std.specs.List.{flat_map};
+    ghost use Rattle.cal_trace.specs.History.Text.{entry_rows, lines_of};
+
+    type Fault = Stopped;
+
+    ghost holds = { λ telling history journals. ⊤ };
+
+    ghost suits = { λ telling table. ⊤ };
+
+    ghost wrote = { λ first telling history. telling.failed ≡ false →
+        Appends (W.contents first.writer.now) (W.contents telling.writer.now)
+        (lines_of (flat_map entry_rows history)) };
+
+    ghost same = { λ first telling. telling.writer.ghost_name ≡ first.writer.ghost_name };
+
+    fn make_pass(
+        &mut self,
+        scheduler: &mut BareScheduler,
+        arrivals: &Arrivals,
+        p: usize,
+    ) -> Result<(), Stopped> {
+        let entry = pass_given(scheduler, arrivals, p)?;
+        self.tell(&entry)
+    }
+
+    fn add_turn(&mut self, _k: usize, _entries: &TurnEntries) -> Result<(), Stopped> {
+        Ok(())
+    }
+}
+
 /// Makes a whole run on one thread on the arrivals of an accepted input, and writes its history as
-/// a file, after what stands before it: the rows of each pass as soon as its round was made. No
-/// pass is kept.
+/// a file, after what stands before it: the rows of each pass as soon as it was made. No pass is
+/// kept.
 ///
 /// `Memory` where memory was refused: then nothing was written, or what stands before the history,
 /// its first row and whole passes. `Write` where the writer returned an error; then how much was
@@ -49,12 +120,27 @@ pub(crate) fn tell_lockstep<W: Write>(
     ensures kind { IfErr result (λ fault. (fault ≡ RunFault.Memory) ⊎ (fault ≡ RunFault.Write)) }
 {
     let (config, arrivals) = (accepted.config, accepted.arrivals);
-    let mut parts = open_unwatched_by(alloc, config, accepted.policy, arrivals)?;
-    let mut text = head_text(alloc, front, accepted.input)?;
-    write_answer(text.as_slice(), writer)?;
-    tell_rounds(&mut parts, arrivals, &mut text, writer)?;
-    end_told(alloc, config, arrivals, parts)?;
-    tell_end(arrivals.passes.as_slice().len(), &mut text, writer)
+    let head = head_text(alloc, front, accepted.input)?;
+    write_answer(head.as_slice(), writer)?;
+    let mut telling = Telling {
+        writer: &mut *writer,
+        text: head,
+        failed: false,
+    };
+    let made = lockstep_collected_by(
+        alloc,
+        config,
+        accepted.policy,
+        arrivals,
+        &mut telling,
+    ).is_ok();
+    let Telling {
+        writer: told,
+        mut text,
+        failed,
+    } = telling;
+    let passes = arrivals.passes.as_slice().len();
+    tell_end(made, failed, passes, &mut text, told)
 }
 
 /// What stands before the passes of a history, in memory.
@@ -74,86 +160,25 @@ fn head_text(alloc: Global, front: Front, input: &[u8]) -> Result<Vec<u8>, RunFa
     }
 }
 
-/// Makes all rounds of a run that did nothing yet, and writes the rows of each pass after its
-/// round.
-fn tell_rounds<W: Write>(
-    parts: &mut Parts,
-    arrivals: &Arrivals,
+/// Writes the last row of a history of so many passes, unless its run was not made to its end.
+fn tell_end<W: Write>(
+    made: bool,
+    failed: bool,
+    passes: usize,
     text: &mut Vec<u8>,
     writer: &mut W,
 ) -> Result<(), RunFault>
-    requires fits { FitSomeTable arrivals.now }
-    requires opened { AreParts parts.old.scheduler.table arrivals.now 0 0 0 parts.old }
-    ensures made { IfOk result (λ _. AreAfterRounds parts.old.scheduler.table arrivals.now
-        (max (length arrivals.now.passes) (length arrivals.now.turns)) parts.new) }
-    ensures most { IfOk result (λ _. parts.new.watch.most ≡ parts.old.watch.most) }
-    ensures policy { IfOk result (λ _. parts.new.scheduler.policy ≡ parts.old.scheduler.policy) }
-    ensures first { IfOk result (λ _. AreFirstPasses parts.old.scheduler.policy
-        (record { table = parts.old.scheduler.table; arrivals = arrivals.now })
-        parts.new.scheduler.history) }
-    ensures told { OnOk result (Appends (W.contents writer.old) (W.contents writer.new)
-        (lines_of (flat_map entry_rows parts.new.scheduler.history))) }
-    ensures stopped { IfErr result (λ fault. fault ≡ RunFault.Memory → (history : List EntryOfPass)
-        × AreFirstPasses parts.old.scheduler.policy
-        (record { table = parts.old.scheduler.table; arrivals = arrivals.now }) history
-        × Appends (W.contents writer.old) (W.contents writer.new)
-        (lines_of (flat_map entry_rows history))) }
-    ensures kind { IfErr result (λ fault. (fault ≡ RunFault.Memory) ⊎ (fault ≡ RunFault.Write)) }
-{
-    for r in 0..rounds_to_make(arrivals) {
-        let entry = told_round(parts, arrivals, r)?;
-        tell_entry(entry, text, writer)?;
-    }
-    Ok(())
-}
-
-/// Writes the rows of a pass, if one was made.
-fn tell_entry<W: Write>(
-    entry: Option<PassEntry>,
-    text: &mut Vec<u8>,
-    writer: &mut W,
-) -> Result<(), RunFault>
-    ensures bytes { OnOk result (Appends (W.contents writer.old) (W.contents writer.new)
-        (lines_of (flat_map entry_rows (option_to_list entry)))) }
+    ensures ended { OnOk result ((made ≡ true) × (failed ≡ false)
+        × Appends (W.contents writer.old) (W.contents writer.new) (line_of (end_fields passes))) }
     ensures unwritten { IfErr result (λ fault. fault ≡ RunFault.Memory →
-        writer.new ≡ writer.old) }
+        (failed ≡ false) × (writer.new ≡ writer.old)) }
     ensures kind { IfErr result (λ fault. (fault ≡ RunFault.Memory) ⊎ (fault ≡ RunFault.Write)) }
 {
-    match entry {
-        Some(entry) => tell_pass(&entry, text, writer),
-        None => Ok(()),
+    if failed {
+        return Err(RunFault::Write);
     }
-}
-
-/// Writes the rows of a pass: first into memory, and then at once.
-fn tell_pass<W: Write>(
-    entry: &PassEntry,
-    text: &mut Vec<u8>,
-    writer: &mut W,
-) -> Result<(), RunFault>
-    ensures bytes { OnOk result (Appends (W.contents writer.old) (W.contents writer.new)
-        (lines_of (entry_rows entry.now))) }
-    ensures unwritten { IfErr result (λ fault. fault ≡ RunFault.Memory →
-        writer.new ≡ writer.old) }
-    ensures kind { IfErr result (λ fault. (fault ≡ RunFault.Memory) ⊎ (fault ≡ RunFault.Write)) }
-{
     text.clear();
-    if write_history_pass(entry, text).is_err() {
-        return Err(RunFault::Memory);
-    }
-    write_answer(text.as_slice(), writer)
-}
-
-/// Writes the last row of a history of so many passes.
-fn tell_end<W: Write>(passes: usize, text: &mut Vec<u8>, writer: &mut W) -> Result<(), RunFault>
-    ensures bytes { OnOk result (Appends (W.contents writer.old) (W.contents writer.new)
-        (line_of (end_fields passes))) }
-    ensures unwritten { IfErr result (λ fault. fault ≡ RunFault.Memory →
-        writer.new ≡ writer.old) }
-    ensures kind { IfErr result (λ fault. (fault ≡ RunFault.Memory) ⊎ (fault ≡ RunFault.Write)) }
-{
-    text.clear();
-    if write_history_end(passes, text).is_err() {
+    if !made || write_history_end(passes, text).is_err() {
         return Err(RunFault::Memory);
     }
     write_answer(text.as_slice(), writer)

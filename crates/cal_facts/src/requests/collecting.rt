@@ -1,6 +1,6 @@
 //! What the threads of a run serve, taken while it is made.
 
-ghost use Rattle.std.specs.Prelude.{◌≡◌, ◌≤◌, ◌++◌, [], List, Some, IfErr, IfOk, OnOk, length};
+ghost use Rattle.std.specs.Prelude.{◌≡◌, ◌≤◌, ◌++◌, [], List, Some, IfOk, OnOk, length};
 ghost use Rattle.std.specs.Prelude.{replicate, slice_get, slice_set};
 ghost use Rattle.std.specs.List.{AllZip};
 ghost use Rattle.cal_kthread.specs.Turn.Entries.{entries_of};
@@ -8,22 +8,20 @@ ghost use Rattle.cal_kthread.specs.declared.journal.entry.Entry.{Entry};
 ghost use Rattle.cal_kthread.specs.declared.kernel_thread.TheConstants.{MOST_ENTRIES};
 ghost use Rattle.cal_machine.specs.TableTasks.{threads_of_table};
 ghost use Rattle.cal_measure.specs.ThreadWork.{IsThreadWorkOf};
-ghost use Rattle.cal_paced.specs.Paced.{IsPacedFor};
-ghost use Rattle.cal_paced.specs.Planned.{AreGivenFor};
+ghost use Rattle.cal_tables.specs.Planned.{AreGivenBy, ArePlannedBy};
 ghost use Rattle.cal_trace.specs.Arrivals.FitsTable.{FitsTable};
 ghost use Rattle.cal_trace.specs.declared.arrivals.Arrivals.{Arrivals as RunArrivals};
-ghost use Rattle.cal_facts.specs.PacedRuns.{ArePacedServed};
 ghost use Rattle.cal_facts.specs.Served.{IsRunServed};
 
 use crate::requests::served::ServedRequests;
-use cal_input::RunFault;
 use cal_kthread::TurnEntries;
 use cal_machine::Config;
 use cal_measure::{ThreadWork, end_works, open_works, run_end};
-use cal_paced::{Plan, paced_collected_by};
+use cal_paced::Plan;
 use cal_policy::{Actions, Policy};
-use cal_run::{Collector, lockstep_collected_by, step_given};
+use cal_run::{Collector, step_given};
 use cal_sched::BareScheduler;
+use cal_tables::collected_by;
 use cal_trace::Arrivals;
 use std::alloc::{AllocError, Global};
 
@@ -93,42 +91,25 @@ impl Collector for OpenRequests {
     }
 }
 
-/// Makes a whole run by this policy on one thread on these arrivals, and takes what its threads serve while it is
-/// made. The fault is `Memory`.
+/// Makes a whole run by this policy, and by this plan or in lockstep, on one thread on what
+/// `planned_for` gives, and takes what its threads serve while it is made. Fails only when out of
+/// memory.
 pub(crate) fn served_of_run(
     alloc: Global,
     config: &Config,
     policy: Policy,
-    arrivals: &Arrivals,
-) -> Result<ServedRequests, RunFault>
-    requires fits { FitsTable config.now arrivals.now }
-    ensures served { IfOk result (IsRunServed policy config.now arrivals.now) }
-    ensures kind { IfErr result (λ fault. fault ≡ RunFault.Memory) }
-{
-    let mut open = OpenRequests::open(alloc, config)?;
-    lockstep_collected_by(alloc, config, policy, arrivals, &mut open)?;
-    let OpenRequests { works, .. } = open;
-    let threads = end_works(alloc, works, run_end(arrivals))?;
-    Ok(ServedRequests::of(alloc, threads.as_slice())?)
-}
-
-/// The same of a run by this policy and plan on arrivals for the plan.
-pub(crate) fn served_of_paced(
-    alloc: Global,
-    config: &Config,
-    policy: Policy,
-    plan: &Plan,
+    plan: Option<Plan>,
     given: &mut Arrivals,
-) -> Result<ServedRequests, RunFault>
+) -> Result<ServedRequests, AllocError>
     requires fits { FitsTable config.now given.old }
-    requires given { AreGivenFor plan.now given.old }
-    ensures served { (arrivals : RunArrivals) → IsPacedFor plan.now arrivals given.old →
-        IfOk result (ArePacedServed policy config.now plan.now arrivals given.new) }
-    ensures kind { IfErr result (λ fault. fault ≡ RunFault.Memory) }
+    requires given { AreGivenBy plan given.old }
+    ensures { (arrivals : RunArrivals) → ArePlannedBy plan arrivals given.old →
+        IfOk result (IsRunServed plan policy config.now arrivals given.new) }
 {
     let mut open = OpenRequests::open(alloc, config)?;
-    paced_collected_by(alloc, config, policy, plan, given, &mut open)?;
+    collected_by(alloc, config, policy, plan, given, &mut open)?;
     let OpenRequests { works, .. } = open;
     let threads = end_works(alloc, works, run_end(given))?;
-    Ok(ServedRequests::of(alloc, threads.as_slice())?)
+    let served = ServedRequests::of(alloc, threads.as_slice())?;
+    Ok(served)
 }

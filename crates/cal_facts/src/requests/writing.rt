@@ -1,10 +1,12 @@
 //! The rows of the requests of a run.
 
-ghost use Rattle.std.specs.Prelude.{List, OnOk};
+ghost use Rattle.std.specs.Prelude.{◌≡◌, List, OnOk, Option};
 ghost use Rattle.std.specs.Io.KnownBytes.{Appends};
 ghost use Rattle.std.specs.List.{flat_map};
+ghost use Rattle.cal_came.specs.declared.came.Came.{Came as CameOf};
 ghost use Rattle.cal_facts.specs.Served.{AreServed};
-ghost use Rattle.cal_facts.specs.RequestRows.{arrival_text, request_columns, request_line};
+ghost use Rattle.cal_facts.specs.RequestRows.{AreClocksTold, arrival_text, came_in};
+ghost use Rattle.cal_facts.specs.RequestRows.{request_columns, request_line};
 ghost use Rattle.cal_facts.specs.RequestRows.{served_text, text_of_requests};
 ghost use Rattle.cal_facts.specs.declared.requests.served.Served.{Served as ServedOf};
 
@@ -12,7 +14,7 @@ use crate::cells::{Cell, task_in};
 use crate::requests::served::{Served, ServedRequests};
 use cal_came::clock_of;
 use cal_machine::Config;
-use cal_measure::run_end;
+use cal_measure::{ArrivalClocks, run_end};
 use cal_trace::{Arrival, Arrivals};
 use std::io;
 use std::io::Write;
@@ -22,17 +24,20 @@ use std::io::Write;
 pub(crate) struct RunRequests {
     /// Its table.
     pub(crate) config: Config,
-    /// Its arrivals.
+    /// What its passes and turns were given.
     pub(crate) arrivals: Arrivals,
+    /// When its requests came, where a file of comings says so.
+    pub(crate) came: Option<ArrivalClocks>,
     /// What it served.
     pub(crate) served: ServedRequests,
 }
 
 /// Writes the columns and the rows of all requests of a run.
 pub(crate) fn write_request_rows<W: Write>(run: &RunRequests, writer: &mut W) -> io::Result<()>
-    ensures { (all : List ServedOf) → AreServed all run.now.served →
+    ensures { (came : Option (List CameOf)) (all : List ServedOf) →
+        AreClocksTold came run.now.came → AreServed all run.now.served →
         OnOk result (Appends (W.contents writer.old) (W.contents writer.new)
-        (text_of_requests run.now.config run.now.arrivals all)) }
+        (text_of_requests run.now.config run.now.arrivals came all)) }
 {
     write_columns(writer)?;
     write_each_request(run, run.arrivals.requests.as_slice(), writer)
@@ -54,9 +59,10 @@ fn write_each_request<W: Write>(
     requests: &[Arrival],
     writer: &mut W,
 ) -> io::Result<()>
-    ensures { (all : List ServedOf) → AreServed all run.now.served →
+    ensures { (came : Option (List CameOf)) (all : List ServedOf) →
+        AreClocksTold came run.now.came → AreServed all run.now.served →
         OnOk result (Appends (W.contents writer.old) (W.contents writer.new)
-        (flat_map (request_line run.now.config run.now.arrivals all) requests.now)) }
+        (flat_map (request_line run.now.config run.now.arrivals came all) requests.now)) }
 {
     for arrival in requests {
         write_request(run, *arrival, writer)?;
@@ -64,13 +70,25 @@ fn write_each_request<W: Write>(
     Ok(())
 }
 
+/// When a request came.
+fn came_in(run: &RunRequests, arrival: &Arrival) -> u64
+    ensures { (came : Option (List CameOf)) → AreClocksTold came run.now.came →
+        result ≡ came_in came run.now.arrivals.turns arrival.now }
+{
+    match &run.came {
+        None => clock_of(run.arrivals.turns.as_slice(), arrival),
+        Some(clocks) => clocks.of_request(arrival.request.id),
+    }
+}
+
 /// Writes the row of a request.
 fn write_request<W: Write>(run: &RunRequests, arrival: Arrival, writer: &mut W) -> io::Result<()>
-    ensures { (all : List ServedOf) → AreServed all run.now.served →
+    ensures { (came : Option (List CameOf)) (all : List ServedOf) →
+        AreClocksTold came run.now.came → AreServed all run.now.served →
         OnOk result (Appends (W.contents writer.old) (W.contents writer.new)
-        (request_line run.now.config run.now.arrivals all arrival)) }
+        (request_line run.now.config run.now.arrivals came all arrival)) }
 {
-    let came = clock_of(run.arrivals.turns.as_slice(), &arrival);
+    let came = came_in(run, &arrival);
     write_arrival(&run.config, came, arrival, writer)?;
     let waits = run_end(&run.arrivals).saturating_sub(came);
     let served = run.served.of_request(arrival.request.id);

@@ -1,21 +1,18 @@
 //! The series of a run, taken while it is made.
 
 ghost use Rattle.std.specs.Prelude.{◌≡◌, [], IfErr, IfOk};
-ghost use Rattle.cal_paced.specs.Paced.{IsPacedFor};
-ghost use Rattle.cal_paced.specs.Planned.{AreGivenFor};
+ghost use Rattle.cal_tables.specs.Planned.{IsFaultBy};
 ghost use Rattle.cal_trace.specs.Arrivals.FitsTable.{FitsTable};
-ghost use Rattle.cal_trace.specs.declared.arrivals.Arrivals.{Arrivals as RunArrivals};
-ghost use Rattle.cal_facts.specs.PacedRuns.{ArePacedPoints};
-ghost use Rattle.cal_facts.specs.Runs.{IsSeriesOfRun};
+ghost use Rattle.cal_facts.specs.Series.{IsSeriesOfRun};
 
 use crate::series::point::{MadePass, Point, put_points};
-use cal_input::RunFault;
 use cal_kthread::TurnEntries;
 use cal_machine::Config;
-use cal_paced::{Plan, paced_collected_by};
+use cal_paced::Plan;
 use cal_policy::{Actions, Policy};
-use cal_run::{Collector, lockstep_collected_by, step_given};
+use cal_run::{Collector, step_given};
 use cal_sched::BareScheduler;
+use cal_tables::{PlannedFault, collected_by, planned_for};
 use cal_trace::Arrivals;
 use std::alloc::{AllocError, Global};
 
@@ -75,41 +72,23 @@ impl Collector for OpenSeries {
     }
 }
 
-/// Makes a whole run by this policy on one thread on these arrivals, and takes its series while it is made. The
-/// fault is `Memory`.
+/// Makes a whole run by this policy, and by this plan or in lockstep, on one thread on these arrivals,
+/// and takes its series while it is made. The fault is `Memory`, or that of the plan on them.
 pub(crate) fn series_of_run(
     alloc: Global,
     config: &Config,
     policy: Policy,
-    arrivals: &Arrivals,
-) -> Result<Vec<Point>, RunFault>
-    requires fits { FitsTable config.now arrivals.now }
-    ensures points { IfOk result (λ points. IsSeriesOfRun policy config.now arrivals.now points.items) }
-    ensures kind { IfErr result (λ fault. fault ≡ RunFault.Memory) }
+    plan: Option<Plan>,
+    arrivals: Arrivals,
+) -> Result<Vec<Point>, PlannedFault>
+    requires fits { FitsTable config.now arrivals }
+    ensures points { IfOk result (λ points.
+        IsSeriesOfRun plan policy config.now arrivals points.items) }
+    ensures fault { IfErr result (IsFaultBy plan arrivals) }
 {
+    let mut given = planned_for(alloc, plan, arrivals)?;
     let mut open = OpenSeries::open(alloc, config)?;
-    lockstep_collected_by(alloc, config, policy, arrivals, &mut open)?;
-    let OpenSeries { points, .. } = open;
-    Ok(points)
-}
-
-/// The same of a run by this policy and plan on arrivals for the plan.
-pub(crate) fn series_of_paced(
-    alloc: Global,
-    config: &Config,
-    policy: Policy,
-    plan: &Plan,
-    given: &mut Arrivals,
-) -> Result<Vec<Point>, RunFault>
-    requires fits { FitsTable config.now given.old }
-    requires given { AreGivenFor plan.now given.old }
-    ensures points { (arrivals : RunArrivals) → IsPacedFor plan.now arrivals given.old →
-        IfOk result (λ points.
-        ArePacedPoints policy config.now plan.now arrivals given.new points.items) }
-    ensures kind { IfErr result (λ fault. fault ≡ RunFault.Memory) }
-{
-    let mut open = OpenSeries::open(alloc, config)?;
-    paced_collected_by(alloc, config, policy, plan, given, &mut open)?;
+    collected_by(alloc, config, policy, plan, &mut given, &mut open)?;
     let OpenSeries { points, .. } = open;
     Ok(points)
 }

@@ -1,11 +1,11 @@
 -- Where the third part of a pass ends: what is made before it, and what comes after.
-use Rattle.std.proofs.Common.{◌≡◌, ℕ, ◌+◌, ◌<◌, ◌≤◌, zero, suc, Bool, true, false, cond, ◌&&◌, nat_lt, List, [], ◌∷◌, ◌++◌, length, take, Option, Some, None, refl, sym, ap, ◌∙◌, arith, append_assoc, subst, length-append}
+use Rattle.std.proofs.Common.{◌≡◌, ℕ, ◌<◌, ◌≤◌, zero, suc, Bool, true, false, cond, ◌&&◌, nat_lt, List, [], ◌∷◌, ◌++◌, length, take, Option, Some, None, refl, sym, ap, ◌∙◌, arith, append_assoc, subst, length-append}
 use Rattle.std.specs.List.{slice_get}
 use Rattle.cal_machine.specs.Machine.{sibling_of}
 use Rattle.cal_machine.specs.TableTasks.{is_latency_critical, thread_of}
 use Rattle.cal_machine.specs.declared.task.Kind.TheVariants as kinds
 use Rattle.cal_policy.specs.declared.history.action.Action.{Action}
-use Rattle.cal_policy.specs.declared.history.action.Action.TheVariants.{Free, Unban, Ban, Revoke, Cap, Grant}
+use Rattle.cal_policy.specs.declared.history.action.Action.TheVariants.{Free, Unban, Revoke, Grant}
 use Rattle.cal_policy.specs.declared.history.action.Cause.TheVariants as causes
 use Rattle.cal_policy.specs.declared.board.bans.BannedFor.{BannedFor}
 use Rattle.cal_policy.specs.declared.pass.choice.Candidate.{Candidate}
@@ -21,8 +21,8 @@ use Rattle.cal_policy.specs.Pass.Bans.{still_shows, unban_for, unban_at, unbans,
 use Rattle.cal_policy.specs.Pass.Bandwidth.{victim_of, core_to_lose, cut_at, cut_of, rise_of, is_capped, bandwidth_part}
 use Rattle.cal_policy.specs.Pass.Grants.{is_congested, may_book, thread_choice, choice_of, grant_of, grant_at, grant_of_kind_at, grants_of_kind}
 use Rattle.cal_policy.specs.Pass.{pass_of}
-use Rattle.cal_laws.specs.Point.{Point, IsPoint, setting_at, made_at, next_at}
-use Rattle.cal_laws.specs.DueBans.{is_up_to_bans, BansAreMade, ComesToBans, with_made}
+use Rattle.cal_laws.specs.Point.{Point, IsPoint, setting_at, made_at}
+use Rattle.cal_laws.specs.DueBans.{is_up_to_bans, BansAreMade, ComesToBans}
 use Rattle.cal_laws.proofs.PointLemmas.PassKeeps.{unbanned_of}
 
 -- each action of a list is of the first three parts, or none is

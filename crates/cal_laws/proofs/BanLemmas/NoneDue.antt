@@ -20,16 +20,16 @@ use Rattle.cal_policy.specs.History.Lists.{in_turn}
 use Rattle.cal_policy.specs.History.{holder_of, left_by, last_placement, ban_of, is_banned}
 use Rattle.cal_policy.specs.Board.Counts.{is_held, is_over, held_by}
 use Rattle.cal_policy.specs.Setting.{Setting, so_far, kept_now, has_room}
-use Rattle.cal_policy.specs.Pass.Bans.{runs_too_long, may_be_emptied, too_long_on, may_ban_beside, ban_due, ban_for, bans_at, bans}
+use Rattle.cal_policy.specs.Pass.Bans.{runs_too_long, may_be_emptied, too_long_on, may_ban_beside, ban_due, ban_for, bans_at}
 use Rattle.cal_policy.specs.Laws.{ActionIsOneMore}
 use Rattle.cal_policy.proofs.PassLemmas.Fits.{so_far_push}
 use Rattle.cal_policy.proofs.PassLemmas.Pairs.{so_far_more, after_ban}
-use Rattle.cal_laws.specs.Point.{Point, IsPoint, setting_at, made_at, actions_at}
-use Rattle.cal_laws.specs.Bans.{IsOverWithRoom, MayBeEmpty, RunsTooLong, IsDue, BannedAreEmptiedAtOnce}
+use Rattle.cal_laws.specs.Point.{Point, IsPoint, setting_at, actions_at}
+use Rattle.cal_laws.specs.Bans.{MayBeEmpty, RunsTooLong, IsDue, BannedAreEmptiedAtOnce}
 use Rattle.cal_laws.specs.DueBans.{BansAreMade, NoBanIsLeftDue}
 use Rattle.cal_laws.proofs.CapLemmas.Held.{held_revoked}
 use Rattle.cal_laws.proofs.ExclusionLemmas.SameHolders.{held_same}
-use Rattle.cal_laws.proofs.BanLemmas.BansMade.{banned_of, made_there}
+use Rattle.cal_laws.proofs.BanLemmas.BansMade.{made_there}
 use Rattle.cal_laws.proofs.PointLemmas.PassKeeps.{unbanned_of}
 
 -- a ban that is due is found due

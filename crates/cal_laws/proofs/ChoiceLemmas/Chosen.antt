@@ -1,6 +1,6 @@
 -- What is chosen for a task, in words of its own.
 use Rattle.std.proofs.Common.{◌≡◌, ℕ, ◌<◌, true, ◌&&◌, eqb, List, length, Some, None, refl, ap, arith, inl, inr, ⊎_elim}
-use Rattle.std.proofs.lemmas.Bool.{ltb-true, eqb-true, eq-eqb, and_parts, and_from, cond-true, cases_lt}
+use Rattle.std.proofs.lemmas.Bool.{eqb-true, eq-eqb, and_parts, and_from, cond-true, cases_lt}
 use Rattle.std.proofs.lemmas.Option.{MatchOption-at_some, cond_some}
 use Rattle.cal_machine.specs.Laws.{ThreadsAreOfTheirTask}
 use Rattle.cal_machine.specs.TableTasks.{limit_of, thread_of, owner_of}

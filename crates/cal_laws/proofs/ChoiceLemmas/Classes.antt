@@ -8,7 +8,7 @@ use Rattle.cal_machine.specs.TableTasks.{owner_of, guaranteed_of, is_latency_cri
 use Rattle.cal_policy.specs.declared.history.action.Action.{Action}
 use Rattle.cal_policy.specs.declared.history.core_class.CoreClass.{CoreClass}
 use Rattle.cal_policy.specs.declared.history.core_class.CoreClass.TheVariants as classes
-use Rattle.cal_policy.specs.History.CoreClasses.{class_number, is_idle}
+use Rattle.cal_policy.specs.History.CoreClasses.{is_idle}
 use Rattle.cal_policy.specs.declared.history.action.Cause.TheVariants as causes
 use Rattle.cal_policy.specs.declared.board.holders.Placement as placements
 use Rattle.cal_policy.specs.declared.board.holders.Holder.{Holder}

@@ -1,6 +1,7 @@
 -- Counts and choices among the numbers below n, one number more.
-use Rattle.std.proofs.Common.{◌≡◌, ℕ, ◌+◌, ◌<◌, ◌≤◌, suc, zero, Bool, true, false, not, max, Option, refl, cond, add-one, arith, ⊎_elim}
+use Rattle.std.proofs.Common.{◌≡◌, ℕ, ◌+◌, ◌<◌, ◌≤◌, suc, zero, Bool, true, false, not, max, Option, Some, None, refl, ap, sym, ◌∙◌, cond, add-one, arith, ◌⊎◌, inl, inr, ⊎_elim}
 use Rattle.std.proofs.lemmas.Bool.{cases_lt}
+use Rattle.std.specs.Option.{is_some}
 use Rattle.cal_policy.specs.Pass.Choice.{count_below, greatest_below, best_below, better}
 use Rattle.cal_policy.specs.declared.pass.choice.Candidate.{Candidate}
 
@@ -13,6 +14,25 @@ greatest_more f n most next e g = rw (add-one n, e, g) refl
 pub best_more : {R : Type 0} (beats : R → R → Bool) (f : ℕ → Option R) (n : ℕ) (best : Option (Candidate R)) (rank : Option R) →
     best ≡ best_below beats f n → rank ≡ f n → better beats best rank n ≡ best_below beats f (n + 1)
 best_more beats f n best rank e g = rw (add-one n, e, g) refl
+
+some_better : {R : Type 0} (beats : R → R → Bool) (n : ℕ) (best : Option (Candidate R)) (rank : Option R) → (is_some best ≡ true) ⊎ (is_some rank ≡ true) → is_some (better beats best rank n) ≡ true
+some_better beats n None None (inl e) = e
+some_better beats n None None (inr e) = e
+some_better beats n (Some best) None e = refl
+some_better beats n None (Some rank) e = refl
+some_better beats n (Some best) (Some rank) e = of_two (beats rank best.rank)
+  where
+    of_two : (b : Bool) → is_some (cond b (Some (record { rank = rank; number = n })) (Some best)) ≡ true
+    of_two true = refl
+    of_two false = refl
+
+-- where one has a rank there is a best
+pub some_is_best : {R : Type 0} (beats : R → R → Bool) (f : ℕ → Option R) (n k : ℕ) (rank : Option R) → k < n → is_some rank ≡ true → rank ≡ f k → is_some (best_below beats f n) ≡ true
+some_is_best beats f zero k rank lt e is = absurd (omega (arith, lt))
+some_is_best beats f (suc n) k rank lt e is = some_better beats n (best_below beats f n) (f n) (⊎_elim
+    (λ before. inl (some_is_best beats f n k rank before e is))
+    (λ from. let same : k ≡ n = omega (arith, lt, from) in inr (ap (λ j. is_some (f j)) (sym same) ∙ ap is_some (sym is) ∙ e))
+    (cases_lt k n))
 
 -- no more pass than there are
 pub one_at_most : (b : Bool) → cond b 1 0 ≤ 1

@@ -47,6 +47,9 @@ impl Pass<'_> {
         ensures length { length out.new ≤ length out.old + 2 }
         ensures same { both.first ≡ None → both.second ≡ None → board.new ≡ board.old }
     {
+        if both.first.is_none() && both.second.is_none() {
+            return;
+        }
         self.make(board, out, both.first);
         self.make(board, out, both.second);
     }

@@ -195,8 +195,11 @@ impl Pass<'_> {
             (if rules.is_capped s (so_far s acts) task then Some task else None)) }
         ensures names { IfSome result (NamesTable self.now.config.now) }
     {
+        if self.config.is_latency_critical(task) {
+            return None;
+        }
         let cap = cap_of(self.config, board, task);
-        if self.config.is_latency_critical(task) || cap >= self.config.task(task).limit {
+        if cap >= self.config.task(task).limit {
             None
         } else {
             Some(Action::Cap {

@@ -40,6 +40,9 @@ impl Pass<'_> {
         self.end_bans(board, out);
         self.ban_siblings(board, out);
         self.keep_bandwidth(board, out);
+        if self.none_waits(board) {
+            return;
+        }
         self.grants_of_kind(board, out, Kind::LatencyCritical);
         self.grants_of_kind(board, out, Kind::BestEffort);
     }

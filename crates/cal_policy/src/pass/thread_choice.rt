@@ -1,7 +1,7 @@
 //! Which thread of a task is to have the core.
 
 ghost use Rattle.std.specs.Prelude.{◌≡◌, ◌<◌, length};
-ghost use Rattle.std.specs.Option.{IfSome};
+ghost use Rattle.std.specs.Option.{IfSome, is_some};
 ghost use Rattle.cal_machine.specs.TableTasks.{threads_of_table, limit_of};
 ghost use Rattle.cal_policy.specs.Setting.{so_far};
 ghost use Rattle.cal_policy.specs.Pass.Grants as grants;
@@ -28,6 +28,21 @@ impl Pass<'_> {
         } else {
             None
         }
+    }
+
+    /// Whether the task has a thread that may be granted a core.
+    pub fn has_thread(&self, board: &Board, task: usize) -> bool
+        requires at_hand { IsOfTable self.now.config.now board.now }
+        requires task { task < length self.now.config.now.tasks }
+        ensures { Within self.now board.now (λ s acts. result ≡ is_some (grants.thread_choice s (so_far s acts) task)) }
+    {
+        let (first, _) = self.config.threads_of(task);
+        for j in 0..self.config.task(task).limit {
+            if let Some(_) = self.thread_rank(board, first + j as usize) {
+                return true;
+            }
+        }
+        false
     }
 
     /// The task's thread with the greatest delay, of those that may be granted a core; of those

@@ -55,7 +55,7 @@ pub fn open_parts(alloc: Global, config: &Config, arrivals: &Arrivals) -> Result
 }
 
 /// As `open_parts_by`, with a watch for no round, which takes no memory for any: for a run of which
-/// nobody reads what the watch finds. `end_told` ends such parts; `end_parts` and `close_parts` ask
+/// nobody reads what the watch finds. `end_run` ends such parts; `end_parts` and `close_parts` ask
 /// for all rounds. Fails only when out of memory.
 pub fn open_unwatched_by(
     alloc: Global,

@@ -3,6 +3,7 @@
 ghost use Rattle.std.specs.Prelude.{◌≡◌};
 
 use crate::planned::PlannedFault;
+use cal_came::CountFault;
 use cal_input::RunFault;
 use cal_paced::PaceFault;
 use std::alloc::{AllocError, AllocFailed};
@@ -41,6 +42,8 @@ pub enum Reason {
     Misfit(Misfit),
     /// The arrivals, or the plan, are refused.
     Pace(PaceFault),
+    /// The requests of the arrivals cannot be counted as it is asked for.
+    Count(CountFault),
     /// A table was asked for that is not there.
     NoTable {
         /// How many tables there are.
@@ -68,6 +71,7 @@ impl fmt::Display for Reason {
                 "gives thread {thread} requests {first} and {second} before turn {turn}"
             ),
             Reason::Pace(fault) => write!(f, "has no run by the plan: {fault}"),
+            Reason::Count(fault) => write!(f, "{fault}"),
             Reason::NoTable { tables } => write!(f, "is not there: there are {tables}, from 0"),
         }
     }
@@ -116,6 +120,16 @@ impl From<PlannedFault> for Reason {
         match fault {
             PlannedFault::Run(fault) => Reason::Run(fault),
             PlannedFault::Pace(fault) => Reason::Pace(fault),
+        }
+    }
+}
+
+/// Out of memory is `Run`, and never `Count`.
+impl From<CountFault> for Reason {
+    fn from(fault: CountFault) -> Reason {
+        match fault {
+            CountFault::Memory => Reason::Run(RunFault::Memory),
+            fault => Reason::Count(fault),
         }
     }
 }

@@ -7,13 +7,14 @@ use crate::core_rows::{
     CORE_LINES, CoreLine, MACHINE_LINES, MachineLine, core_figure, core_label, core_unit,
     machine_figure, machine_label, machine_unit,
 };
+use crate::crowding::{CROWD_LINES, CrowdLine, crowd_figure, crowd_label, crowded_of};
 use crate::figures::{Figure, Unit, number};
 use crate::labels::Labels;
-use crate::measuring::RunNumbers;
 use crate::sheet::Sheet;
 use crate::style::NumberStyle;
 use crate::writing::{LINES, Line, label, request_figure, task_name, unit};
 use cal_policy::Policy;
+use cal_trace::Comings;
 use std::alloc::{AllocError, Global};
 
 /// What a row says of each run.
@@ -21,6 +22,8 @@ use std::alloc::{AllocError, Global};
 enum Row {
     /// Of a task's requests.
     Requests(usize, Line),
+    /// Of a task's requests that found their turns taken.
+    Crowd(usize, CrowdLine),
     /// Of a task's cores.
     Cores(usize, CoreLine),
     /// Of the machine's cores.
@@ -35,6 +38,7 @@ impl Row {
                 let of_task = label(alloc, labels, line)?;
                 label_of_task(alloc, labels, task, of_task.as_str())
             }
+            Row::Crowd(task, line) => label_of_task(alloc, labels, task, crowd_label(line)),
             Row::Cores(task, line) => label_of_task(alloc, labels, task, core_label(line)),
             Row::Machine(line) => String::from_str(alloc, machine_label(line)),
         }
@@ -44,16 +48,18 @@ impl Row {
     fn unit(self) -> Unit {
         match self {
             Row::Requests(_, line) => unit(line),
+            Row::Crowd(_, _) => Unit::One,
             Row::Cores(_, line) => core_unit(line),
             Row::Machine(line) => machine_unit(line),
         }
     }
 
     /// What it says of the run of a table, which may have no such task.
-    fn figure_in(self, runs: &Comparison<RunNumbers>, table: usize) -> Option<Figure> {
+    fn figure_in(self, runs: &Comparison, table: usize) -> Option<Figure> {
         let numbers = runs.runs.as_slice().get(table)?;
         match self {
             Row::Requests(task, line) => request_figure(numbers, task, line),
+            Row::Crowd(task, line) => runs.crowd_figure(table, task, line),
             Row::Cores(task, line) => {
                 let lasted = numbers.machine.lasted;
                 core_figure(numbers.cores.as_slice(), lasted, task, line)
@@ -63,6 +69,29 @@ impl Row {
                 machine_figure(&numbers.machine, numbers.turns, line, cores)
             }
         }
+    }
+}
+
+impl Comparison {
+    /// By what it is known which requests found their turns taken.
+    fn comings(&self) -> Option<&Comings> {
+        match &self.told {
+            Some(told) => match &told.comings {
+                Some(comings) => Some(comings),
+                None => None,
+            },
+            None => None,
+        }
+    }
+
+    /// What a row says of the requests of a task that found their turns taken, where a table has the
+    /// task: the same of each table.
+    fn crowd_figure(&self, table: usize, task: usize, line: CrowdLine) -> Option<Figure> {
+        let comings = self.comings()?;
+        if task >= self.tables.as_slice().get(table)?.tasks() {
+            return None;
+        }
+        crowd_figure(crowded_of(&self.given, comings, task), line)
     }
 }
 
@@ -93,7 +122,7 @@ fn change_cell(alloc: Global, change: Change, unit: Unit) -> Result<String, Allo
 #[derive(Clone, Copy)]
 pub struct ShownComparison<'a> {
     /// The runs by each policy.
-    pub runs: &'a [Comparison<RunNumbers>],
+    pub runs: &'a [Comparison],
     /// The policies.
     pub policies: &'a [Policy],
     /// What made the tables, where they are not those of the input.
@@ -212,10 +241,32 @@ impl ShownComparison<'_> {
         most
     }
 
+    /// Whether it is known which requests found their turns taken.
+    fn has_comings(self) -> bool {
+        match self.runs.first() {
+            Some(first) => first.comings().is_some(),
+            None => false,
+        }
+    }
+
+    /// Puts the rows of a task's requests that found their turns taken, where that is known.
+    fn put_crowded(self, alloc: Global, task: usize, sheet: &mut Sheet) -> Result<(), AllocError> {
+        if !self.has_comings() {
+            return Ok(());
+        }
+        for line in CROWD_LINES {
+            sheet.put(self.cells_of(alloc, Row::Crowd(task, line))?)?;
+        }
+        Ok(())
+    }
+
     /// Puts the rows of a task's requests.
     fn put_requests(self, alloc: Global, task: usize, sheet: &mut Sheet) -> Result<(), AllocError> {
         for line in LINES {
             sheet.put(self.cells_of(alloc, Row::Requests(task, line))?)?;
+            if let Line::Left = line {
+                self.put_crowded(alloc, task, sheet)?;
+            }
         }
         Ok(())
     }

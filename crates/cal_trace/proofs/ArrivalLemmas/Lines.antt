@@ -11,7 +11,7 @@ use Rattle.cal_trace.specs.declared.arrivals.Arrivals.{Arrivals}
 use Rattle.cal_trace.proofs.ListLemmas.Numbered.{flat_map-one}
 
 -- the lines of some rows, and then the lines of others
-two : (a b c : Option (List ℕ)) (rows more : List Fields) → Appends a b (lines_of rows) → Appends b c (lines_of more) → Appends a c (lines_of (rows ++ more))
+pub two : (a b c : Option (List ℕ)) (rows more : List Fields) → Appends a b (lines_of rows) → Appends b c (lines_of more) → Appends a c (lines_of (rows ++ more))
 two a b c rows more p q = subst (λ t. Appends a c t) (sym (flat_map-append line_of rows more)) (Appends-trans a b c _ _ p q)
 
 last : (a b c : Option (List ℕ)) (rows : List Fields) (row : Fields) → Appends a b (lines_of rows) → Appends b c (line_of row) → Appends a c (lines_of (rows ++ row ∷ []))

@@ -58,7 +58,7 @@ fn form_of(row: &ByteRecord) -> Option<Form>
 }
 
 /// The last of these, if there is one.
-fn last_of<T: Copy>(list: &[T]) -> Option<T>
+pub(crate) fn last_of<T: Copy>(list: &[T]) -> Option<T>
     ensures { result ≡ last_in list.now }
 {
     list.last().copied()

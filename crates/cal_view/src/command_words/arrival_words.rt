@@ -68,7 +68,7 @@ pub fn with_run_words<'a>(alloc: Global, command: Command<'a>) -> Result<Command
 }
 
 /// What may be given more than once.
-fn some_words<'a>(alloc: Global, name: &'a str, value: &'a str) -> Arg<'a> {
+pub fn some_words<'a>(alloc: Global, name: &'a str, value: &'a str) -> Arg<'a> {
     Arg::new(alloc, name)
         .long(name)
         .action(ArgAction::Append)
@@ -77,9 +77,7 @@ fn some_words<'a>(alloc: Global, name: &'a str, value: &'a str) -> Arg<'a> {
 
 /// The tasks to which requests come.
 pub fn task_word<'a>(alloc: Global) -> Arg<'a> {
-    some_words(alloc, "task", "TASK")
-        .value_parser(clap::value_parser!(u64))
-        .help("A task that gets requests")
+    some_words(alloc, "task", "TASK").help("A task that gets requests")
 }
 
 /// Their loads.
@@ -141,6 +139,7 @@ pub fn load_words<'a>(
 ) -> Result<LoadWords<'a>, AllocError> {
     Ok(LoadWords {
         tasks: all_words(alloc, matches, "task")?,
+        names: matches.get_str("names"),
         loads: all_words(alloc, matches, "load")?,
         services: all_words(alloc, matches, "service")?,
         patterns: all_words(alloc, matches, "pattern")?,

@@ -1,10 +1,12 @@
 //! What the words of a command line ask for.
 
 use crate::command_words::arrival_words::{ArrivalWords, arrival_word, arrival_words};
+use crate::command_words::count_words::{CountWords, count_words, own_came_word, with_count_words};
 use crate::command_words::help_texts;
 use crate::command_words::plan_words::{plan_asked, with_plan_words};
 use crate::command_words::policy_words::{policies_asked, policies_word, policy_word};
 use crate::command_words::sweep_words::{sweep_word, sweep_words};
+use crate::edge::sources::STANDARD;
 use crate::jobs::explaining::Asked;
 use crate::jobs::naming::LabelWords;
 use crate::jobs::telling::Facts;
@@ -101,6 +103,8 @@ pub struct Request<'a> {
     pub policies: Vec<Policy>,
     /// The plan that its runs are to go by; without it they are in lockstep.
     pub plan: Option<Plan>,
+    /// From when their requests count, and which of them are ranked.
+    pub counting: CountWords<'a>,
     /// What tasks and clock ticks are to be called.
     pub labels: LabelWords<'a>,
     /// The files of task tables that stand in front of the input.
@@ -189,7 +193,8 @@ fn program<'a>(alloc: Global) -> Result<Command<'a>, AllocError> {
     let about = "Write how each task stands in each pass, as CSV";
     let program = program.subcommand(facts_word(alloc, "series", about, help_texts::SERIES)?)?;
     let about = "Write how each request of a run fared, as CSV";
-    let program = program.subcommand(facts_word(alloc, "requests", about, help_texts::REQUESTS)?)?;
+    let requests = facts_word(alloc, "requests", about, help_texts::REQUESTS)?;
+    let program = program.subcommand(requests.arg(own_came_word(alloc))?)?;
     let program = program.subcommand(measure_word(alloc)?)?;
     let program = program.subcommand(compare_word(alloc)?)?;
     let program = program.subcommand(explain_word(alloc)?)?;
@@ -256,6 +261,7 @@ fn measure_word<'a>(alloc: Global) -> Result<Command<'a>, AllocError> {
         .after_long_help(help_texts::MEASURE)
         .arg(input_word(alloc))?
         .arg(policy_word(alloc))?;
+    let command = with_count_words(alloc, command)?;
     with_plan_words(alloc, command)?
         .arg(csv_word(alloc))?
         .arg(names_word(alloc))?
@@ -313,6 +319,7 @@ fn compare_word<'a>(alloc: Global) -> Result<Command<'a>, AllocError> {
         .arg(tables_word(alloc))?
         .arg(arrivals_word(alloc))?
         .arg(policies_word(alloc))?;
+    let command = with_count_words(alloc, command)?;
     with_plan_words(alloc, command)?
         .arg(vary_word(alloc))?
         .arg(csv_word(alloc))?
@@ -399,14 +406,20 @@ fn request_of<'a>(alloc: Global, matches: &ArgMatches<'a>) -> Result<Request<'a>
         job,
         policies: policies_asked(alloc, own)?,
         plan: plan_asked(own),
+        counting: count_words(name, own),
         labels: LabelWords {
             names: own.get_str("names"),
             tick: own.get_str("tick"),
         },
         tables,
-        input: arrivals.or(own.get_str("tables")).or(own.get_str("input")),
-        output: own.get_str("output"),
+        input: file_named(arrivals.or(own.get_str("tables")).or(own.get_str("input"))),
+        output: file_named(own.get_str("output")),
     })
+}
+
+/// The name of a file, where it is none of the standard input or output.
+fn file_named(name: Option<&str>) -> Option<&str> {
+    if name == Some(STANDARD) { None } else { name }
 }
 
 impl<'a> Request<'a> {
@@ -416,6 +429,7 @@ impl<'a> Request<'a> {
             job: Job::Help,
             policies: Vec::new(alloc),
             plan: None,
+            counting: CountWords::NONE,
             labels: LabelWords {
                 names: None,
                 tick: None,

@@ -140,6 +140,8 @@ its task, the thread to which it comes, its clock of arrival, and its turns of
 work. If it was answered: by which thread, when it was begun and when answered,
 and for how long it was worked at. If it is pending: for how long, by the run's
 last clock. `measure --help` says when a request is begun and answered.
+With --came FILE, which `arrivals --came` wrote, its clock of arrival is that of
+the turn to which it came.
 With --pace, --beside, --memory or --figure the run is like a machine:
 docs/VIEWER.md, \"Runs like a machine\".
 Exit status: 0 done, 2 rejected input, 3 memory or output was refused.",
@@ -197,6 +199,10 @@ which it was congested. `machine` has the shares of all core time: held, being
 left, banned with nobody on the core, and free; the share of the clock with the
 bandwidth figure over its limit; and the clocks of the passes and of the turns.
 A state lasts from its pass's clock to the next pass's.
+With --came FILE, which `arrivals --came` wrote, times count from the clock of
+the turn to which a request came; `requests far` were moved by more than one
+turn from there, and `requests left out` found none. With --from and --to times
+are of requests that came within these turns. There must be arrivals then.
 With --pace, --beside, --memory or --figure there must be arrivals, and their
 run is like a machine: docs/VIEWER.md, \"Runs like a machine\".
 Exit status: 0 done, 2 rejected input, 3 memory or output was refused.",
@@ -292,7 +298,8 @@ With several policies each table has a column for each of them.
 The arrivals are for the first table, or for the one that is varied. In each
 other table a request stays with its task, on the thread of the same number
 among the task's, modulo the limit. --write-input N writes table N and the
-arrivals that it gets, which `measure` reads.
+arrivals that it gets, which `measure` reads. --came, --from and --to are as in
+`measure`; the file is of the arrivals as they are given.
 With --pace, --beside, --memory or --figure the runs are like a machine:
 docs/VIEWER.md, \"Runs like a machine\".
 Exit status: 0 done, 2 rejected input, 3 memory or output was refused. A table
@@ -447,7 +454,7 @@ row's, takes its service in turns, rounded up, and comes to a random thread, as
 above. Without --turns the run ends when the longest request can be served
 after the last came. FILE may be - if the table is a file by name.
 --came also writes CSV to a file: the id of each request, and the turn to which
-it came.
+it came; and how many of each task are left out. `measure --came` reads it.
 With --summary, for each task: how many requests came, how many of these stand
 before a later turn than they came to, how many found no turn and are left out,
 and the load of the others.
@@ -491,10 +498,14 @@ each column by itself.
 --slo is an objective for a task: p50, p90, p99, p99.9 or max, in ticks. It is
 undecided where the request at its rank is pending for less, and missed where
 some that came before the end of the window are left out; of several seeds one
-is enough.
+is enough. There may be several: where they are of several tasks, each of these
+has rows. Of --names a name may stand for a task, as in --slo memcached.p99=65.
+--cheapest lists below the table, for each load, what keeps every objective:
+first what leaves the greatest share to best effort, of several seeds in the
+median.
 With --pace, --beside, --memory or --figure the runs are like a machine:
 docs/VIEWER.md, \"Runs like a machine\".
-Exit status: 0 done, 1 a run of the last load misses the objective, or leaves it
+Exit status: 0 done, 1 a run of the last load misses an objective, or leaves it
 undecided, 2 rejected input or a bad option, which is named, 3 memory or output
 was refused.",
     "caladan_view sweep --load 0.3,0.6 --pattern even --turns 20",

@@ -25,11 +25,7 @@ pub fn with_log_words<'a>(alloc: Global, command: Command<'a>) -> Result<Command
         .arg(log_word(alloc)?)?
         .arg(unit_word(alloc)?)?
         .arg(turn_word(alloc)?)?
-        .arg(own_names_word(alloc)?)
-}
-
-fn own_names_word<'a>(alloc: Global) -> Result<Arg<'a>, AllocError> {
-    names_word(alloc).hide_short_help(true).requires_arg("log")
+        .arg(names_word(alloc).hide_short_help(true))
 }
 
 fn log_word<'a>(alloc: Global) -> Result<Arg<'a>, AllocError> {

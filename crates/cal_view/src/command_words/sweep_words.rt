@@ -1,8 +1,11 @@
 //! The words after `sweep`.
 
-use crate::command_words::arrival_words::{load_word, load_words, task_word, with_run_words};
+use crate::command_words::arrival_words::{
+    load_word, load_words, some_words, task_word, with_run_words,
+};
 use crate::command_words::command_line::{
-    csv_word, input_word, names_word, number_form_of, output_word, tick_word, value_word, vary_word,
+    all_words, csv_word, flag_word, input_word, names_word, number_form_of, output_word, tick_word,
+    value_word, vary_word,
 };
 use crate::command_words::help_texts;
 use crate::command_words::plan_words::{plan_asked, with_more_plan_words};
@@ -26,6 +29,8 @@ pub fn sweep_word<'a>(alloc: Global) -> Result<Command<'a>, AllocError> {
         .arg(from_word(alloc))?
         .arg(to_word(alloc))?
         .arg(seeds_word(alloc))?
+        .arg(cheapest_word(alloc)?)?
+        .arg(jobs_word(alloc))?
         .arg(csv_word(alloc))?
         .arg(names_word(alloc))?
         .arg(tick_word(alloc))?
@@ -34,7 +39,7 @@ pub fn sweep_word<'a>(alloc: Global) -> Result<Command<'a>, AllocError> {
 
 fn slo_word<'a>(alloc: Global) -> Arg<'a> {
     let help = "What the last load must keep, such as task.0.p99=65";
-    value_word(alloc, "slo", "OBJECTIVE", help)
+    some_words(alloc, "slo", "OBJECTIVE").help(help)
 }
 
 fn from_word<'a>(alloc: Global) -> Arg<'a> {
@@ -52,6 +57,21 @@ fn seeds_word<'a>(alloc: Global) -> Arg<'a> {
     value_word(alloc, "seeds", "N", help).hide_short_help(true)
 }
 
+fn cheapest_word<'a>(alloc: Global) -> Result<Arg<'a>, AllocError> {
+    let help = "List what keeps every objective, best for best effort first";
+    flag_word(alloc, "cheapest", help)
+        .hide_short_help(true)
+        .requires_arg("slo")
+}
+
+fn jobs_word<'a>(alloc: Global) -> Arg<'a> {
+    let help = "Run N loads at a time at most [default: 2 a processor]";
+    value_word(alloc, "jobs", "N", help)
+        .short('j')
+        .value_parser(clap::value_parser!(u64).range(1..=i64::MAX))
+        .hide_short_help(true)
+}
+
 /// What the words of a parsed command line ask for. Fails only when out of memory.
 pub fn sweep_words<'a>(
     alloc: Global,
@@ -60,11 +80,13 @@ pub fn sweep_words<'a>(
     Ok(SweepWords {
         load: load_words(alloc, matches)?,
         vary: matches.get_str("vary"),
-        slo: matches.get_str("slo"),
+        slo: all_words(alloc, matches, "slo")?,
         from: matches.get_str("from"),
         to: matches.get_str("to"),
         plan: plan_asked(matches),
         seeds: matches.get_str("seeds"),
+        cheapest: matches.get_flag("cheapest"),
+        jobs: matches.get_one::<u64>("jobs"),
         form: number_form_of(matches.get_flag("csv")),
     })
 }

@@ -1,5 +1,6 @@
 //! A file that an answer goes to: it is written beside its place, and takes it at the end.
 
+use crate::edge::sources::STANDARD;
 use std::alloc::Global;
 use std::fs::{OpenFile, OpenOptions};
 use std::io::{ErrorKind, Write};
@@ -26,8 +27,11 @@ struct Names {
 
 /// Opens what is written to this place: a new file beside it, or the place itself where something
 /// is there that is no file. A link is followed to the file that it names. A file that is there has
-/// to be one that may be written, and the new one has its permissions.
+/// to be one that may be written, and the new one has its permissions. `-` is the standard output.
 pub fn open_beside<H: Files>(rt: &H, alloc: Global, path: &str) -> io::Result<Beside<H::File>> {
+    if path == STANDARD {
+        return open_output(rt);
+    }
     let there = match fs::metadata(rt, path) {
         Ok(there) => there,
         Err(_) => return create_beside(rt, alloc, path),
@@ -45,6 +49,12 @@ pub fn open_beside<H: Files>(rt: &H, alloc: Global, path: &str) -> io::Result<Be
             Err(said)
         }
     }
+}
+
+/// The standard output, opened for what is written to its end.
+fn open_output<H: Files>(rt: &H) -> io::Result<Beside<H::File>> {
+    let file = OpenOptions::new().append(true).open(rt, "/dev/stdout")?;
+    Ok(Beside { file, names: None })
 }
 
 /// Makes a new file beside this place.

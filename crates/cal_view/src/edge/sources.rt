@@ -9,9 +9,18 @@ use std::io::ErrorKind;
 use std::rt::Files;
 use std::{fs, io};
 
+/// The name of the standard input among files that are read, and of the standard output among those
+/// that are written.
+pub const STANDARD: &str = "-";
+
+/// Where the file of this name is.
+fn path_of(name: &str) -> &str {
+    if name == STANDARD { "/dev/stdin" } else { name }
+}
+
 /// The file of this name, opened for reading.
 pub fn open_named<'a, H: Files>(rt: &H, name: &'a str) -> Result<H::File, Failure<'a>> {
-    match fs::open(rt, name) {
+    match fs::open(rt, path_of(name)) {
         Ok(file) => Ok(file),
         Err(said) => Err(Failure::of_file(RunFault::Read, name, said)),
     }

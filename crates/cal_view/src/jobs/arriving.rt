@@ -52,7 +52,7 @@ struct MadeText {
     /// The answer.
     answer: Vec<u8>,
     /// When each request came, where that is asked for.
-    came: Option<String>,
+    came: Option<Vec<u8>>,
 }
 
 impl<'a> Arriving<'a> {
@@ -116,9 +116,19 @@ impl<'a> Arriving<'a> {
         Ok(MadeText { answer, came })
     }
 
+    /// Whether there are no names, or as many as the table has tasks.
+    pub fn are_counted(&self, config: &Config) -> Result<(), Unmade<'a>> {
+        let (names, tasks) = (self.names.len(), config.tasks());
+        if names > 0 && names != tasks {
+            return Err(Unmade::Names(names, tasks));
+        }
+        Ok(())
+    }
+
     /// Makes these loads for a table.
     fn made_of_loads(&self, config: &Config, loads: &[TaskLoad]) -> Result<Made, Unmade<'a>> {
         let words = &self.asked.load;
+        self.are_counted(config)?;
         are_known(config, loads, words.tasks.as_slice())?;
         let plan = ArrivalPlan {
             loads,
@@ -164,7 +174,7 @@ impl<'a> Arriving<'a> {
     {
         if let Some(came) = &made.came {
             let name = self.asked.came.unwrap_or("");
-            if let Err(failure) = write_came(rt, self.alloc, name, came.as_bytes()) {
+            if let Err(failure) = write_came(rt, self.alloc, name, came.as_slice()) {
                 return Ok(failure.end(errors));
             }
         }

@@ -24,6 +24,7 @@ pub fn answer_compare<'a, W: Write, E: Write>(
         Err(fault) => {
             let runs = RefusedRuns {
                 read: input.read,
+                came: input.came,
                 variation,
             };
             runs.end(input.alloc, &fault, errors)
@@ -45,6 +46,7 @@ fn write_comparison<'a, W: Write>(
         variation,
         policies: input.policies,
         plan: input.plan,
+        counting: input.counting,
     };
     match form {
         Form::Numbers(form) => compare(alloc, compared, NumberStyle { labels, form }, output),

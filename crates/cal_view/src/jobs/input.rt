@@ -1,13 +1,15 @@
 //! What a job is done on.
 
+use crate::jobs::counting::CameText;
+use cal_came::CountAsked;
 use cal_paced::Plan;
 use cal_policy::Policy;
-use cal_tables::Labels;
+use cal_tables::{Labels, MeasuredInput};
 use cal_why::RefusedInput;
 use std::alloc::Global;
 
 /// An input that was read to its end, by which policies its runs are made, decided and audited, by
-/// which plan, and what its tasks and clock ticks are called.
+/// which plan, how its requests are counted, and what its tasks and clock ticks are called.
 #[derive(Clone, Copy)]
 pub struct JobInput<'a> {
     /// What a job takes memory from.
@@ -18,6 +20,10 @@ pub struct JobInput<'a> {
     pub policies: &'a [Policy],
     /// The plan of its runs; without it they are in lockstep.
     pub plan: Option<Plan>,
+    /// The file of when its requests came, where one is named.
+    pub came: Option<CameText<'a>>,
+    /// From when its requests count, and which of them are ranked.
+    pub counting: CountAsked<'a>,
     /// What its tasks and clock ticks are called.
     pub labels: Labels<'a>,
 }
@@ -26,6 +32,16 @@ impl<'a> JobInput<'a> {
     /// The bytes of the input.
     pub fn bytes(&self) -> &'a [u8] {
         self.read.input
+    }
+
+    /// The input, and how its run is made and counted.
+    pub fn measured(&self) -> MeasuredInput<'a> {
+        MeasuredInput {
+            bytes: self.bytes(),
+            policy: self.policy(),
+            plan: self.plan,
+            counting: self.counting,
+        }
     }
 
     /// The policy, where one is asked for.

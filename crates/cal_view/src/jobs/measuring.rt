@@ -1,10 +1,10 @@
 //! The numbers of a run, or of a recorded history.
 
+use crate::jobs::counting::end_asked;
 use crate::jobs::input::JobInput;
-use crate::jobs::pacing::end_paced;
 use cal_input::RunFault;
 use cal_policy::Verdict;
-use cal_tables::{NumberForm, NumberStyle, measure, measure_paced};
+use cal_tables::{NumberForm, NumberStyle, measure};
 use std::io::Write;
 
 /// Writes the numbers of an input, and answers the exit status: of a history that is not legal
@@ -19,16 +19,12 @@ pub fn answer_measure<W: Write, E: Write>(
         labels: input.labels,
         form,
     };
-    let (alloc, policy, bytes) = (input.alloc, input.policy(), input.bytes());
-    if let Some(plan) = &input.plan {
-        let wrote = measure_paced(alloc, policy, plan, bytes, style, output);
-        return end_paced(wrote, errors);
-    }
-    match measure(alloc, policy, bytes, style, output)? {
-        Verdict::Legal => Ok(0),
-        Verdict::Illegal { pass } => {
+    match measure(input.alloc, input.measured(), style, output) {
+        Ok(Verdict::Legal) => Ok(0),
+        Ok(Verdict::Illegal { pass }) => {
             let _ = writeln!(errors, "caladan_view: illegal pass {pass}");
             Ok(2)
         }
+        Err(fault) => end_asked(input, fault, errors),
     }
 }

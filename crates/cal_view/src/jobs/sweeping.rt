@@ -62,10 +62,10 @@ impl Sweeping<'_> {
 
     /// Says why there are no runs of an input, and answers the exit status. What is no fault of a
     /// word, of a table or of the input is the error.
-    fn refuse<E: Write>(
+    fn refuse<'x, E: Write>(
         &self,
-        input: &[u8],
-        variation: Option<Variation<'_>>,
+        input: &'x [u8],
+        variation: Option<Variation<'x>>,
         fault: SweepFault<'_>,
         errors: &mut E,
     ) -> Result<u8, RunFault> {
@@ -74,7 +74,12 @@ impl Sweeping<'_> {
             SweepFault::Word(fault) => Ok(refuse_word(&fault, errors)),
             SweepFault::Names { names, tasks } => Ok(refuse_other_count(names, tasks, errors)),
             SweepFault::Run(fault) => {
-                RefusedRuns { read, variation }.end(self.alloc, &fault, errors)
+                RefusedRuns {
+                    read,
+                    came: None,
+                    variation,
+                }
+                .end(self.alloc, &fault, errors)
             }
         }
     }

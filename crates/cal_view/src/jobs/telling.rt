@@ -1,14 +1,10 @@
 //! The facts of a run, or of a recorded history, as CSV.
 
+use crate::jobs::counting::end_asked;
 use crate::jobs::input::JobInput;
 use crate::jobs::pacing::end_paced;
-use cal_facts::{
-    write_requests, write_requests_paced, write_series, write_series_paced, write_spans,
-    write_spans_paced,
-};
+use cal_facts::{write_requests, write_series, write_spans};
 use cal_input::RunFault;
-use cal_paced::Plan;
-use cal_tables::PlannedFault;
 use std::io::Write;
 
 /// Which facts are written.
@@ -45,29 +41,23 @@ pub fn tell<W: Write, E: Write>(
     output: &mut W,
     errors: &mut E,
 ) -> Result<u8, RunFault> {
-    if let Some(plan) = &input.plan {
-        return end_paced(tell_paced(input, plan, facts, output), errors);
-    }
-    let (alloc, policy, bytes) = (input.alloc, input.policy(), input.bytes());
-    match facts {
-        Facts::Spans => write_spans(alloc, policy, bytes, output)?,
-        Facts::Series => write_series(alloc, policy, bytes, output)?,
-        Facts::Requests => write_requests(alloc, policy, bytes, output)?,
-    }
-    Ok(0)
+    let (alloc, policy, plan, bytes) = (input.alloc, input.policy(), input.plan, input.bytes());
+    let wrote = match facts {
+        Facts::Spans => write_spans(alloc, policy, plan, bytes, output),
+        Facts::Series => write_series(alloc, policy, plan, bytes, output),
+        Facts::Requests => return tell_requests(input, output, errors),
+    };
+    end_paced(wrote, errors)
 }
 
-/// Writes these facts of the run by a plan.
-fn tell_paced<W: Write>(
+/// Writes what came of each request, and answers the exit status.
+fn tell_requests<W: Write, E: Write>(
     input: &JobInput<'_>,
-    plan: &Plan,
-    facts: Facts,
     output: &mut W,
-) -> Result<(), PlannedFault> {
-    let (alloc, policy, bytes) = (input.alloc, input.policy(), input.bytes());
-    match facts {
-        Facts::Spans => write_spans_paced(alloc, policy, plan, bytes, output),
-        Facts::Series => write_series_paced(alloc, policy, plan, bytes, output),
-        Facts::Requests => write_requests_paced(alloc, policy, plan, bytes, output),
+    errors: &mut E,
+) -> Result<u8, RunFault> {
+    match write_requests(input.alloc, input.measured(), output) {
+        Ok(()) => Ok(0),
+        Err(fault) => end_asked(input, fault, errors),
     }
 }

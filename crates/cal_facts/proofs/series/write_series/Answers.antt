@@ -1,8 +1,9 @@
 use Rattle.std.proofs.Common.{◌≡◌, Err, List, rules, subst}
 use Rattle.std.specs.Io.KnownBytes.{Appends}
-use Rattle.cal_input.proofs.WholeInput.{failed}
-use Rattle.cal_tables.specs.Asked.{asked_of}
-use Rattle.cal_facts.proofs.WrittenLemmas.{text_is_asked}
+use Rattle.std.specs.Option.{is_some}
+use Rattle.cal_tables.proofs.Planning.{failed_by}
+use Rattle.cal_tables.specs.Asked.{asked_by}
+use Rattle.cal_facts.proofs.WrittenLemmas.{text_may_run}
 use Rattle.cal_facts.specs.Series.{series_text, text_of_series}
 use Rattle.cal_facts.specs.declared.series.point.Point.{Point}
 use Rattle.cal_facts.proofs.series.write_series.Goals as goal
@@ -10,7 +11,7 @@ use Rattle.cal_facts.proofs.series.write_series.Goals as goal
 pub returns-in_err-config-clause-exact : goal.returns-in_err-config-clause-exact
 returns-in_err-config-clause-exact g c =
     let same : c.from_residual.result ≡ Err c.in_err-config.field-0.0 = search rules in
-    rw same (failed c.in_err-config.field-0.0 (asked_of c.args.input.now) c.in_err-config.ensures.fault)
+    rw same (failed_by c.args.plan c.in_err-config.field-0.0 (asked_by (is_some c.args.plan) c.args.input.now) c.in_err-config.ensures.fault)
 
 pub returns-in-Ok-clause-exact : goal.returns-in-Ok-clause-exact
 returns-in-Ok-clause-exact g c = record {
@@ -22,4 +23,5 @@ returns-in-Ok-clause-exact g c = record {
 }
 
 pub returns-clause-exact : goal.returns-clause-exact
-returns-clause-exact g c = text_is_asked c.args.policy series_text (asked_of c.args.input.now) (text_of_series c.in_ok-config.config c.in_ok-config.points.items) c.in_ok-config.ensures.points
+returns-clause-exact g c =
+    text_may_run c.args.plan c.args.policy series_text (asked_by (is_some c.args.plan) c.args.input.now) (text_of_series c.in_ok-config.config c.in_ok-config.points.items) c.in_ok-config.ensures.points

@@ -4,6 +4,8 @@
 ghost use Rattle.std.specs.Prelude.{◌≡◌, ℕ, ◌+◌, ◌<◌, ◌≤◌, ◌++◌, true, false, length};
 ghost use Rattle.std.specs.Prelude.{option_to_list};
 ghost use Rattle.std.specs.Option.{IfSome};
+ghost use Rattle.cal_machine.specs.TableTasks.{threads_of_table};
+ghost use Rattle.cal_machine.specs.ThreadSet.{has_thread};
 ghost use Rattle.cal_policy.specs.declared.history.action_list.TheConstants.{MOST_ACTIONS};
 ghost use Rattle.cal_policy.specs.Assured.Grants as rules;
 ghost use Rattle.cal_policy.specs.Assured.Short.{waits};
@@ -45,8 +47,10 @@ impl Pass<'_> {
     /// Whether no thread shows a request that waits: then no task waits.
     pub fn none_waits(&self, board: &Board) -> bool
         requires at_hand { IsOfTable self.now.config.now board.now }
-        ensures { result ≡ true → Within self.now board.now (λ s acts. (t : ℕ) →
+        ensures waits { result ≡ true → Within self.now board.now (λ s acts. (t : ℕ) →
             t < length self.now.config.now.tasks → waits s (so_far s acts) t ≡ false) }
+        ensures kept { result ≡ true → (k : ℕ) → k < threads_of_table self.now.config.now →
+            has_thread board.now.keeping.waiting k ≡ false }
     {
         match board.keeping.waiting.next(0, self.config.threads()) {
             Some(_) => false,

@@ -107,9 +107,7 @@ impl Pass<'_> {
         ensures { Within self.now board.now (λ s acts. result
             ≡ rules.waits s (so_far s acts) task) }
     {
-        self.unhelped(board, task) > 0
-            && self.may_book(board, task)
-            && self.choose_thread(board, task).is_some()
+        self.unhelped(board, task) > 0 && self.may_book(board, task) && self.has_thread(board, task)
     }
 
     /// Whether a task is short and waits.

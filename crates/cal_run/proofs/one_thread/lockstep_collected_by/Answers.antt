@@ -11,6 +11,7 @@ use Rattle.cal_run.specs.Workers.{journals_of, seat_of}
 use Rattle.cal_run.specs.declared.outcome.RunEnd.{RunEnd}
 use Rattle.cal_run.specs.declared.workers.worker.Worker.{Worker}
 use Rattle.cal_run.proofs.CollectorLemmas.Opened.{all_empty, no_pass_yet, no_turn_yet}
+use Rattle.cal_run.proofs.RoundsLemmas.FirstPasses.{first_alike}
 use Rattle.cal_run.proofs.RoundsLemmas.Rounds.{unwatched_end}
 use Rattle.cal_run.proofs.one_thread.lockstep_collected_by.Goals as goal
 
@@ -49,6 +50,25 @@ returns-clause-run g c =
       outcome = outcome_of end;
       run = subst R (c.in_ok-make_rounds.ensures.policy ∙ c.in-Ok.ensures.policy) c.in_ok-left.ensures.run;
       collected = c.in_ok-make_rounds.ensures.collected held;
+      left = refl;
+    }
+
+pub returns-clause-wrote : goal.returns-clause-wrote
+returns-clause-wrote g c =
+    let arrivals = c.args.arrivals.now in
+    let opened = c.in-Ok.parts in
+    let made = c.make_rounds.new.parts in
+    let W : List PassEntry → Type 0 = λ h. g.C.Collector.wrote c.args.collector.now c.args.collector.now h in
+    let nothing : W opened.scheduler.history = subst W (sym (no_pass_yet arrivals opened.scheduler c.in-Ok.ensures.parts.passes)) c.requires.unwritten in
+    let end : RunEnd = record { history = made.scheduler.history; journals = journals_of made.workers.items; left = c.in_ok-left.field-0.left; watched = filled c.args.config.now arrivals c.in_ok-left.field-0.watched } in
+    let R : Policy → Type 0 = λ p. IsRunEndBy p c.args.config.now arrivals end in
+    record {
+      outcome = outcome_of end;
+      run = subst R (c.in_ok-make_rounds.ensures.policy ∙ c.in-Ok.ensures.policy) c.in_ok-left.ensures.run;
+      collected = (
+        first_alike _ _ _ _ arrivals made.scheduler.history c.in-Ok.ensures.policy c.in-Ok.ensures.parts.together.same_table c.in_ok-make_rounds.ensures.first,
+        c.in_ok-make_rounds.ensures.wrote c.args.collector.now nothing,
+      );
       left = refl;
     }
 

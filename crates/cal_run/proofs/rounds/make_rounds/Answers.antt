@@ -1,5 +1,10 @@
-use Rattle.std.proofs.Common.{refl, subst, sym, ◌∙◌}
+use Rattle.std.proofs.Common.{List, refl, subst, sym, ◌∙◌}
 use Rattle.cal_machine.specs.Table.{Table}
+use Rattle.cal_policy.specs.Policies.{IsLegalBy}
+use Rattle.cal_policy.specs.declared.history.entry.PassEntry.{PassEntry}
+use Rattle.cal_policy.proofs.PolicyLemmas.{legal_none_by}
+use Rattle.cal_run.proofs.CollectorLemmas.Opened.{no_pass_yet}
+use Rattle.cal_run.proofs.RoundsLemmas.FirstPasses.{first_alike, first_passes}
 use Rattle.cal_run.proofs.RoundsLemmas.Rounds.{before_rounds, with_table}
 use Rattle.cal_run.proofs.rounds.make_rounds.Goals as goal
 
@@ -10,6 +15,12 @@ loop-r-init g c = record {
   policy = refl;
   suits = c.requires.suits;
   collected = λ held. held;
+  legal =
+      let s = c.args.parts.now.scheduler in
+      let P : List PassEntry → Type 0 = λ h. IsLegalBy s.policy s.table h in
+      subst P (sym (no_pass_yet c.args.arrivals.now s c.requires.opened.passes)) (legal_none_by s.policy s.table);
+  wrote = λ first held. held;
+  same = λ first held. held;
 }
 
 pub make_round-requires-clause-before : goal.make_round-requires-clause-before
@@ -32,7 +43,16 @@ loop-r-preserved g c =
       suits = subst P made.together.same_table c.in_ok-make_round.ensures.suits;
       made = with_table _ c.args.parts.now.scheduler.table c.args.arrivals.now _ c.make_round.new.parts made.together.same_table c.in_ok-make_round.ensures.made;
       collected = λ held. c.in_ok-make_round.ensures.collected (c.loop-r.invariant.collected held);
+      legal = c.in_ok-make_round.ensures.legal;
+      wrote = λ first held. c.in_ok-make_round.ensures.wrote first (c.loop-r.invariant.wrote first held);
+      same = λ first held. c.make_round.ensures.same first (c.loop-r.invariant.same first held);
     }
 
 pub returns-clause-suits : goal.returns-clause-suits
 returns-clause-suits g c = c.loop-r.invariant.suits
+
+pub returns-clause-first : goal.returns-clause-first
+returns-clause-first g c =
+    let kept = c.loop-r.invariant in
+    let history = c.loop-r.parts.scheduler.history in
+    first_alike _ _ _ _ c.args.arrivals.now history kept.policy kept.made.together.same_table (first_passes _ _ c.args.arrivals.now _ history kept.legal kept.made.passes)

@@ -1,4 +1,5 @@
 use Rattle.std.specs.Prelude.{◌≡◌}
+use Rattle.cal_policy.specs.Policies.{IsLegalBy}
 use Rattle.cal_run.specs.Rounds.{AreAfterRounds}
 use Rattle.cal_run.specs.Workers.{journals_of}
 use Rattle.cal_run.proofs.rounds.make_rounds.Given as goal
@@ -12,4 +13,7 @@ invariant-loop-r g l = record {
   suits : g.C.Collector.suits l.collector l.initial.parts.scheduler.table;
   collected : g.C.Collector.holds l.initial.collector l.initial.parts.scheduler.history (journals_of l.initial.parts.workers.items) →
       g.C.Collector.holds l.collector l.parts.scheduler.history (journals_of l.parts.workers.items);
+  legal : IsLegalBy l.parts.scheduler.policy l.parts.scheduler.table l.parts.scheduler.history;
+  wrote : (first : _) → g.C.Collector.wrote first l.initial.collector l.initial.parts.scheduler.history → g.C.Collector.wrote first l.collector l.parts.scheduler.history;
+  same : (first : _) → g.C.Collector.same first l.initial.collector → g.C.Collector.same first l.collector;
 }

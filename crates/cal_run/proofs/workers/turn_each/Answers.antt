@@ -16,6 +16,8 @@ loop-k-init g c = record {
   turned = none_turned c.args.arrivals.now c.args.j c.args.workers.now c.requires.made;
   suits = λ table held. held;
   collected = λ history held. held;
+  wrote = λ first history held. held;
+  same = λ first held. held;
 }
 
 pub turn-requires-clause-made : goal.turn-requires-clause-made
@@ -48,6 +50,8 @@ loop-k-preserved g c =
           let Q : List (List Entry) → Type 0 = λ l. g.C.Collector.holds c.add_turn.new.self history l in
           subst Q (journals_after workers k is (was.thread.journal ++ entries_of entries) handed)
           (c.in_ok-add_turn.ensures.collected history _ was.thread.journal (c.loop-k.invariant.collected history held) (journal_at_place workers k was at) (subst P handed fits));
+      wrote = λ first history held. c.add_turn.ensures.wrote first history (c.loop-k.invariant.wrote first history held);
+      same = λ first held. c.add_turn.ensures.same first (c.loop-k.invariant.same first held);
     }
 
 pub returns-clause-made : goal.returns-clause-made

@@ -12,4 +12,6 @@ invariant-loop-k g l = record {
   suits : (table : Table) → g.C.Collector.suits l.initial.collector table → g.C.Collector.suits l.collector table;
   collected : (history : List PassEntry) → g.C.Collector.holds l.initial.collector history (journals_of l.initial.workers) →
       g.C.Collector.holds l.collector history (journals_of l.workers);
+  wrote : (first : _) (history : List PassEntry) → g.C.Collector.wrote first l.initial.collector history → g.C.Collector.wrote first l.collector history;
+  same : (first : _) → g.C.Collector.same first l.initial.collector → g.C.Collector.same first l.collector;
 }

@@ -4,22 +4,46 @@ use crate::edge::beside::open_beside;
 use crate::edge::failure::Failure;
 use cal_input::RunFault;
 use cal_load::{Made, turn_of};
+use cal_machine::Listed;
+use cal_trace::{Coming, Comings, LeftOut, write_comings};
 use std::alloc::{AllocError, Global};
-use std::fmt::Write as _;
 use std::io::Write;
 use std::rt::Files;
 
-/// The turn to which each request came, in the order of the arrivals, a row for each, below the
-/// names of the columns.
-pub fn came_text(alloc: Global, made: &Made, ticks: u64) -> Result<String, AllocError> {
-    let mut text = String::new(alloc);
-    text.push_str("id,turn\n")?;
-    for came in made.came.as_slice() {
-        let turn = turn_of(ticks, *came);
-        let id = came.id;
-        writeln!(text, "{id},{turn}")?;
+/// To which turn each request came that was made, and how many are left out. Fails only when out of
+/// memory.
+fn comings_of(alloc: Global, made: &Made, ticks: u64) -> Result<Comings, AllocError> {
+    let mut requests = Vec::new(alloc);
+    let arrivals = made.arrivals.requests.as_slice();
+    for (arrival, came) in arrivals.iter().zip(made.came.as_slice()) {
+        requests.push(Coming {
+            arrival: *arrival,
+            turn: turn_of(ticks, *came),
+        })?;
     }
-    Ok(text)
+    let mut left_out = Vec::new(alloc);
+    for count in made.counts.as_slice() {
+        if count.left_out > 0 {
+            left_out.push(LeftOut {
+                task: count.task as u64,
+                count: count.left_out,
+            })?;
+        }
+    }
+    Ok(Comings {
+        requests: Listed::new(requests),
+        left_out: Listed::new(left_out),
+    })
+}
+
+/// The file of the comings of what was made. The fault is `Memory`.
+pub fn came_text(alloc: Global, made: &Made, ticks: u64) -> Result<Vec<u8>, RunFault> {
+    let comings = comings_of(alloc, made, ticks)?;
+    let mut text = Vec::new(alloc);
+    match write_comings(&comings, &mut text) {
+        Ok(()) => Ok(text),
+        Err(_) => Err(RunFault::Memory),
+    }
 }
 
 /// Writes this text to the file of this name.

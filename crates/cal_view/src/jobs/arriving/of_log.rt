@@ -1,14 +1,13 @@
 //! Arrivals of a log.
 
 use crate::command_words::log_words::LogWords;
-use crate::edge::failure::Failure;
-use crate::edge::sources::read_named;
+use crate::edge::sources::{STANDARD, read_named};
 use crate::jobs::arriving::Arriving;
 use crate::jobs::arriving::unmade::Unmade;
 use cal_input::RunFault;
 use cal_load::{
     LoadFault, LogFault, LogTerms, Made, RowFault, Timing, Why, logged_arrivals, read_log, refused,
-    scale_of, turns_for, word_at,
+    scale_of, task_at, turns_for, word_at,
 };
 use cal_machine::Config;
 use cal_why::place_of_field;
@@ -22,19 +21,11 @@ pub struct AskedLog<'a> {
     words: LogWords<'a>,
 }
 
-/// Where the file of this name is.
-fn path_of(name: &str) -> &str {
-    if name == "-" { "/dev/stdin" } else { name }
-}
-
 /// All bytes of the log of this name.
 fn log_text<'a, H: Files>(rt: &H, alloc: Global, name: &'a str) -> Result<Vec<u8>, Unmade<'a>> {
-    match read_named(rt, alloc, path_of(name)) {
+    match read_named(rt, alloc, name) {
         Ok(text) => Ok(text),
-        Err(failure) => {
-            let file = failure.file.map(|_path| name);
-            Err(Unmade::File(Failure { file, ..failure }))
-        }
+        Err(failure) => Err(Unmade::File(failure)),
     }
 }
 
@@ -53,7 +44,7 @@ impl<'a> Arriving<'a> {
     /// the table is.
     pub fn asked_log(&self, words: LogWords<'a>) -> Result<AskedLog<'a>, LoadFault<'a>> {
         let tasks = self.asked.load.tasks.as_slice();
-        if words.file == "-" && !self.is_named {
+        if words.file == STANDARD && !self.is_named {
             return Err(refused("--log", words.file, Why::IsTheTable));
         }
         if tasks.len() > 1 {
@@ -65,16 +56,16 @@ impl<'a> Arriving<'a> {
 
     /// The task of all rows, where a word says it; one that the table has.
     fn task_of_log(&self, config: &Config) -> Result<Option<usize>, LoadFault<'a>> {
-        let Some(word) = self.asked.load.tasks.as_slice().first().copied() else {
+        let words = &self.asked.load;
+        if words.tasks.is_empty() {
             return Ok(None);
-        };
-        match word.parse::<usize>() {
-            Ok(task) if task < config.tasks() => Ok(Some(task)),
-            _ => {
-                let tasks = config.tasks() as u64;
-                Err(refused("--task", word, Why::NotATask(tasks)))
-            }
         }
+        let task = task_at(words, 0)?;
+        if task >= config.tasks() {
+            let word = word_at(words.tasks.as_slice(), 0);
+            return Err(refused("--task", word, Why::NotATask(config.tasks() as u64)));
+        }
+        Ok(Some(task))
     }
 
     /// How long the run is: as the words say, or else as its last request asks for.
@@ -97,13 +88,10 @@ impl<'a> Arriving<'a> {
         config: &Config,
         log: &AskedLog<'a>,
     ) -> Result<Made, Unmade<'a>> {
-        let (names, tasks) = (self.names.len(), config.tasks());
-        if names > 0 && names != tasks {
-            return Err(Unmade::Names(names, tasks));
-        }
+        self.are_counted(config)?;
         let terms = LogTerms {
             scale: scale_of(log.words.unit, log.words.turn)?,
-            tasks,
+            tasks: config.tasks(),
             names: self.names,
             task: self.task_of_log(config)?,
         };

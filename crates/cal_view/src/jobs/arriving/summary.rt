@@ -54,7 +54,7 @@ fn threads_of(config: &Config, task: usize) -> u64 {
 }
 
 /// The work that comes, in thousandths of the turns of so many threads.
-fn load_of(work: u64, turns: u64, threads: u64) -> u128 {
+fn load_of(work: u64, turns: u64, threads: u64) -> u64 {
     let whole = u128::from(turns).saturating_mul(u128::from(threads));
     thousandths(u128::from(work), whole).unwrap_or(0)
 }

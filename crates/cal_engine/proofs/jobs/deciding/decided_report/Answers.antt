@@ -18,5 +18,5 @@ returns c =
     text_kept (λ report. report.items) c.end.result run_report keeps c.in_ok-config.config c.in_ok-config.decider (decided_run_by c.args.policy c.args.input.now) c.in_ok-config.ensures.decided
     (λ run has.
     let P : Table → Type 0 = λ t. IfOk c.end.result (λ text. text.items ≡ report_text t run.history) in
-    subst P (sym has.same_table) (c.end.ensures.text run.history has.decided.kept has.decided.agrees))
+    subst P (sym has.same_table) (c.end.ensures.text run.history has.decided.kept (c.board.ensures.agrees run.history has.decided.agrees)))
     c.end.ensures.kind

@@ -2,7 +2,7 @@ use Rattle.std.proofs.Common.{◌≡◌, ℕ, List, length}
 use Rattle.std.proofs.lemmas.Result.{IfOk-weaker}
 use Rattle.cal_machine.specs.declared.request.Request.{Request}
 use Rattle.cal_policy.specs.declared.policy.Policy.{Policy}
-use Rattle.cal_run.specs.Outcome.{IsRunBy, outcome_of}
+use Rattle.cal_run.specs.Outcome.{IsRunBy}
 use Rattle.cal_run.specs.declared.outcome.Outcome.{Outcome}
 use Rattle.cal_trace.specs.Report.Summary.{summary_text}
 use Rattle.cal_input.specs.Parts.{RunInput}
@@ -23,7 +23,3 @@ returns-in_ok-end-in-Summary-clause-text c =
     let of = c.in_ok-end-in-Summary.ensures.run in
     IfOk-weaker c.tallied_summary.result _ _ (λ text made. summary_of_run c.args.accepted.now.policy c.args.answer input of.outcome c.in_ok-end-in-Summary.end.left text.items c.in-Summary.is of.run of.left made)
     (c.tallied_summary.ensures.text of.outcome.journals of.tallies)
-
-pub returns-in_ok-end-in_default-clause-text : goal.returns-in_ok-end-in_default-clause-text
-returns-in_ok-end-in_default-clause-text c =
-    IfOk-weaker c.run_text.result _ _ (λ text made. record { outcome = outcome_of c.in_ok-end-in_default.end; run = c.in_ok-end-in_default.ensures.run; made = made }) c.run_text.ensures.text

@@ -22,6 +22,8 @@ taken table h walk n t now time is place actions at most held leaving congested 
       held = held ∙ of_task.held;
       leaving = leaving ∙ of_task.leaving;
       congested = congested ∙ of_task.congested;
+      few_held = let all = of_task.few_held in let few = is.few in omega (arith, held, all, few);
+      few_leaving = let all = of_task.few_leaving in let few = is.few in omega (arith, leaving, all, few);
     })
 
 pub loop-task-preserved : goal.loop-task-preserved

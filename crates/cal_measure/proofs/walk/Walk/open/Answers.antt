@@ -16,4 +16,5 @@ returns-clause-walk c = record {
   times = c.in_ok-times.ensures.each;
   machine = c.none.ensures c.args.config.now;
   few_actions = omega arith;
+  few = omega arith;
 }

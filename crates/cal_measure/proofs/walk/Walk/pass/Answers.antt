@@ -49,4 +49,5 @@ returns-clause-walk c = λ h e few state now figure acts was.
       times = subst (λ (l : List TaskTime). EachTask (IsTimeOf table h2) l) (sym times_is) timed;
       machine = c.with_pass-self.ensures h e few state figure lasts was.machine;
       few_actions = few_actions;
+      few = let long = length-append h (e ∷ []) in omega (arith, low, long);
     }

@@ -21,7 +21,7 @@ pub returns-then-none_waits : goal.returns-then-none_waits
 returns-then-none_waits c = λ h acts st.
     let s = setting_in c.args.self.now h in
     let x = so_far s acts in
-    sym (ap (λ w. w && nat_le (open_cores s.table x) (lacking s.table x)) (none_short s x (c.if-none_waits.ensures refl h acts st)))
+    sym (ap (λ w. w && nat_le (open_cores s.table x) (lacking s.table x)) (none_short s x (c.if-none_waits.ensures.waits refl h acts st)))
 
 pub returns-then-lacking-open_now : goal.returns-then-lacking-open_now
 returns-then-lacking-open_now c = λ h acts st.

@@ -17,7 +17,7 @@ returns-then-none_waits-clause-acts c = λ h st.
     let s = setting_in c.args.self.now h in
     let out = c.args.out.now in
     Reached_skip (by_place s out) s out out c.args.board.now 0 (length s.table.tasks) (omega arith)
-    (λ place a b. nothing_in_place s out (so_far s out) place (task_in_place s (so_far s out) place) refl (c.if-none_waits.ensures refl h out st))
+    (λ place a b. nothing_in_place s out (so_far s out) place (task_in_place s (so_far s out) place) refl (c.if-none_waits.ensures.waits refl h out st))
     (sym (append-nil out), st)
 
 -- where none may take a core none is given one

@@ -4,8 +4,8 @@ use Rattle.cal_policy.specs.Pass.AtHand.{setting_in}
 use Rattle.cal_policy.proofs.AssuredLemmas.Waiting.{calm_task}
 use Rattle.cal_policy.proofs.pass.Pass.none_waits.Goals as goal
 
-pub returns-in-None : goal.returns-in-None
-returns-in-None c = λ yes h acts st t lt.
+pub returns-in-None-clause-waits : goal.returns-in-None-clause-waits
+returns-in-None-clause-waits c = λ yes h acts st t lt.
     let s = setting_in c.args.self.now h in
     let p = c.requires.at_hand in
     let end = next_le s.table.tasks t lt in

@@ -30,6 +30,7 @@ returns c = λ table h e few lasting was.
             so_far.over_limit c.ticks_if-over.result lasts was.numbers.are.over_limit lasting
             (λ none. c.ticks_if-over.ensures ∙ ap (λ l. cond c.args.self.is_over l 0) none ∙ no_ticks c.args.self.is_over)
             (λ p is. c.ticks_if-over.ensures ∙ ap (λ (b : Bool). cond b lasts 0) (was.is_over p is));
+        few = let b = was.numbers.few_lasted in let d = c.ranges.lasts in omega (arith, lasted, b, d, low);
       };
       few_lasted = let b = was.numbers.few_lasted in let d = c.ranges.lasts in omega (arith, lasted, b, d, long);
       few_held = let b = was.numbers.few_held in let d = c.core_time-held.ensures.few in omega (arith, held, b, d, long);

@@ -1,5 +1,0 @@
-use Rattle.cal_assured.proofs.Points.{permitted_point}
-use Rattle.cal_assured.proofs.safety.tasks_keep_to_limits.Goals as goal
-
-pub returns : goal.returns
-returns c = λ here is. c.tasks_keep_to_limits.ensures here (permitted_point c.passes_are_permitted.ensures here is)

@@ -1,8 +1,0 @@
-use Rattle.cal_policy.specs.declared.history.action.Action.TheVariants.{Free}
-use Rattle.cal_laws.specs.Point.{setting_at, made_at}
-use Rattle.cal_laws.proofs.ExclusionLemmas.Left.{was_left}
-use Rattle.cal_laws.proofs.PointLemmas.EachAction.{safe_at, safe_point}
-use Rattle.cal_laws.proofs.acknowledged.freed_cores_were_left.Goals as goal
-
-pub returns : goal.returns
-returns c = λ here is core e. was_left (setting_at here) (made_at here) core (safe_at here (safe_point c.legal_is_safe.ensures here is) (Free core) e)

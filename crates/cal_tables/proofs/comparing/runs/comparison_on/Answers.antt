@@ -1,0 +1,14 @@
+use Rattle.std.proofs.Common.{subst}
+use Rattle.cal_tables.specs.Compared.{AreOfTables, IsToldBy}
+use Rattle.cal_tables.specs.declared.comparing.tables.GivenTables.{GivenTables}
+use Rattle.cal_tables.proofs.comparing.runs.comparison_on.Goals as goal
+
+pub returns-clause-runs : goal.returns-clause-runs
+returns-clause-runs c =
+    let counted = c.in_ok-counted.counted in
+    record {
+      told = counted.told;
+      counted = c.in_ok-counted.ensures.counted;
+      are = subst (λ (from : GivenTables). AreOfTables (IsToldBy c.args.terms counted.told) from.given from.arrivals from.tables.items c.in_ok-runs.runs.items)
+          c.in_ok-counted.ensures.same c.in_ok-runs.ensures;
+    }

@@ -1,0 +1,6 @@
+use Rattle.std.proofs.Common.{◌≡◌, take}
+use Rattle.cal_tables.specs.Crowding.{far_of}
+use Rattle.cal_tables.proofs.crowding.far_of.Given as goal
+
+abbrev pub invariant-loop-coming : goal.invariant-loop-coming
+invariant-loop-coming l = l.far ≡ far_of l.config l.task (take l.coming-index l.comings)

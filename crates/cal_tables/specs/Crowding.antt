@@ -1,0 +1,23 @@
+-- The requests that found their turns taken.
+use Rattle.std.specs.Prelude.{◌+◌, ◌==◌, ◌&&◌, nat_lt, ℕ, Bool, List}
+use Rattle.std.specs.List.{count_by}
+use Rattle.cal_machine.specs.Table.{Table}
+use Rattle.cal_machine.specs.TableTasks.{owner_of, threads_of_table}
+use Rattle.cal_trace.specs.declared.arrivals.Arrival.{Arrival}
+use Rattle.cal_trace.specs.declared.comings.Coming.{Coming}
+
+-- a request comes to a thread of the task
+abbrev pub is_for : Table → ℕ → Arrival → Bool
+is_for table t arrival =
+    nat_lt arrival.thread (threads_of_table table) && (owner_of table arrival.thread == t)
+
+-- a request was moved by more than one turn
+abbrev pub moved_far : Coming → Bool
+moved_far coming = nat_lt (coming.turn + 1) coming.arrival.turn
+
+abbrev pub is_far : Table → ℕ → Coming → Bool
+is_far table t coming = moved_far coming && is_for table t coming.arrival
+
+-- how many requests of the task were moved by more than one turn
+abbrev pub far_of : Table → ℕ → List Coming → ℕ
+far_of table t comings = count_by (is_far table t) comings

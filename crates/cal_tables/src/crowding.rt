@@ -1,0 +1,98 @@
+//! The requests that found their turns taken.
+
+ghost use Rattle.std.specs.Prelude.{◌≡◌, ◌&&◌};
+ghost use Rattle.cal_tables.specs.Crowding.{far_of, is_far, is_for, moved_far};
+
+use crate::figures::{Figure, count};
+use cal_machine::Config;
+use cal_trace::{Arrival, Coming, Comings, LeftOut};
+
+/// How many requests of a task found their turns taken.
+#[derive(Clone, Copy, Debug, PartialEq, Eq)]
+pub struct Crowded {
+    /// Those that were moved by more than one turn.
+    pub far: usize,
+    /// Those that found no turn, and are left out.
+    pub left_out: u64,
+}
+
+/// Whether a request comes to a thread of a task.
+fn is_for(config: &Config, task: usize, arrival: &Arrival) -> bool
+    ensures { result ≡ is_for config.now task arrival.now }
+{
+    let thread = arrival.thread as usize;
+    thread < config.threads() && config.task_of(thread) == task
+}
+
+/// Whether a request was moved by more than one turn.
+fn moved_far(coming: &Coming) -> bool
+    ensures { result ≡ moved_far coming.now }
+{
+    coming.arrival.turn.saturating_sub(coming.turn) > 1
+}
+
+/// Whether a request of a task was moved by more than one turn.
+fn is_far(config: &Config, task: usize, coming: &Coming) -> bool
+    ensures { result ≡ is_far config.now task coming.now }
+{
+    moved_far(coming) && is_for(config, task, &coming.arrival)
+}
+
+/// How many requests of a task were moved by more than one turn.
+fn far_of(config: &Config, task: usize, comings: &[Coming]) -> usize
+    ensures { result ≡ far_of config.now task comings.now }
+{
+    let mut far: usize = 0;
+    for coming in comings {
+        if is_far(config, task, coming) {
+            far += 1;
+        }
+    }
+    far
+}
+
+/// How many requests of a task are left out.
+fn left_out_of(task: usize, left_out: &[LeftOut]) -> u64 {
+    for of_task in left_out {
+        if of_task.task == task as u64 {
+            return of_task.count;
+        }
+    }
+    0
+}
+
+/// How many requests of a task of a table found their turns taken, by the comings of its arrivals.
+pub fn crowded_of(config: &Config, comings: &Comings, task: usize) -> Crowded
+    ensures far { result.far ≡ far_of config.now task comings.now.requests }
+{
+    Crowded {
+        far: far_of(config, task, comings.requests.as_slice()),
+        left_out: left_out_of(task, comings.left_out.as_slice()),
+    }
+}
+
+/// What a row says of the requests of a task that found their turns taken.
+#[derive(Clone, Copy)]
+pub enum CrowdLine {
+    Far,
+    LeftOut,
+}
+
+/// The rows, in order. They stand below the one of requests that were left.
+pub const CROWD_LINES: [CrowdLine; 2] = [CrowdLine::Far, CrowdLine::LeftOut];
+
+/// What stands in front of a row.
+pub fn crowd_label(line: CrowdLine) -> &'static str {
+    match line {
+        CrowdLine::Far => "requests far",
+        CrowdLine::LeftOut => "requests left out",
+    }
+}
+
+/// What a row says of a task.
+pub fn crowd_figure(crowded: Crowded, line: CrowdLine) -> Option<Figure> {
+    match line {
+        CrowdLine::Far => count(crowded.far),
+        CrowdLine::LeftOut => Some(Figure::of(crowded.left_out)),
+    }
+}

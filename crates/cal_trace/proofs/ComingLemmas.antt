@@ -1,0 +1,2 @@
+-- Files of comings: written, and read back.
+pub mod Lines

@@ -1,0 +1,15 @@
+-- The lines of comings, as they are written one after another.
+use Rattle.std.proofs.Common.{ℕ, List, Option, map}
+use Rattle.std.specs.Io.KnownBytes.{Appends}
+use Rattle.std.proofs.KnownBytes.{Appends-trans}
+use Rattle.cal_trace.specs.Comings.Text.{coming_fields, comings_text, header_row, left_out_fields}
+use Rattle.cal_trace.specs.History.Text.{lines_of}
+use Rattle.cal_trace.specs.Rows.Text.{line_of}
+use Rattle.cal_trace.specs.declared.comings.Comings.{Comings}
+use Rattle.cal_trace.proofs.ArrivalLemmas.Lines.{two}
+
+-- the header, the requests, and what is left out
+pub whole_comings : (a b c d : Option (List ℕ)) (comings : Comings) → Appends a b (line_of header_row) → Appends b c (lines_of (map coming_fields comings.requests))
+    → Appends c d (lines_of (map left_out_fields comings.left_out)) → Appends a d (comings_text comings)
+whole_comings a b c d comings header requests left_out =
+    Appends-trans a b d _ _ header (two b c d (map coming_fields comings.requests) _ requests left_out)

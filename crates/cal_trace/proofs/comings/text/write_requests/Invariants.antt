@@ -1,0 +1,8 @@
+use Rattle.std.proofs.Common.{take, map}
+use Rattle.std.specs.Io.KnownBytes.{Appends}
+use Rattle.cal_trace.specs.Comings.Text.{coming_fields}
+use Rattle.cal_trace.specs.History.Text.{lines_of}
+use Rattle.cal_trace.proofs.comings.text.write_requests.Given as goal
+
+abbrev pub invariant-loop-coming : goal.invariant-loop-coming
+invariant-loop-coming g l = Appends (g.W.Write.contents l.initial.writer) (g.W.Write.contents l.writer) (lines_of (map coming_fields (take l.coming-index l.requests)))
