@@ -105,7 +105,7 @@ def parser_of() -> Parser:
     add = sweep.options.add_argument
     add("--slo", default="", metavar="task.T.R=N", help="the objective: the response at rank R is at most N ticks")
     add("--table", metavar="FILE", help="the task table of CSV: its cores and tasks")
-    word_of(words, "seeds", "measures of runs with several seeds: the median, the least and the greatest",
+    word_of(words, "seeds", "what several seeds measured: median, least, greatest",
             "rows of runs: what is set, the seed, the measures, as bench/interference keeps them")
     return parser
 

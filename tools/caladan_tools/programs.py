@@ -80,7 +80,8 @@ def help_of(program, *words):
 def listed(text, head):
     """The names under a heading of a help text, and what each is for."""
     part = re.search(rf"^{head}:\n((?:  .*\n|\n(?=  ))*)", text + "\n", re.M)
-    return dict(re.findall(r"^ +(?:-\w(?: [A-Z]+)?, )?([\w-]+)(?: +(\S.*))?$", part[1] if part else "", re.M))
+    # What runs on in further lines stands deeper than any name.
+    return dict(re.findall(r"^ {2,6}(?:-\w(?: [A-Z]+)?, )?([\w-]+)(?: +(\S.*))?$", part[1] if part else "", re.M))
 
 
 def words_of(program):

@@ -12,7 +12,7 @@ use std::io::Read;
 pub const INPUT_LIMIT: usize = 67_108_864;
 
 // How many bytes are asked of the reader at a time.
-const CHUNK: usize = 65_536;
+const CHUNK: usize = 16_384;
 
 /// All the bytes that a reader gives, read to its end.
 ///

@@ -145,17 +145,17 @@ pub fn lockstep_collected_by<C: Collector>(
     requires fits { FitsTable config.now arrivals.now }
     requires suits { C.suits collector.old config.now }
     requires opened { C.holds collector.old [] (replicate (threads_of_table config.now) []) }
-    requires unwritten { C.wrote collector.old collector.old [] }
-    requires same { C.same collector.old collector.old }
     ensures suits { IfOk result (λ _. C.suits collector.new config.now) }
     ensures run { IfOk result
         (IsCollectedEndBy policy (C.holds collector.new) config.now arrivals.now) }
-    ensures wrote { IfOk result (IsCollectedEndBy policy (λ history _.
+    ensures wrote { C.wrote collector.old collector.old [] →
+        IfOk result (IsCollectedEndBy policy (λ history _.
         AreFirstPasses policy config.now arrivals.now history
         × C.wrote collector.old collector.new history) config.now arrivals.now) }
-    ensures stopped { IfErr result (λ _. HasStopped policy config.now arrivals.now
+    ensures stopped { C.wrote collector.old collector.old [] →
+        IfErr result (λ _. HasStopped policy config.now arrivals.now
         (C.wrote collector.old collector.new)) }
-    ensures same { C.same collector.old collector.new }
+    ensures same { C.same collector.old collector.old → C.same collector.old collector.new }
 {
     let Ok(mut parts) = open_unwatched_by(alloc, config, policy, arrivals) else {
         return Err(C::Fault::from(AllocError));

@@ -102,8 +102,6 @@ pub fn collected_by<C: Collector>(
     requires given { AreGivenBy plan given.old }
     requires suits { C.suits collector.old config.now }
     requires opened { C.holds collector.old [] (replicate (threads_of_table config.now) []) }
-    requires unwritten { C.wrote collector.old collector.old [] }
-    requires same { C.same collector.old collector.old }
     ensures suits { IfOk result (λ _. C.suits collector.new config.now) }
     ensures fits { IfOk result (λ _. FitsTable config.now given.new) }
     ensures run { (arrivals : RunArrivals) → ArePlannedBy plan arrivals given.old →

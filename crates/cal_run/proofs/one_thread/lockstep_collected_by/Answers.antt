@@ -54,12 +54,12 @@ returns-clause-run g c =
     }
 
 pub returns-clause-wrote : goal.returns-clause-wrote
-returns-clause-wrote g c =
+returns-clause-wrote g c = λ unwritten.
     let arrivals = c.args.arrivals.now in
     let opened = c.in-Ok.parts in
     let made = c.make_rounds.new.parts in
     let W : List PassEntry → Type 0 = λ h. g.C.Collector.wrote c.args.collector.now c.args.collector.now h in
-    let nothing : W opened.scheduler.history = subst W (sym (no_pass_yet arrivals opened.scheduler c.in-Ok.ensures.parts.passes)) c.requires.unwritten in
+    let nothing : W opened.scheduler.history = subst W (sym (no_pass_yet arrivals opened.scheduler c.in-Ok.ensures.parts.passes)) unwritten in
     let end : RunEnd = record { history = made.scheduler.history; journals = journals_of made.workers.items; left = c.in_ok-left.field-0.left; watched = filled c.args.config.now arrivals c.in_ok-left.field-0.watched } in
     let R : Policy → Type 0 = λ p. IsRunEndBy p c.args.config.now arrivals end in
     record {
