@@ -67,6 +67,19 @@ class Written(unittest.TestCase):
         self.assertEqual(as_svg(drawn("run", name)), as_svg(drawn.__wrapped__("run", name)))
 
 
+class Helped(unittest.TestCase):
+    """What the help says."""
+
+    def test_a_manual_page_and_completions_are_made_of_each_word(self):
+        pages, words = path_of("manual"), ("compare", "run", "seeds", "sweep")
+        subprocess.run([os.path.join(TOP, "tools/manual"), pages, DRAW], check=True)
+        self.assertEqual(sorted(os.listdir(f"{pages}/man/man1")),
+                         ["caladan_draw-%s.1" % it for it in words] + ["caladan_draw.1"])
+        completed = text_of(f"{pages}/fish/vendor_completions.d/caladan_draw.fish")
+        for word in words:
+            self.assertIn(f"__fish_seen_subcommand_from {word}' -l output\n", completed)
+
+
 class Read(unittest.TestCase):
     """Whether pictures can be read at the width of a README."""
 
