@@ -162,7 +162,7 @@ pub fn request_figure(numbers: &RunNumbers, task: usize, line: Line) -> Option<F
     ensures there { (requests : OfRequests) (cores : OfCores) →
         slice_get numbers.now.requests.items task ≡ Some requests →
         slice_get numbers.now.cores.items task ≡ Some cores →
-        cores.held ≤ most_core_time → cores.leaving ≤ most_core_time →
+        cores.held + cores.leaving ≤ 2 ^ 100 →
         result ≡ figure_of requests (cores.held + cores.leaving) numbers.now.turns line }
     ensures missing { length numbers.now.requests.items ≤ task → result ≡ None }
 {
