@@ -23,11 +23,14 @@ is_far table t coming = moved_far coming && is_for table t coming.arrival
 abbrev pub far_of : Table → ℕ → List Coming → ℕ
 far_of table t comings = count_by (is_far table t) comings
 
--- how many are left out of this row, where there is one
-abbrev pub left_out_in : Option LeftOut → ℕ
-left_out_in None = 0
-left_out_in (Some of_task) = of_task.count
+-- the first row of a task, where there is one
+abbrev pub row_of : ℕ → List LeftOut → Option LeftOut
+row_of t rows = find (λ row. row.task == t) rows
+
+abbrev pub count_in : Option LeftOut → ℕ
+count_in None = 0
+count_in (Some row) = row.count
 
 -- how many requests of the task are left out: what its first row says
 abbrev pub left_out_of : ℕ → List LeftOut → ℕ
-left_out_of t left_out = left_out_in (find (λ of_task. of_task.task == t) left_out)
+left_out_of t rows = count_in (row_of t rows)

@@ -1,7 +1,7 @@
 //! The requests that found their turns taken.
 
-ghost use Rattle.std.specs.Prelude.{◌≡◌, ◌&&◌};
-ghost use Rattle.cal_tables.specs.Crowding.{far_of, is_far, is_for, left_out_of, moved_far};
+ghost use Rattle.std.specs.Prelude.{◌≡◌, ◌&&◌, option_map};
+ghost use Rattle.cal_tables.specs.Crowding.{far_of, is_far, is_for, left_out_of, moved_far, row_of};
 
 use crate::figures::{Figure, count};
 use cal_machine::Config;
@@ -51,12 +51,19 @@ fn far_of(config: &Config, task: usize, comings: &[Coming]) -> usize
     far
 }
 
+/// The first row of a task, where there is one.
+fn row_of(task: usize, left_out: &[LeftOut]) -> Option<&LeftOut>
+    ensures { option_map (λ row. row.now) result ≡ row_of task left_out.now }
+{
+    left_out.iter().find(|row| row.task == task as u64)
+}
+
 /// How many requests of a task are left out.
 fn left_out_of(task: usize, left_out: &[LeftOut]) -> u64
     ensures { result ≡ left_out_of task left_out.now }
 {
-    match left_out.iter().find(|of_task| of_task.task == task as u64) {
-        Some(of_task) => of_task.count,
+    match row_of(task, left_out) {
+        Some(row) => row.count,
         None => 0,
     }
 }

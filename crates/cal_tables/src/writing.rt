@@ -1,7 +1,6 @@
 //! The numbers of a run, row by row.
 
 ghost use Rattle.std.specs.Prelude.{◌≡◌, ◌≤◌, ◌+◌, ◌^◌, length, None, slice_get, Some};
-ghost use Rattle.cal_measure.specs.Cores.{most_core_time};
 ghost use Rattle.cal_measure.specs.declared.cores.TaskCores.{TaskCores as OfCores};
 ghost use Rattle.cal_measure.specs.declared.requests.TaskRequests.{TaskRequests as OfRequests};
 ghost use Rattle.cal_tables.specs.Rows.{bound_if, figure_of, oldest_in};
