@@ -32,6 +32,15 @@ impl<'a> Labels<'a> {
     pub fn ticks(&self) -> &'a str {
         self.tick.unwrap_or("ticks")
     }
+
+    /// The name of some times, with their unit after it where that is said, as `wait [ns]`. Fails
+    /// only when out of memory.
+    pub fn with_unit(&self, alloc: Global, name: &str) -> Result<String, AllocError> {
+        match self.tick {
+            Some(tick) => format!(in alloc; "{name} [{tick}]"),
+            None => String::from_str(alloc, name),
+        }
+    }
 }
 
 /// How many letters a word has.

@@ -16,7 +16,8 @@ use crate::jobs::counting::CameText;
 use crate::jobs::explaining::answer_explain;
 use crate::jobs::input::JobInput;
 use crate::jobs::measuring::answer_measure;
-use crate::jobs::naming::{names_of, refuse_count, refuse_words_of_labels};
+use crate::jobs::naming::{names_of, refuse_count, refuse_words_of_names};
+use crate::jobs::pacing::refuse_memory;
 use crate::jobs::recording::record;
 use crate::jobs::sweeping::Sweeping;
 use crate::jobs::telling::tell;
@@ -116,7 +117,7 @@ impl<'h, 'a, H: Files + Threads + Sync> ProgramRun<'h, 'a, H> {
         errors: &mut E,
     ) -> Result<u8, Failure<'a>> {
         let request = self.request;
-        if let Some(status) = refuse_words_of_labels(request.labels, errors) {
+        if let Some(status) = refuse_words_of_names(request.labels, errors) {
             return Ok(status);
         }
         if let Some(status) = refuse_two_standards(request, errors) {

@@ -40,7 +40,7 @@ impl Row {
             }
             Row::Crowd(task, line) => label_of_task(alloc, labels, task, crowd_label(line)),
             Row::Cores(task, line) => label_of_task(alloc, labels, task, core_label(line)),
-            Row::Machine(line) => String::from_str(alloc, machine_label(line)),
+            Row::Machine(line) => machine_label(alloc, labels, line),
         }
     }
 

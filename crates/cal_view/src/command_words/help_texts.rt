@@ -173,7 +173,8 @@ Input: a task table (TOML), the line ---, and arrivals (CSV), as
 `caladan_sim lockstep` reads; or a history (CSV), as `caladan_sim audit` does.
 Output: the numbers of each task's requests and cores, in the run that
 `caladan_sim lockstep` makes, in clock ticks; with --csv as CSV. For a history
-they are those of its cores; an illegal one is refused.
+they are those of its cores; an illegal one is refused. With --tick ns times say
+their unit, as `wait median [ns]`.
 
 Requests. A turn ends at the clock of its thread's next turn, the last one at
 the run's last clock. A request arrives at the clock of its turn, is begun with
