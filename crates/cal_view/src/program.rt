@@ -20,6 +20,7 @@ use crate::jobs::naming::{names_of, refuse_count, refuse_words_of_names};
 use crate::jobs::pacing::refuse_memory;
 use crate::jobs::recording::record;
 use crate::jobs::sweeping::Sweeping;
+use crate::jobs::table_names::table_names;
 use crate::jobs::telling::tell;
 use crate::jobs::timing::answer_timeline;
 use crate::refusing::{end_refusal, refuse_two_standards, refused_input};
@@ -231,9 +232,11 @@ impl<'h, 'a, H: Files + Threads + Sync> ProgramRun<'h, 'a, H> {
     ) -> Result<u8, RunFault> {
         let (alloc, request) = (self.alloc, self.request);
         let names = names_of(alloc, request.labels)?;
+        let tables = table_names(alloc, request.tables.as_slice())?;
         let labels = Labels {
             names: names.as_slice(),
             tick: request.labels.tick,
+            tables: tables.as_slice(),
         };
         match &request.job {
             Job::OfInput { asked } => self.look(*asked, labels, reader, output, errors),

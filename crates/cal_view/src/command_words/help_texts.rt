@@ -289,7 +289,8 @@ the named one has the arrivals; no line --- is needed.
 Output: the numbers that `caladan_view measure` gives of each table's
 run on the arrivals, a column for each table; beside each column but the first
 its change from the first; with --csv as CSV. A missing task, and a change that
-cannot be computed, is shown as a dash.
+cannot be computed, is shown as a dash. Several files of tables name their
+columns, each after as many of its folders as tell it apart.
 With --vary the input is that of `measure`, or one table with --arrivals, and
 there is a column for each value: the table with that value at the key. Keys are
 cores, bandwidth_limit, and of task 1 task.1.kind, task.1.guaranteed,
