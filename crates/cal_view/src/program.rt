@@ -340,6 +340,9 @@ fn answer_read<W: Write, E: Write>(
     if let Some(status) = refuse_count(alloc, labels, bytes, errors)? {
         return Ok(status);
     }
+    if let Some(status) = refuse_memory(input, errors)? {
+        return Ok(status);
+    }
     match job {
         InputJob::Check => return answer_check(alloc, bytes, output),
         InputJob::Explain { asked } => return answer_explain(input, asked, output, errors),

@@ -505,8 +505,8 @@ has rows. Of --names a name may stand for a task, as in --slo memcached.p99=65.
 --cheapest lists below the table, for each load, what keeps every objective:
 first what leaves the greatest share to best effort, of several seeds in the
 median.
-With --pace, --beside, --memory or --figure the runs are like a machine:
-docs/VIEWER.md, \"Runs like a machine\".
+With --pace or --beside the runs are like a machine: docs/VIEWER.md, \"Runs like
+a machine\". Requests have no misses, so --memory and --figure shown are refused.
 Exit status: 0 done, 1 a run of the last load misses an objective, or leaves it
 undecided, 2 rejected input or a bad option, which is named, 3 memory or output
 was refused.",
