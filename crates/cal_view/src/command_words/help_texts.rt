@@ -454,7 +454,8 @@ maybe task, a number or one of --names; else all are of --task, or of task 0. A
 request comes to the turn in which its time falls, counted from the first
 row's, takes its service in turns, rounded up, and comes to a random thread, as
 above. Without --turns the run ends when the longest request can be served
-after the last came. FILE may be - if the table is a file by name.
+after the last came. FILE may be - if the table is a file by name. Standard
+error says how many requests are left out, where some are.
 --came also writes CSV to a file: the id of each request, and the turn to which
 it came; and how many of each task are left out. `measure --came` reads it.
 With --summary, for each task: how many requests came, how many of these stand
