@@ -8,7 +8,8 @@ mod unmade;
 ghost use Rattle.std.specs.Prelude.{◌≡◌, ◌≢◌, IfErr, IfOk};
 
 use crate::command_words::arrival_words::{ArrivalForm, ArrivalWords};
-use crate::jobs::arriving::came_file::{came_text, write_came};
+use crate::edge::beside::write_beside;
+use crate::jobs::arriving::came_file::came_text;
 use crate::jobs::arriving::of_log::AskedLog;
 use crate::jobs::arriving::summary::summary_of;
 use crate::jobs::arriving::unmade::Unmade;
@@ -180,7 +181,7 @@ impl<'a> Arriving<'a> {
     {
         if let Some(came) = &made.came {
             let name = self.asked.came.unwrap_or("");
-            if let Err(failure) = write_came(rt, self.alloc, name, came.as_slice()) {
+            if let Err(failure) = write_beside(rt, self.alloc, name, came.as_slice()) {
                 return Ok(failure.end(errors));
             }
         }
