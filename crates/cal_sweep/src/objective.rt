@@ -76,6 +76,8 @@ pub fn objective_of<'a>(
     ensures said { IfOk result (λ objective. objective.word ≡ word.entry) }
     ensures fault { IfErr result (λ fault. IsRefusedFor FLAG.now word.now Why.NotAnObjective fault
         ⊎ IsRefusedFor FLAG.now word.now (Why.NotNamed names.entry) fault) }
+    ensures unnamed { names.entry ≡ None →
+        IfErr result (IsRefusedFor FLAG.now word.now Why.NotAnObjective) }
 {
     let Some((place, rank, ticks)) = parts_of(word) else {
         return Err(refused(FLAG, word, Why::NotAnObjective));

@@ -1,10 +1,11 @@
 -- The requests that found their turns taken.
-use Rattle.std.specs.Prelude.{◌+◌, ◌==◌, ◌&&◌, nat_lt, ℕ, Bool, List}
-use Rattle.std.specs.List.{count_by}
+use Rattle.std.specs.Prelude.{◌+◌, ◌==◌, ◌&&◌, nat_lt, ℕ, Bool, List, Option, Some, None}
+use Rattle.std.specs.List.{count_by, find}
 use Rattle.cal_machine.specs.Table.{Table}
 use Rattle.cal_machine.specs.TableTasks.{owner_of, threads_of_table}
 use Rattle.cal_trace.specs.declared.arrivals.Arrival.{Arrival}
 use Rattle.cal_trace.specs.declared.comings.Coming.{Coming}
+use Rattle.cal_trace.specs.declared.comings.LeftOut.{LeftOut}
 
 -- a request comes to a thread of the task
 abbrev pub is_for : Table → ℕ → Arrival → Bool
@@ -21,3 +22,15 @@ is_far table t coming = moved_far coming && is_for table t coming.arrival
 -- how many requests of the task were moved by more than one turn
 abbrev pub far_of : Table → ℕ → List Coming → ℕ
 far_of table t comings = count_by (is_far table t) comings
+
+-- the first row of a task, where there is one
+abbrev pub row_of : ℕ → List LeftOut → Option LeftOut
+row_of t rows = find (λ row. row.task == t) rows
+
+abbrev pub count_in : Option LeftOut → ℕ
+count_in None = 0
+count_in (Some row) = row.count
+
+-- how many requests of the task are left out: what its first row says
+abbrev pub left_out_of : ℕ → List LeftOut → ℕ
+left_out_of t rows = count_in (row_of t rows)

@@ -119,7 +119,7 @@ pub fn machine_unit(line: MachineLine) -> Unit {
 
 /// What a row says of a task with these numbers of cores, in a run that lasted so long.
 fn core_figure_of(cores: &TaskCores, lasted: u128, line: CoreLine) -> Option<Figure>
-    ensures { lasted ≤ most_core_time → result ≡ core_figure_of cores.now lasted line }
+    ensures { lasted ≤ 2 ^ 100 → result ≡ core_figure_of cores.now lasted line }
 {
     let actions = cores.actions;
     match line {
@@ -144,7 +144,7 @@ fn core_figure_of(cores: &TaskCores, lasted: u128, line: CoreLine) -> Option<Fig
 /// something.
 pub fn core_figure(cores: &[TaskCores], lasted: u128, task: usize, line: CoreLine) -> Option<Figure>
     ensures there { (of_task : OfTask) → slice_get cores.now task ≡ Some of_task →
-        lasted ≤ most_core_time → result ≡ core_figure_of of_task lasted line }
+        lasted ≤ 2 ^ 100 → result ≡ core_figure_of of_task lasted line }
     ensures missing { length cores.now ≤ task → result ≡ None }
 {
     let cores = cores.get(task)?;
@@ -166,7 +166,7 @@ fn machine_figure_of(
     turns: u64,
     line: MachineLine,
 ) -> Option<Figure>
-    ensures { machine.now.lasted ≤ most_core_time → whole ≤ 2 ^ 100 →
+    ensures { machine.now.lasted ≤ 2 ^ 100 → whole ≤ 2 ^ 100 →
         result ≡ machine_figure_of machine.now whole turns line }
 {
     match line {
@@ -182,7 +182,7 @@ fn machine_figure_of(
 
 /// The core time of so many cores over the passes of a history with these numbers.
 pub fn whole_time(machine: &MachineCores, cores: u8) -> u128
-    ensures whole { machine.now.lasted ≤ most_core_time → result ≡ machine.now.lasted * cores }
+    ensures whole { machine.now.lasted ≤ 2 ^ 100 → result ≡ machine.now.lasted * cores }
     ensures few { machine.now.lasted ≤ most_core_time → result ≤ 2 ^ 100 }
 {
     machine.lasted.saturating_mul(cores as u128)
@@ -196,7 +196,7 @@ pub fn machine_figure(
     line: MachineLine,
     cores: u8,
 ) -> Option<Figure>
-    ensures { machine.now.lasted ≤ most_core_time →
+    ensures { machine.now.lasted ≤ 2 ^ 100 → machine.now.lasted * cores ≤ 2 ^ 100 →
         result ≡ machine_figure_of machine.now (machine.now.lasted * cores) turns line }
 {
     machine_figure_of(machine, whole_time(machine, cores), turns, line)

@@ -1,7 +1,7 @@
 //! The requests that found their turns taken.
 
-ghost use Rattle.std.specs.Prelude.{◌≡◌, ◌&&◌};
-ghost use Rattle.cal_tables.specs.Crowding.{far_of, is_far, is_for, moved_far};
+ghost use Rattle.std.specs.Prelude.{◌≡◌, ◌&&◌, option_map};
+ghost use Rattle.cal_tables.specs.Crowding.{far_of, is_far, is_for, left_out_of, moved_far, row_of};
 
 use crate::figures::{Figure, count};
 use cal_machine::Config;
@@ -51,19 +51,27 @@ fn far_of(config: &Config, task: usize, comings: &[Coming]) -> usize
     far
 }
 
+/// The first row of a task, where there is one.
+fn row_of(task: usize, left_out: &[LeftOut]) -> Option<&LeftOut>
+    ensures { option_map (λ row. row.now) result ≡ row_of task left_out.now }
+{
+    left_out.iter().find(|row| row.task == task as u64)
+}
+
 /// How many requests of a task are left out.
-fn left_out_of(task: usize, left_out: &[LeftOut]) -> u64 {
-    for of_task in left_out {
-        if of_task.task == task as u64 {
-            return of_task.count;
-        }
+fn left_out_of(task: usize, left_out: &[LeftOut]) -> u64
+    ensures { result ≡ left_out_of task left_out.now }
+{
+    match row_of(task, left_out) {
+        Some(row) => row.count,
+        None => 0,
     }
-    0
 }
 
 /// How many requests of a task of a table found their turns taken, by the comings of its arrivals.
 pub fn crowded_of(config: &Config, comings: &Comings, task: usize) -> Crowded
     ensures far { result.far ≡ far_of config.now task comings.now.requests }
+    ensures left_out { result.left_out ≡ left_out_of task comings.now.left_out }
 {
     Crowded {
         far: far_of(config, task, comings.requests.as_slice()),

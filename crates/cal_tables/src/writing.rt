@@ -1,7 +1,6 @@
 //! The numbers of a run, row by row.
 
 ghost use Rattle.std.specs.Prelude.{◌≡◌, ◌≤◌, ◌+◌, ◌^◌, length, None, slice_get, Some};
-ghost use Rattle.cal_measure.specs.Cores.{most_core_time};
 ghost use Rattle.cal_measure.specs.declared.cores.TaskCores.{TaskCores as OfCores};
 ghost use Rattle.cal_measure.specs.declared.requests.TaskRequests.{TaskRequests as OfRequests};
 ghost use Rattle.cal_tables.specs.Rows.{bound_if, figure_of, oldest_in};
@@ -162,7 +161,7 @@ pub fn request_figure(numbers: &RunNumbers, task: usize, line: Line) -> Option<F
     ensures there { (requests : OfRequests) (cores : OfCores) →
         slice_get numbers.now.requests.items task ≡ Some requests →
         slice_get numbers.now.cores.items task ≡ Some cores →
-        cores.held ≤ most_core_time → cores.leaving ≤ most_core_time →
+        cores.held + cores.leaving ≤ 2 ^ 100 →
         result ≡ figure_of requests (cores.held + cores.leaving) numbers.now.turns line }
     ensures missing { length numbers.now.requests.items ≤ task → result ≡ None }
 {
