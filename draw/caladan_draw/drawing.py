@@ -48,7 +48,8 @@ def of_compare(space: Namespace, palette: Palette) -> Drawn:
     got = compared_from(read_all(space), space.words, maybe(space.arrivals), maybe(space.table), space.program)
     runs = tuple(map(ComparedRun, got.requests, got.passes))
     tasks = named_tasks(got.tasks, space.names)
-    return Drawn(draw_comparison(CompareScene(got.numbers, runs, tasks, palette, space.width, space.tick)))
+    return Drawn(draw_comparison(CompareScene(got.numbers, runs, tasks, palette, space.width,
+                                              space.tick or got.numbers.unit)))
 
 
 def of_sweep(space: Namespace, palette: Palette) -> Drawn:
@@ -59,7 +60,8 @@ def of_sweep(space: Namespace, palette: Palette) -> Drawn:
     names = [it.label for it in named_tasks(table.tasks, space.names)] if table else space.names
     name = names[task] if task is not None and task < len(names) else ""
     scene = SweepScene(got.sweep, palette, space.width, name, goal if goal and goal.task == task else None,
-                       cores_of(table, got.sweep.key, got.sweep.values) if table else None, space.tick)
+                       cores_of(table, got.sweep.key, got.sweep.values) if table else None,
+                       space.tick or got.sweep.unit)
     return Drawn(draw_sweep(scene), 1 if got.missed else 0)
 
 

@@ -3,6 +3,7 @@ from __future__ import annotations
 
 import csv
 import io
+import re
 from dataclasses import dataclass
 from typing import Callable, Iterator, Optional, Sequence, TypeVar
 
@@ -71,7 +72,7 @@ def kind_of(text: str) -> str:
     for kind, known in HEADS.items():
         if head == known:
             return kind
-    if head.startswith("load") and ",p50,p50 bound," in head:
+    if head.startswith("load") and re.search(r",p50( \[\w+\])?,p50 bound,", head):
         return "sweep"
     cells = next(csv.reader([head]), [])
     if "seed" in cells[1:-1]:

@@ -5,7 +5,7 @@ import csv
 import io
 import re
 from dataclasses import dataclass
-from typing import Optional
+from typing import Iterable, Optional
 
 from .facts import kind_of
 from .refusal import Refusal
@@ -15,6 +15,7 @@ COLUMNS = ("came", "later", "left out", "served", "mean cores", "best-effort sha
 RANKS = {"p50": "response median", "p90": "response 90 of 100", "p99": "response 99 of 100",
          "p99.9": "response 99.9 of 100", "max": "response greatest"}
 FIRST_MEASURE = "requests given"
+UNIT = re.compile(r" \[(ns|us|ms|s)\]$")
 EXPECTED = {
     "compare": "not the CSV of `caladan_view compare --csv`, whose first line is measure or a key,LABEL,LABEL bound,"
                "LABEL of and so on, with four columns for each further table",
@@ -36,12 +37,13 @@ class Cell:
 
 @dataclass(frozen=True)
 class Comparison:
-    """What came of tasks with each table: the tables by their labels, the tasks by their names, and the cells of each
-    row, a cell for each table."""
+    """What came of tasks with each table: the tables by their labels, the tasks by their names, the cells of each row,
+    a cell for each table, and the unit of the times where the rows say it."""
 
     tables: tuple[str, ...]
     tasks: tuple[str, ...]
     rows: dict[str, tuple[Cell, ...]]
+    unit: str = ""
 
     def cells(self, task: str, measure: str) -> tuple[Cell, ...]:
         return self.rows.get(f"{task} {measure}", tuple(Cell(None) for _ in self.tables))
@@ -60,11 +62,13 @@ class SweptRun:
 
 @dataclass(frozen=True)
 class Sweep:
-    """The runs of a sweep, the key that is varied, if any, and the task that is swept where it has a name."""
+    """The runs of a sweep, the key that is varied, if any, the task that is swept where it has a name, and the unit of
+    the times where the head says it."""
 
     task: str
     key: str
     runs: tuple[SweptRun, ...]
+    unit: str = ""
 
     @property
     def values(self) -> list[str]:
@@ -73,6 +77,17 @@ class Sweep:
 
     def label(self, value: str) -> str:
         return f"{self.key}={value}" if self.key else value or "the table"
+
+
+def bare(name: str) -> str:
+    """The name of a row or a column without the unit of its times."""
+    return UNIT.sub("", name)
+
+
+def unit_in(names: Iterable[str]) -> str:
+    """The unit that names of rows or columns say, if one does."""
+    found = (UNIT.search(it) for it in names)
+    return next((it[1] for it in found if it), "")
 
 
 def number(text: str, where: str) -> Optional[float]:
@@ -107,16 +122,17 @@ def read_comparison(text: str, name: str) -> Comparison:
     """A comparison; its tables are the columns beside which a bound stands."""
     head, lines = lines_of(text, name, "compare")
     places = [n for n, it in enumerate(head[:-1]) if n and head[n + 1] == f"{it} bound"]
-    rows = {row[0]: tuple(cell(row[n:n + 3], where) for n in places) for where, row in lines}
+    rows = {bare(row[0]): tuple(cell(row[n:n + 3], where) for n in places) for where, row in lines}
     given = f" {FIRST_MEASURE}"
     tasks = tuple(it[:-len(given)] for it in rows if it.endswith(given))
     key = "" if head[0] == "measure" else f"{head[0]}="
-    return Comparison(tuple(key + head[n] for n in places), tasks, rows)
+    return Comparison(tuple(key + head[n] for n in places), tasks, rows, unit_in(row[0] for _, row in lines))
 
 
 def read_sweep(text: str, name: str) -> Sweep:
     """A sweep; a column between its load and its times is of the key that is varied, and one after it of seeds."""
-    head, lines = lines_of(text, name, "sweep")
+    titles, lines = lines_of(text, name, "sweep")
+    head = [titles[0], *map(bare, titles[1:])]
     missing = [it for it in (*TIMES, *COLUMNS) if it not in head]
     if missing:
         raise Refusal(f"{name}: {EXPECTED['sweep']}: it has no column {missing[0]}")
@@ -134,4 +150,4 @@ def read_sweep(text: str, name: str) -> Sweep:
         runs.append(SweptRun(load, ", ".join([*row[1:len(between) + 1], *which]), times, counts))
     if not runs:
         raise Refusal(f"{name}: it has no runs below its head")
-    return Sweep(head[0].partition("load of ")[2], key, tuple(runs))
+    return Sweep(head[0].partition("load of ")[2], key, tuple(runs), unit_in(titles[1:]))

@@ -1,8 +1,10 @@
 """A figure as a file: SVG, PNG or PDF, by the file's ending."""
 from __future__ import annotations
 
+import contextlib
 import io
 import os
+import shutil
 import xml.etree.ElementTree as tree
 
 from .colours import other_ground
@@ -78,7 +80,29 @@ def save(paper: Paper, file: str) -> None:
     """Writes the figure, which is made whole before."""
     written = as_bytes(paper, format_of(file))
     try:
-        with open(file, "wb") as it:
-            it.write(written)
+        put(file, written)
     except OSError as fault:
         raise Refusal(f"{file}: {fault.strerror}", 3) from None
+
+
+def put(file: str, written: bytes) -> None:
+    """Writes a file whole or not at all, also where it is interrupted: under a name of its own beside its place, which
+    it takes at the end. What is there and is no file, as a device, is written in its place."""
+    place = os.path.realpath(file)
+    is_there = os.path.exists(place)
+    if is_there:
+        with open(place, "ab") as it:
+            if not os.path.isfile(place):
+                it.write(written)
+                return
+    beside = f"{place}.part{os.getpid()}"
+    try:
+        with open(beside, "xb") as it:
+            it.write(written)
+        if is_there:
+            shutil.copymode(place, beside)
+        os.replace(beside, place)
+    except BaseException:
+        with contextlib.suppress(OSError):
+            os.remove(beside)
+        raise

@@ -12,7 +12,7 @@ import xml.etree.ElementTree as tree
 
 from caladan_draw.colours import DARK, LIGHT, colours_of
 from caladan_draw.command import main
-from caladan_draw.saving import as_svg, save
+from caladan_draw.saving import as_svg, put, save
 from given import (DELAYS, KEPT_RUNS, RUNS, TOP, VIEW, as_csv, drawn, example, facts, file, path_of, run_files, text_of,
                    words_of)
 
@@ -44,6 +44,28 @@ class Written(unittest.TestCase):
             save(paper, path_of(f"tour.{ending}"))
             with open(path_of(f"tour.{ending}"), "rb") as it:
                 self.assertTrue(it.read().startswith(begins))
+
+    def test_one_that_is_interrupted_leaves_what_was_there(self):
+        folder = path_of("interrupted")
+        os.makedirs(folder)
+        with open(f"{folder}/old", "wb") as it:
+            it.write(b"old")
+        really = open
+
+        def halfway(*words):
+            if words[1] == "xb":
+                really(*words).close()
+                raise KeyboardInterrupt
+            return really(*words)
+
+        for what, how in (("os.replace", KeyboardInterrupt), ("open", halfway)):
+            for name in ("old", "new"):
+                with unittest.mock.patch(f"caladan_draw.saving.{what}", side_effect=how, create=True), \
+                        self.assertRaises(KeyboardInterrupt):
+                    put(f"{folder}/{name}", b"new")
+                self.assertEqual((os.listdir(folder), text_of(f"{folder}/old")), (["old"], "old"))
+        put(f"{folder}/old", b"new")
+        self.assertEqual((os.listdir(folder), text_of(f"{folder}/old")), (["old"], "new"))
 
     def test_an_svg_has_words_stories_and_the_other_ground(self):
         paper = drawn("run", example("lockstep/tour"))

@@ -103,6 +103,13 @@ class Compared:
         self.assertEqual([x for x, _ in pairs(line.get_xydata())[1:-1]], sorted(set(times)))
         self.assertFalse(named(paper, "strip-"))
 
+    def test_rows_that_say_the_unit_are_read(self):
+        given = input_of(self.NAME)
+        told = file(f"{self.NAME.replace('/', '-')}-ms.csv", viewed("compare", *self.WORDS, "--csv", "--tick", "ms",
+                                                                    given=given))
+        words = words_of(drawn("compare", told, *self.files[1:]))
+        self.assertEqual(words, words_of(drawn("compare", *self.files, "--tick", "ms")))
+
     def test_an_input_is_drawn_as_its_files(self):
         self.assertEqual(words_of(drawn("compare", *self.WORDS, example(self.NAME))), words_of(self.paper))
 

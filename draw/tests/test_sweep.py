@@ -145,6 +145,19 @@ class Times(unittest.TestCase):
             self.assertAlmostEqual(float(scale.to_time(scale.to_place(time))), time)
 
 
+class Units(unittest.TestCase):
+    """A head that says the unit of times."""
+
+    def test_it_is_drawn_as_with_the_option(self):
+        plain = drawn("sweep", example(CSV, "output"), "--slo", "task.0.p90=45", "--tick", "us")
+        told = drawn("sweep", example("sweep/units_csv", "output"), "--slo", "task.0.p90=45")
+        self.assertEqual(words_of(told), words_of(plain))
+        self.assertIn("us", " ".join(words_of(told)))
+        other = drawn("sweep", example("sweep/units_csv", "output"), "--slo", "task.0.p90=45", "--tick", "ms")
+        self.assertEqual(words_of(other), words_of(drawn("sweep", example(CSV, "output"), "--slo", "task.0.p90=45",
+                                                         "--tick", "ms")))
+
+
 class Seeds(unittest.TestCase):
     """Three rows of several seeds for each load."""
 

@@ -78,8 +78,8 @@ fn unit_of(column: Column) -> Unit {
     }
 }
 
-/// Whether the numbers of a column may be bounds.
-fn may_be_bound(column: Column) -> bool {
+/// Whether the numbers of a column are times, which may be bounds.
+fn is_of_times(column: Column) -> bool {
     match column {
         Column::Response(_) | Column::Mean => true,
         _ => false,
@@ -177,7 +177,7 @@ impl<'a> ShownSweep<'a> {
     /// In which form the figures of a column are put: in a CSV file what may be a bound has three
     /// cells, and all else one.
     fn form_of(self, column: Column) -> NumberForm {
-        if may_be_bound(column) {
+        if is_of_times(column) {
             self.form
         } else {
             NumberForm::Columns
@@ -220,10 +220,26 @@ impl<'a> ShownSweep<'a> {
             row.push(format!(in alloc; "of {} seeds", self.seeds)?)?;
         }
         for column in COLUMNS {
-            let name = String::from_str(alloc, name_of(column))?;
-            self.form_of(column).put_heading(alloc, &mut row, name)?;
+            self.put_name(alloc, column, &mut row)?;
         }
         Ok(row)
+    }
+
+    /// Puts what stands over a column: of times with their unit, where that is said.
+    fn put_name(
+        self,
+        alloc: Global,
+        column: Column,
+        row: &mut Vec<String>,
+    ) -> Result<(), AllocError> {
+        let name = name_of(column);
+        if is_of_times(column) {
+            self.form
+                .put_heading_of_times(alloc, row, self.names.labels, name)
+        } else {
+            row.push(String::from_str(alloc, name)?)?;
+            Ok(())
+        }
     }
 
     /// What the runs of a table by a policy are called, where they have a name.

@@ -6,7 +6,9 @@ ghost use Rattle.cal_measure.specs.declared.cores.TaskCores.{TaskCores as OfTask
 ghost use Rattle.cal_tables.specs.Rows.{core_figure_of, exact, machine_figure_of};
 
 use crate::figures::{Figure, Unit, count, share};
+use crate::labels::Labels;
 use cal_measure::{MachineCores, TaskCores};
+use std::alloc::{AllocError, Global};
 
 /// What a row says of the cores of each task.
 #[derive(Clone, Copy)]
@@ -88,8 +90,21 @@ pub fn core_label(line: CoreLine) -> &'static str {
     }
 }
 
-/// What stands in front of a row of the machine.
-pub fn machine_label(line: MachineLine) -> &'static str {
+/// What stands in front of a row of the machine: what it says, and of clocks their unit.
+pub fn machine_label(
+    alloc: Global,
+    labels: Labels<'_>,
+    line: MachineLine,
+) -> Result<String, AllocError> {
+    let name = machine_name(line);
+    match line {
+        MachineLine::ClockOfPasses | MachineLine::ClockOfRequests => labels.with_unit(alloc, name),
+        _ => String::from_str(alloc, name),
+    }
+}
+
+/// What a row of the machine says.
+fn machine_name(line: MachineLine) -> &'static str {
     match line {
         MachineLine::Held => "machine held",
         MachineLine::Leaving => "machine leaving",

@@ -4,6 +4,7 @@ ghost use Rattle.std.specs.Prelude.{◌≡◌, ◌≤◌, ◌^◌, Some};
 ghost use Rattle.cal_tables.specs.Rows.{exact, few_for, if_below, known, ranked_figure, share_of};
 ghost use Rattle.cal_tables.specs.Rows.{time_in};
 
+use crate::labels::Labels;
 use crate::sheet::NumberForm;
 use cal_measure::{Spread, Time, thousandths};
 use std::alloc::{AllocError, Global};
@@ -220,6 +221,21 @@ impl NumberForm {
     ) -> Result<(), AllocError> {
         let bound = format!(in alloc; "{} bound", name.as_str())?;
         let few = format!(in alloc; "{} of", name.as_str())?;
+        self.put_name(alloc, row, name, [bound.as_str(), few.as_str()])
+    }
+
+    /// Puts the heading of some times at the end of a row: as `put_heading` does, and with their unit
+    /// after the first name where that is said.
+    pub fn put_heading_of_times(
+        self,
+        alloc: Global,
+        row: &mut Vec<String>,
+        labels: Labels<'_>,
+        name: &str,
+    ) -> Result<(), AllocError> {
+        let bound = format!(in alloc; "{name} bound")?;
+        let few = format!(in alloc; "{name} of")?;
+        let name = labels.with_unit(alloc, name)?;
         self.put_name(alloc, row, name, [bound.as_str(), few.as_str()])
     }
 

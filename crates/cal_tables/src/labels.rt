@@ -1,20 +1,25 @@
-//! What tasks and clock ticks are called.
+//! What tasks, clock ticks and tables are called.
 
-/// What tasks and clock ticks are called where they are shown.
+use std::alloc::{AllocError, Global};
+
+/// What tasks, clock ticks and tables are called where they are shown.
 #[derive(Clone, Copy)]
 pub struct Labels<'a> {
     /// The names of the tasks, in task order. A task without one is called by its number.
     pub names: &'a [&'a str],
     /// What a clock tick is, as `ns`; none where that is not said.
     pub tick: Option<&'a str>,
+    /// The names of the tables, in their order. A table without one is called by its number.
+    pub tables: &'a [String],
 }
 
 impl<'a> Labels<'a> {
-    /// Tasks are called by their numbers, and ticks are ticks.
+    /// Tasks and tables are called by their numbers, and ticks are ticks.
     pub fn plain() -> Labels<'a> {
         Labels {
             names: &[],
             tick: None,
+            tables: &[],
         }
     }
 
@@ -31,6 +36,15 @@ impl<'a> Labels<'a> {
     /// What several clock ticks are called.
     pub fn ticks(&self) -> &'a str {
         self.tick.unwrap_or("ticks")
+    }
+
+    /// The name of some times, with their unit after it where that is said, as `wait [ns]`. Fails
+    /// only when out of memory.
+    pub fn with_unit(&self, alloc: Global, name: &str) -> Result<String, AllocError> {
+        match self.tick {
+            Some(tick) => format!(in alloc; "{name} [{tick}]"),
+            None => String::from_str(alloc, name),
+        }
     }
 }
 

@@ -76,8 +76,27 @@ pub const LINES: [Line; 33] = [
     Line::Worked,
 ];
 
-/// What stands in front of a row.
+/// Whether the numbers of a row are times.
+fn is_of_times(line: Line) -> bool {
+    match line {
+        Line::Response(_) | Line::MeanResponse => true,
+        Line::Wait(_) | Line::Service(_) | Line::OldestPending => true,
+        _ => false,
+    }
+}
+
+/// What stands in front of a row: what it says, and of times their unit.
 pub fn label(alloc: Global, labels: Labels<'_>, line: Line) -> Result<String, AllocError> {
+    let name = line_name(alloc, labels, line)?;
+    if is_of_times(line) {
+        labels.with_unit(alloc, name.as_str())
+    } else {
+        Ok(name)
+    }
+}
+
+/// What a row says.
+fn line_name(alloc: Global, labels: Labels<'_>, line: Line) -> Result<String, AllocError> {
     let name = match line {
         Line::Response(rank) => return format!(in alloc; "response {}", rank_name(rank)),
         Line::Wait(rank) => return format!(in alloc; "wait {}", rank_name(rank)),
@@ -252,10 +271,11 @@ impl ToldCores<'_> {
         self,
         alloc: Global,
         line: MachineLine,
-        form: NumberForm,
+        style: NumberStyle<'_>,
     ) -> Result<Vec<String>, AllocError> {
+        let NumberStyle { labels, form } = style;
         let mut row = Vec::new(alloc);
-        row.push(String::from_str(alloc, machine_label(line))?)?;
+        row.push(machine_label(alloc, labels, line)?)?;
         let turns = self.turns.unwrap_or(0);
         let figure = machine_figure(self.machine, turns, line, self.cores);
         form.put_figure(alloc, &mut row, figure, machine_unit(line))?;
@@ -280,11 +300,11 @@ impl ToldCores<'_> {
         self,
         alloc: Global,
         sheet: &mut Sheet,
-        form: NumberForm,
+        style: NumberStyle<'_>,
     ) -> Result<(), AllocError> {
         for line in MACHINE_LINES {
             if self.turns.is_some() || is_of_passes(line) {
-                sheet.put(self.machine_row(alloc, line, form)?)?;
+                sheet.put(self.machine_row(alloc, line, style)?)?;
             }
         }
         Ok(())
@@ -346,7 +366,7 @@ pub fn sheet_of(
         cores: config.machine().cores(),
     };
     told.put_tasks(alloc, &mut sheet, style.form)?;
-    told.put_machine(alloc, &mut sheet, style.form)?;
+    told.put_machine(alloc, &mut sheet, style)?;
     Ok(sheet)
 }
 
@@ -366,6 +386,6 @@ pub fn history_sheet(
         cores: config.machine().cores(),
     };
     told.put_tasks(alloc, &mut sheet, style.form)?;
-    told.put_machine(alloc, &mut sheet, style.form)?;
+    told.put_machine(alloc, &mut sheet, style)?;
     Ok(sheet)
 }

@@ -12,5 +12,6 @@ pub mod naming;
 pub mod pacing;
 pub mod recording;
 pub mod sweeping;
+pub mod table_names;
 pub mod telling;
 pub mod timing;

@@ -5,7 +5,7 @@ ghost use Rattle.std.specs.Prelude.{◌≡◌, ◌≢◌, IfErr};
 
 use crate::command_words::command_line::{InputJob, Job, Request, help, words};
 use crate::command_words::count_words::CountWords;
-use crate::edge::beside::open_beside;
+use crate::edge::beside::{open_beside, write_beside};
 use crate::edge::failure::Failure;
 use crate::edge::noted::Noted;
 use crate::edge::sources::{open_named, read_named, read_tables};
@@ -16,9 +16,11 @@ use crate::jobs::counting::CameText;
 use crate::jobs::explaining::answer_explain;
 use crate::jobs::input::JobInput;
 use crate::jobs::measuring::answer_measure;
-use crate::jobs::naming::{names_of, refuse_count, refuse_words_of_labels};
+use crate::jobs::naming::{names_of, refuse_count, refuse_words_of_names};
+use crate::jobs::pacing::refuse_memory;
 use crate::jobs::recording::record;
 use crate::jobs::sweeping::Sweeping;
+use crate::jobs::table_names::table_names;
 use crate::jobs::telling::tell;
 use crate::jobs::timing::answer_timeline;
 use crate::refusing::{end_refusal, refuse_two_standards, refused_input};
@@ -116,7 +118,7 @@ impl<'h, 'a, H: Files + Threads + Sync> ProgramRun<'h, 'a, H> {
         errors: &mut E,
     ) -> Result<u8, Failure<'a>> {
         let request = self.request;
-        if let Some(status) = refuse_words_of_labels(request.labels, errors) {
+        if let Some(status) = refuse_words_of_names(request.labels, errors) {
             return Ok(status);
         }
         if let Some(status) = refuse_two_standards(request, errors) {
@@ -139,18 +141,15 @@ impl<'h, 'a, H: Files + Threads + Sync> ProgramRun<'h, 'a, H> {
         output: &mut Noted<W>,
         errors: &mut E,
     ) -> Result<u8, Failure<'a>> {
-        let answer = match self.request.output {
-            Some(name) => return self.answer_into(name, input, errors),
-            None => self.answer_job(&mut *input, output, errors),
-        };
-        match answer {
-            Ok(status) => Ok(status),
-            Err(fault) => Err(self.failure_of(fault, None, input, output)),
+        match self.request.output {
+            Some(name) => self.answer_into(name, input, errors),
+            None => self.answer_to(None, input, output, errors),
         }
     }
 
     /// Does what the words ask for on an input, and writes the answer to the file of this name.
-    /// Nothing is left of it where there is none.
+    /// That it can be written is tried first. The answer is made in memory, so that there is no part
+    /// of it where the program is interrupted, and nothing is left where there is no answer.
     fn answer_into<R: Read, E: Write>(
         &self,
         name: &'a str,
@@ -161,20 +160,30 @@ impl<'h, 'a, H: Files + Threads + Sync> ProgramRun<'h, 'a, H> {
             Ok(file) => file,
             Err(said) => return Err(Failure::of_file(RunFault::Write, name, said)),
         };
-        let mut file = Noted::new(file);
-        match self.answer_job(&mut *input, &mut file, errors) {
-            Ok(status) if status > 1 => {
-                file.inner().remove(self.rt);
-                Ok(status)
-            }
-            Ok(status) => match file.inner().keep(self.rt) {
-                Ok(()) => Ok(status),
-                Err(said) => Err(Failure::of_file(RunFault::Write, name, said)),
-            },
-            Err(fault) => {
-                file.inner().remove(self.rt);
-                Err(self.failure_of(fault, Some(name), input, &file))
-            }
+        if file.is_in_place() {
+            return self.answer_to(Some(name), input, &mut Noted::new(file), errors);
+        }
+        file.remove(self.rt);
+        let mut text = Noted::new(Vec::new(self.alloc));
+        let status = self.answer_to(Some(name), input, &mut text, errors)?;
+        if status <= 1 {
+            write_beside(self.rt, self.alloc, name, text.inner().as_slice())?;
+        }
+        Ok(status)
+    }
+
+    /// Does what the words ask for on an input, and writes the answer to this output, which is of the
+    /// file of this name where there is one.
+    fn answer_to<R: Read, W: Write, E: Write>(
+        &self,
+        name: Option<&'a str>,
+        input: &mut Noted<R>,
+        output: &mut Noted<W>,
+        errors: &mut E,
+    ) -> Result<u8, Failure<'a>> {
+        match self.answer_job(&mut *input, &mut *output, errors) {
+            Ok(status) => Ok(status),
+            Err(fault) => Err(self.failure_of(fault, name, input, output)),
         }
     }
 
@@ -230,9 +239,11 @@ impl<'h, 'a, H: Files + Threads + Sync> ProgramRun<'h, 'a, H> {
     ) -> Result<u8, RunFault> {
         let (alloc, request) = (self.alloc, self.request);
         let names = names_of(alloc, request.labels)?;
+        let tables = table_names(alloc, request.tables.as_slice())?;
         let labels = Labels {
             names: names.as_slice(),
             tick: request.labels.tick,
+            tables: tables.as_slice(),
         };
         match &request.job {
             Job::OfInput { asked } => self.look(*asked, labels, reader, output, errors),
@@ -334,6 +345,9 @@ fn answer_read<W: Write, E: Write>(
 ) -> Result<u8, RunFault> {
     let (alloc, bytes, labels) = (input.alloc, input.bytes(), input.labels);
     if let Some(status) = refuse_count(alloc, labels, bytes, errors)? {
+        return Ok(status);
+    }
+    if let Some(status) = refuse_memory(input, errors)? {
         return Ok(status);
     }
     match job {

@@ -40,7 +40,7 @@ impl Row {
             }
             Row::Crowd(task, line) => label_of_task(alloc, labels, task, crowd_label(line)),
             Row::Cores(task, line) => label_of_task(alloc, labels, task, core_label(line)),
-            Row::Machine(line) => String::from_str(alloc, machine_label(line)),
+            Row::Machine(line) => machine_label(alloc, labels, line),
         }
     }
 
@@ -152,14 +152,17 @@ impl ShownComparison<'_> {
         row.figure_in(self.runs.get(policy)?, table)
     }
 
-    /// What a table is called: by its number, or by its value.
+    /// What a table is called: by its value, or by its name, or else by its number.
     fn table_name(self, alloc: Global, table: usize) -> Result<String, AllocError> {
         if let Some(variation) = self.variation {
             if let Some(value) = variation.values.get(table) {
                 return String::from_str(alloc, value);
             }
         }
-        format!(in alloc; "table {table}")
+        match self.style.labels.tables.get(table) {
+            Some(name) => String::from_str(alloc, name.as_str()),
+            None => format!(in alloc; "table {table}"),
+        }
     }
 
     /// What a column is of: its table, and its policy where there are several.

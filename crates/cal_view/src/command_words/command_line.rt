@@ -11,6 +11,7 @@ use crate::jobs::explaining::Asked;
 use crate::jobs::naming::LabelWords;
 use crate::jobs::telling::Facts;
 use cal_engine::{Front, VERSION};
+use cal_load::UNITS;
 use cal_paced::Plan;
 use cal_policy::Policy;
 use cal_sweep::SweepWords;
@@ -337,7 +338,10 @@ pub fn names_word<'a>(alloc: Global) -> Arg<'a> {
 
 /// What a clock tick is.
 pub fn tick_word<'a>(alloc: Global) -> Arg<'a> {
-    value_word(alloc, "tick", "UNIT", "The unit of a tick, such as ns")
+    let help = "The unit of a tick: ns, us, ms or s";
+    value_word(alloc, "tick", "UNIT", help)
+        .value_parser(UNITS.as_slice())
+        .hide_possible_values(true)
 }
 
 fn write_input_word<'a>(alloc: Global) -> Result<Arg<'a>, AllocError> {

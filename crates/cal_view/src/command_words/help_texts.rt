@@ -173,7 +173,8 @@ Input: a task table (TOML), the line ---, and arrivals (CSV), as
 `caladan_sim lockstep` reads; or a history (CSV), as `caladan_sim audit` does.
 Output: the numbers of each task's requests and cores, in the run that
 `caladan_sim lockstep` makes, in clock ticks; with --csv as CSV. For a history
-they are those of its cores; an illegal one is refused.
+they are those of its cores; an illegal one is refused. With --tick ns times say
+their unit, as `wait median [ns]`.
 
 Requests. A turn ends at the clock of its thread's next turn, the last one at
 the run's last clock. A request arrives at the clock of its turn, is begun with
@@ -288,7 +289,8 @@ the named one has the arrivals; no line --- is needed.
 Output: the numbers that `caladan_view measure` gives of each table's
 run on the arrivals, a column for each table; beside each column but the first
 its change from the first; with --csv as CSV. A missing task, and a change that
-cannot be computed, is shown as a dash.
+cannot be computed, is shown as a dash. Several files of tables name their
+columns, each after as many of its folders as tell it apart.
 With --vary the input is that of `measure`, or one table with --arrivals, and
 there is a column for each value: the table with that value at the key. Keys are
 cores, bandwidth_limit, and of task 1 task.1.kind, task.1.guaranteed,
@@ -452,7 +454,8 @@ maybe task, a number or one of --names; else all are of --task, or of task 0. A
 request comes to the turn in which its time falls, counted from the first
 row's, takes its service in turns, rounded up, and comes to a random thread, as
 above. Without --turns the run ends when the longest request can be served
-after the last came. FILE may be - if the table is a file by name.
+after the last came. FILE may be - if the table is a file by name. Standard
+error says how many requests are left out, where some are.
 --came also writes CSV to a file: the id of each request, and the turn to which
 it came; and how many of each task are left out. `measure --came` reads it.
 With --summary, for each task: how many requests came, how many of these stand
@@ -503,8 +506,8 @@ has rows. Of --names a name may stand for a task, as in --slo memcached.p99=65.
 --cheapest lists below the table, for each load, what keeps every objective:
 first what leaves the greatest share to best effort, of several seeds in the
 median.
-With --pace, --beside, --memory or --figure the runs are like a machine:
-docs/VIEWER.md, \"Runs like a machine\".
+With --pace or --beside the runs are like a machine: docs/VIEWER.md, \"Runs like
+a machine\". Requests have no misses, so --memory and --figure shown are refused.
 Exit status: 0 done, 1 a run of the last load misses an objective, or leaves it
 undecided, 2 rejected input or a bad option, which is named, 3 memory or output
 was refused.",

@@ -1,6 +1,8 @@
 //! A file that an answer goes to: it is written beside its place, and takes it at the end.
 
+use crate::edge::failure::Failure;
 use crate::edge::sources::STANDARD;
+use cal_input::RunFault;
 use std::alloc::Global;
 use std::fs::{OpenFile, OpenOptions};
 use std::io::{ErrorKind, Write};
@@ -78,7 +80,33 @@ fn create_beside<H: Files>(rt: &H, alloc: Global, place: &str) -> io::Result<Bes
     Err(io::Error::from(ErrorKind::AlreadyExists))
 }
 
+/// Writes this text to this place, whole or not at all.
+pub fn write_beside<'a, H: Files>(
+    rt: &H,
+    alloc: Global,
+    path: &'a str,
+    text: &[u8],
+) -> Result<(), Failure<'a>> {
+    let mut file = match open_beside(rt, alloc, path) {
+        Ok(file) => file,
+        Err(said) => return Err(Failure::of_file(RunFault::Write, path, said)),
+    };
+    if let Err(said) = file.write_all(text) {
+        file.remove(rt);
+        return Err(Failure::of_file(RunFault::Write, path, said));
+    }
+    match file.keep(rt) {
+        Ok(()) => Ok(()),
+        Err(said) => Err(Failure::of_file(RunFault::Write, path, said)),
+    }
+}
+
 impl<F> Beside<F> {
+    /// Whether it is written in its place, as a device or a pipe is.
+    pub fn is_in_place(&self) -> bool {
+        self.names.is_none()
+    }
+
     /// Gives the file its name.
     pub fn keep<H: Files>(&self, rt: &H) -> io::Result<()> {
         let Some(names) = &self.names else {

@@ -8,7 +8,8 @@ mod unmade;
 ghost use Rattle.std.specs.Prelude.{◌≡◌, ◌≢◌, IfErr, IfOk};
 
 use crate::command_words::arrival_words::{ArrivalForm, ArrivalWords};
-use crate::jobs::arriving::came_file::{came_text, write_came};
+use crate::edge::beside::write_beside;
+use crate::jobs::arriving::came_file::came_text;
 use crate::jobs::arriving::of_log::AskedLog;
 use crate::jobs::arriving::summary::summary_of;
 use crate::jobs::arriving::unmade::Unmade;
@@ -53,6 +54,8 @@ struct MadeText {
     answer: Vec<u8>,
     /// When each request came, where that is asked for.
     came: Option<Vec<u8>>,
+    /// How many requests of a log are left out.
+    left_out: usize,
 }
 
 impl<'a> Arriving<'a> {
@@ -104,8 +107,8 @@ impl<'a> Arriving<'a> {
     ) -> Result<MadeText, Unmade<'a>> {
         let table = table_part(input);
         let config = Config::read(self.alloc, table)?;
-        let made = match source {
-            Source::Loads(loads) => self.made_of_loads(&config, loads.as_slice())?,
+        let (made, left_out) = match source {
+            Source::Loads(loads) => (self.made_of_loads(&config, loads.as_slice())?, 0),
             Source::Log(log) => self.made_of_log(rt, &config, log)?,
         };
         let came = match self.asked.came {
@@ -113,7 +116,11 @@ impl<'a> Arriving<'a> {
             None => None,
         };
         let answer = self.answer_of(&config, table, made)?;
-        Ok(MadeText { answer, came })
+        Ok(MadeText {
+            answer,
+            came,
+            left_out,
+        })
     }
 
     /// Whether there are no names, or as many as the table has tasks.
@@ -174,11 +181,27 @@ impl<'a> Arriving<'a> {
     {
         if let Some(came) = &made.came {
             let name = self.asked.came.unwrap_or("");
-            if let Err(failure) = write_came(rt, self.alloc, name, came.as_slice()) {
+            if let Err(failure) = write_beside(rt, self.alloc, name, came.as_slice()) {
                 return Ok(failure.end(errors));
             }
         }
-        write_answer(made.answer.as_slice(), output)
+        let status = write_answer(made.answer.as_slice(), output)?;
+        self.say_left_out(made.left_out, errors);
+        Ok(status)
+    }
+
+    /// Says how many requests of the log are left out, where some are.
+    fn say_left_out<E: Write>(&self, left_out: usize, errors: &mut E) {
+        let Some(words) = self.asked.log else {
+            return;
+        };
+        if left_out > 0 {
+            let file = words.file;
+            let _ = writeln!(
+                errors,
+                "caladan_view: {file}: requests left out: {left_out}"
+            );
+        }
     }
 }
 

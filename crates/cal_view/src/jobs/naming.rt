@@ -10,51 +10,27 @@ use std::io::Write;
 pub struct LabelWords<'a> {
     /// The names of the tasks, with commas between.
     pub names: Option<&'a str>,
-    /// What a clock tick is.
+    /// What a clock tick is: one of the units that a log has.
     pub tick: Option<&'a str>,
 }
 
 /// The most letters that a name has.
 const NAME_MOST: usize = 40;
 
-/// The most letters that a unit has.
-const TICK_MOST: usize = 10;
-
-/// A word of this option that is empty, has more letters than so many, or one that is not shown.
-#[derive(Clone, Copy, Debug, PartialEq, Eq)]
-struct LabelFault<'a> {
-    option: &'static str,
-    word: &'a str,
-    most: usize,
-}
-
 /// Whether a word has a letter, at most so many, and none that is not shown.
-fn is_label(word: &str, most: usize) -> bool {
+fn is_name(word: &str) -> bool {
     let is_shown = !word.chars().any(|letter| letter.is_control());
-    is_shown && !word.is_empty() && letters(word) <= most
+    is_shown && !word.is_empty() && letters(word) <= NAME_MOST
 }
 
-/// The first word that is no label, whatever the input is.
-fn word_fault<'a>(words: LabelWords<'a>) -> Option<LabelFault<'a>> {
-    if let Some(names) = words.names {
-        for name in names.split(',') {
-            if !is_label(name, NAME_MOST) {
-                return Some(LabelFault {
-                    option: "--names",
-                    word: name,
-                    most: NAME_MOST,
-                });
-            }
+/// The first word that is no name, whatever the input is.
+fn name_fault<'a>(words: LabelWords<'a>) -> Option<&'a str> {
+    for name in words.names?.split(',') {
+        if !is_name(name) {
+            return Some(name);
         }
     }
-    match words.tick {
-        Some(tick) if !is_label(tick, TICK_MOST) => Some(LabelFault {
-            option: "--tick",
-            word: tick,
-            most: TICK_MOST,
-        }),
-        _ => None,
-    }
+    None
 }
 
 /// Writes a word, with `?` for each letter that is not shown.
@@ -65,15 +41,15 @@ fn say_word<E: Write>(word: &str, errors: &mut E) {
     }
 }
 
-/// Says what is wrong with the words whatever the input is, and answers the exit status, where
+/// Says what is wrong with the names whatever the input is, and answers the exit status, where
 /// something is.
-pub fn refuse_words_of_labels<E: Write>(words: LabelWords<'_>, errors: &mut E) -> Option<u8> {
-    let LabelFault { option, word, most } = word_fault(words)?;
-    let _ = write!(errors, "caladan_view: {option} '");
+pub fn refuse_words_of_names<E: Write>(words: LabelWords<'_>, errors: &mut E) -> Option<u8> {
+    let word = name_fault(words)?;
+    let _ = write!(errors, "caladan_view: --names '");
     say_word(word, errors);
     let _ = writeln!(
         errors,
-        "': 1 to {most} letters are asked for, none of them a control letter"
+        "': 1 to {NAME_MOST} letters are asked for, none of them a control letter"
     );
     Some(2)
 }

@@ -3,6 +3,7 @@
 use crate::command_words::variation::{values_of, variation_of};
 use crate::fault::RefusedRuns;
 use crate::jobs::naming::refuse_other_count;
+use crate::jobs::pacing::refuse_no_misses;
 use crate::refusing::{refuse_word, table_alone};
 use cal_input::{RunFault, read_input};
 use cal_policy::Policy;
@@ -40,6 +41,9 @@ impl Sweeping<'_> {
             Ok(asked) => asked,
             Err(fault) => return self.refuse(b"", None, fault, errors),
         };
+        if self.bounds_misses() {
+            return Ok(refuse_no_misses(errors));
+        }
         let input = read_input(self.alloc, &mut reader)?;
         let input = input.as_slice();
         let values = values_of(self.alloc, self.words.vary)?;
@@ -57,6 +61,14 @@ impl Sweeping<'_> {
         match answer_sweep(rt, &job, output, errors) {
             Ok(ended) => Ok(ended.status),
             Err(fault) => self.refuse(input, variation, fault, errors),
+        }
+    }
+
+    /// Whether the plan says what misses memory bears. Requests that are made have none.
+    fn bounds_misses(&self) -> bool {
+        match self.words.plan {
+            Some(plan) => plan.memory.is_some(),
+            None => false,
         }
     }
 

@@ -1,14 +1,10 @@
 //! The file for when requests came.
 
-use crate::edge::beside::open_beside;
-use crate::edge::failure::Failure;
 use cal_input::RunFault;
 use cal_load::{Made, turn_of};
 use cal_machine::Listed;
 use cal_trace::{Coming, Comings, LeftOut, write_comings};
 use std::alloc::{AllocError, Global};
-use std::io::Write;
-use std::rt::Files;
 
 /// To which turn each request came that was made, and how many are left out. Fails only when out of
 /// memory.
@@ -43,26 +39,5 @@ pub fn came_text(alloc: Global, made: &Made, ticks: u64) -> Result<Vec<u8>, RunF
     match write_comings(&comings, &mut text) {
         Ok(()) => Ok(text),
         Err(_) => Err(RunFault::Memory),
-    }
-}
-
-/// Writes this text to the file of this name.
-pub fn write_came<'a, H: Files>(
-    rt: &H,
-    alloc: Global,
-    name: &'a str,
-    text: &[u8],
-) -> Result<(), Failure<'a>> {
-    let mut file = match open_beside(rt, alloc, name) {
-        Ok(file) => file,
-        Err(said) => return Err(Failure::of_file(RunFault::Write, name, said)),
-    };
-    if let Err(said) = file.write_all(text) {
-        file.remove(rt);
-        return Err(Failure::of_file(RunFault::Write, name, said));
-    }
-    match file.keep(rt) {
-        Ok(()) => Ok(()),
-        Err(said) => Err(Failure::of_file(RunFault::Write, name, said)),
     }
 }

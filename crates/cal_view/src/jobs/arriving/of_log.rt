@@ -1,13 +1,15 @@
 //! Arrivals of a log.
 
+ghost use Rattle.std.specs.Prelude.{◌≡◌, ◌-◌, length};
+
 use crate::command_words::log_words::LogWords;
 use crate::edge::sources::{STANDARD, read_named};
 use crate::jobs::arriving::Arriving;
 use crate::jobs::arriving::unmade::Unmade;
 use cal_input::RunFault;
 use cal_load::{
-    LoadFault, LogFault, LogTerms, Made, RowFault, Timing, Why, logged_arrivals, read_log, refused,
-    scale_of, task_at, turns_for, word_at,
+    LoadFault, LogFault, LogRow, LogTerms, Made, RowFault, Timing, Why, logged_arrivals, read_log,
+    refused, scale_of, task_at, turns_for, word_at,
 };
 use cal_machine::Config;
 use cal_why::place_of_field;
@@ -37,6 +39,14 @@ fn told_of(alloc: Global, name: &str, text: &[u8], fault: RowFault) -> Result<St
     let mut told = String::new(alloc);
     write!(told, "caladan_view: {name}: row {row}: {why}\n{place}")?;
     Ok(told)
+}
+
+/// How many requests of a log were not made.
+fn left_out_of(rows: &[LogRow], made: &Made) -> usize
+    ensures { result ≡ length rows.now - length made.now.arrivals.requests }
+{
+    rows.len()
+        .saturating_sub(made.arrivals.requests.as_slice().len())
 }
 
 impl<'a> Arriving<'a> {
@@ -81,13 +91,14 @@ impl<'a> Arriving<'a> {
         }
     }
 
-    /// Reads the log, and makes its arrivals for a table.
+    /// Reads the log, and makes its arrivals for a table; with them, how many of its requests are left
+    /// out.
     pub fn made_of_log<H: Files>(
         &self,
         rt: &H,
         config: &Config,
         log: &AskedLog<'a>,
-    ) -> Result<Made, Unmade<'a>> {
+    ) -> Result<(Made, usize), Unmade<'a>> {
         self.are_counted(config)?;
         let terms = LogTerms {
             scale: scale_of(log.words.unit, log.words.turn)?,
@@ -105,6 +116,8 @@ impl<'a> Arriving<'a> {
             }
         };
         let timing = self.timing_of(log, turns_for(rows.as_slice()));
-        Ok(logged_arrivals(self.alloc, config, rows.as_slice(), timing)?)
+        let made = logged_arrivals(self.alloc, config, rows.as_slice(), timing)?;
+        let left_out = left_out_of(rows.as_slice(), &made);
+        Ok((made, left_out))
     }
 }
