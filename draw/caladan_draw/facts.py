@@ -71,7 +71,7 @@ def kind_of(text: str) -> str:
     for kind, known in HEADS.items():
         if head == known:
             return kind
-    if head.startswith("load") and ",p50,p50 bound," in head:
+    if head.startswith(("load", "offered")) and ",p50,p50 bound," in head:
         return "sweep"
     cells = next(csv.reader([head]), [])
     if "seed" in cells[1:-1]:

@@ -18,8 +18,8 @@ FIRST_MEASURE = "requests given"
 EXPECTED = {
     "compare": "not the CSV of `caladan_view compare --csv`, whose first line is measure or a key,LABEL,LABEL bound,"
                "LABEL of and so on, with four columns for each further table",
-    "sweep": "not the CSV of `caladan_view sweep --csv`, whose first line is load,(a key,)p50,p50 bound,p50 of and so "
-             "on, to best-effort share",
+    "sweep": "not the CSV of `caladan_view sweep --csv`, whose first line is load or offered,(a key,)p50,p50 bound,p50 "
+             "of and so on, to best-effort share",
     "seeds": "not the rows of runs with several seeds, whose first line is what is set in a run,seed,MEASURE,..",
 }
 
@@ -60,11 +60,13 @@ class SweptRun:
 
 @dataclass(frozen=True)
 class Sweep:
-    """The runs of a sweep, the key that is varied, if any, and the task that is swept where it has a name."""
+    """The runs of a sweep, the key that is varied, if any, the task that is swept where it has a name, and whether its
+    loads are in cores."""
 
     task: str
     key: str
     runs: tuple[SweptRun, ...]
+    in_cores: bool = False
 
     @property
     def values(self) -> list[str]:
@@ -134,4 +136,5 @@ def read_sweep(text: str, name: str) -> Sweep:
         runs.append(SweptRun(load, ", ".join([*row[1:len(between) + 1], *which]), times, counts))
     if not runs:
         raise Refusal(f"{name}: it has no runs below its head")
-    return Sweep(head[0].partition("load of ")[2], key, tuple(runs))
+    in_cores = head[0].startswith("offered")
+    return Sweep(head[0].partition("offered to " if in_cores else "load of ")[2], key, tuple(runs), in_cores)
