@@ -104,30 +104,32 @@ given_next threads turns rows more row slot thread old new g same lt is few comi
     let free_here : giving.now.free ≡ free_after thread (given ++ one ∷ []) =
     giving.taking.free ∙ ap (λ n. free_next n giving.taken) (g.of.free thread giving.was giving.at) ∙ sym (after_placed (slots_on thread given) (slot_of row) giving.taken)
     ∙ sym (ap (λ l. after_last (last_in l)) (here_on given one)) in
-    let size : length new.queues.items ≡ length old.queues.items = ap (λ (l : List Queue). length l) giving.queues ∙ length-set' old.queues.items thread giving.now in
-    (record {
-      given = given ++ one ∷ [];
-      dealt = subst (λ (l : List LogRow). AreDealt threads turns l (given ++ one ∷ [])) (sym of_more) (dealt_more threads turns rows given one g.dealt lt turn_is);
-      of = record {
-        queues = λ k queue e.
-            queue_at (λ n q. q.slots.items ≡ slots_on n (given ++ one ∷ [])) old.queues.items thread giving.now within slots_here
-            (λ n q other at. g.of.queues n q at ∙ sym (other_on n given one other)) k queue (subst (λ (l : List Queue). slice_get l k ≡ Some queue) giving.queues e);
-        free = λ k queue e.
-            queue_at (λ n q. q.free ≡ free_after n (given ++ one ∷ [])) old.queues.items thread giving.now within free_here
-            (λ n q other at. g.of.free n q at ∙ sym (ap (λ l. after_last (last_in l)) (other_on n given one other))) k queue
-            (subst (λ (l : List Queue). slice_get l k ≡ Some queue) giving.queues e);
-        came = let before = g.of.came in let more = giving.came (omega (arith, before, long, few)) in omega (arith, before, more, length-append given (one ∷ []));
-        left =
-            let before = g.of.left in
-            let came = g.of.came in
-            let some = coming.counted (omega (arith, came, long, few)) in
-            let more = giving.left (omega (arith, some, came, long, few)) in
-            let sum = sum_by_push (λ (h : Given). out_in h.turn) given one in
-            omega (arith, before, more, sum);
-      };
-      queues = size ∙ g.queues;
-      all = all;
-    }, refl)
+    let size : length new.queues.items ≡ length old.queues.items = ap (λ (l : List Queue). length l) giving.queues ∙ length-set' old.queues.items thread giving.now in (
+      record {
+        given = given ++ one ∷ [];
+        dealt = subst (λ (l : List LogRow). AreDealt threads turns l (given ++ one ∷ [])) (sym of_more) (dealt_more threads turns rows given one g.dealt lt turn_is);
+        of = record {
+          queues = λ k queue e.
+              queue_at (λ n q. q.slots.items ≡ slots_on n (given ++ one ∷ [])) old.queues.items thread giving.now within slots_here
+              (λ n q other at. g.of.queues n q at ∙ sym (other_on n given one other)) k queue (subst (λ (l : List Queue). slice_get l k ≡ Some queue) giving.queues e);
+          free = λ k queue e.
+              queue_at (λ n q. q.free ≡ free_after n (given ++ one ∷ [])) old.queues.items thread giving.now within free_here
+              (λ n q other at. g.of.free n q at ∙ sym (ap (λ l. after_last (last_in l)) (other_on n given one other))) k queue
+              (subst (λ (l : List Queue). slice_get l k ≡ Some queue) giving.queues e);
+          came = let before = g.of.came in let more = giving.came (omega (arith, before, long, few)) in omega (arith, before, more, length-append given (one ∷ []));
+          left =
+              let before = g.of.left in
+              let came = g.of.came in
+              let some = coming.counted (omega (arith, came, long, few)) in
+              let more = giving.left (omega (arith, some, came, long, few)) in
+              let sum = sum_by_push (λ (h : Given). out_in h.turn) given one in
+              omega (arith, before, more, sum);
+        };
+        queues = size ∙ g.queues;
+        all = all;
+      },
+      refl,
+    )
   where
     length-map' : (xs : List Given) → length (map (λ (h : Given). h.row) xs) ≡ length xs
     length-map' [] = refl

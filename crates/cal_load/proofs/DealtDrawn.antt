@@ -57,7 +57,7 @@ pub dealt_one : (threads turns : ℕ) (drawn : List DrawnRequest) (one : DrawnRe
 dealt_one threads turns drawn one slot thread old new d same lt is_to is few coming giving all =
     let long = length-map (λ (it : DrawnRequest). it.row) drawn in
     let next = given_next threads turns (map (λ it. it.row) drawn) (map (λ it. it.row) (drawn ++ one ∷ [])) one.row slot thread old new d.given same lt is (omega (arith, long, few)) coming giving all
-        (map-append (λ (it : DrawnRequest). it.row) drawn (one ∷ [])) in
+    (map-append (λ (it : DrawnRequest). it.row) drawn (one ∷ [])) in
     record {
       given = next.0;
       to = ap (λ (l : List Given). map (λ (it : Given). it.thread) l) next.1

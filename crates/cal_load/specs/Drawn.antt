@@ -87,7 +87,7 @@ pub record AreDealtOf (table : Table) (loads : List TaskLoad) (drawn : List Draw
 abbrev pub AreArrivalsOf : Table → List TaskLoad → List DrawnLoad → ℕ → Made → Type 0
 AreArrivalsOf table loads drawn turns made =
     Each (λ load. load.task < length table.tasks → IsTaskDealt table loads drawn turns
-        made.arrivals.requests made.counts.items load.task) loads
+    made.arrivals.requests made.counts.items load.task) loads
 
 -- arrivals of requests that were drawn for this table alone
 pub record IsMadeAlone (table : Table) (loads : List TaskLoad) (turns : ℕ) (made : Made) : Type 0 where

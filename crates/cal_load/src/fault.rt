@@ -76,7 +76,10 @@ point"
             ),
             Why::LoadToo => f.write_str("--load is given too, and one of the two is asked for"),
             Why::TooFewThreads(threads) => {
-                write!(f, "a task may get as many cores as it has threads, here {threads}")
+                write!(
+                    f,
+                    "a task may get as many cores as it has threads, here {threads}"
+                )
             }
             Why::NotRising => f.write_str(
                 "several loads rise, and .. stands between two and the last",

@@ -2,8 +2,8 @@
 //! take, how they come, and a seed; or of the requests of a log. The same words give the same bytes.
 //!
 //! That what is made are arrivals that fit the table, with as many requests as are counted, is
-//! proved; of a log also which requests come, and before which turns. Which come by a load, and
-//! when, is only tested, and so is what a log's text says.
+//! proved, and to which thread and before which turn each comes of those that were drawn by a load or
+//! that a log has. Which are drawn by a load is only tested, and so is what a log's text says.
 #![tactic(auto)]
 
 mod asked;

@@ -60,17 +60,12 @@ struct Rising<'a> {
 }
 
 impl<'a> Rising<'a> {
-    /// The fault of the word, for this reason.
-    fn fault(&self, why: Why<'a>) -> LoadFault<'a> {
-        refused(flag_of(self.measure), self.word, why)
-    }
-
     /// One load, in thousandths.
     fn load_of(&self, piece: &str) -> Result<u64, LoadFault<'a>> {
         match (thousandths_of(piece), self.measure) {
             (Some(load), measure) if load > 0 && load <= most_of(measure) => Ok(load),
-            (_, Measure::Limit) => Err(self.fault(Why::NotALoad)),
-            (_, Measure::Cores) => Err(self.fault(Why::NotCores(MOST_LIMIT))),
+            (_, Measure::Limit) => Err(refused(LOAD, self.word, Why::NotALoad)),
+            (_, Measure::Cores) => Err(refused(OFFERED, self.word, Why::NotCores(MOST_LIMIT))),
         }
     }
 
@@ -85,7 +80,7 @@ impl<'a> Rising<'a> {
     /// Takes one load more, and before it those of `..`.
     fn take(&mut self, load: u64) -> Result<(), LoadFault<'a>> {
         if load <= self.last() {
-            return Err(self.fault(Why::NotRising));
+            return Err(refused(flag_of(self.measure), self.word, Why::NotRising));
         }
         if let Some(step) = self.step {
             self.fill(step, load)?;
@@ -111,7 +106,7 @@ impl<'a> Rising<'a> {
     fn go_on(&mut self) -> Result<(), LoadFault<'a>> {
         let loads = self.loads.as_slice();
         if self.step.is_some() || loads.len() < 2 {
-            return Err(self.fault(Why::NotRising));
+            return Err(refused(flag_of(self.measure), self.word, Why::NotRising));
         }
         let before = loads[loads.len() - 2];
         self.step = Some(self.last().saturating_sub(before));
@@ -140,7 +135,7 @@ pub fn loads_of<'a>(
         }
     }
     if rising.step.is_some() {
-        return Err(rising.fault(Why::NotRising));
+        return Err(refused(flag_of(measure), word, Why::NotRising));
     }
     Ok(rising.loads)
 }

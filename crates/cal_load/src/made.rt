@@ -20,8 +20,8 @@ ghost use Rattle.cal_trace.specs.History.Ranges.{Each};
 
 use crate::clocks::{Timing, passes_of, turns_of};
 use crate::comings::came_of;
-use crate::fault::{LoadFault, Why, refused};
 use crate::drawing::{DrawnLoad, dealt};
+use crate::fault::{LoadFault, Why, refused};
 use crate::limits::greatest_limit;
 use crate::loads::{Measure, flag_of};
 use crate::making::{Coming, TaskLoad};
@@ -81,6 +81,14 @@ impl<'a> ArrivalPlan<'a> {
             }
         }
         None
+    }
+
+    /// The load at a place.
+    fn load_at(&self, place: usize) -> &'a TaskLoad
+        requires { place < length self.now.loads.now }
+        ensures { slice_get self.now.loads.now place ≡ Some result.now }
+    {
+        &self.loads[place]
     }
 
     /// What the loads are measured in: the first of them.
@@ -240,7 +248,7 @@ fn all_drawn(
 {
     let mut drawn = Vec::new(alloc);
     for place in 0..plan.loads.len() {
-        let load = &plan.loads[place];
+        let load = plan.load_at(place);
         let mut rng = generator(plan.seed, load.task);
         let threads = greatest_limit(tables, load.task);
         let Some(of_load) = load.draw(alloc, &mut rng, threads, turns)? else {
@@ -281,21 +289,14 @@ fn all_that_come(
             continue;
         };
         let (first, threads) = config.threads_of(task);
-        let requests = drawn_at(drawn, place).requests.as_slice();
-        let coming = dealt(alloc, requests, threads, turns)?;
-        if !gathered.take(&plan.loads[place], first, &coming)? {
+        let load = plan.load_at(place);
+        let own = drawn_at(drawn, place);
+        let coming = dealt(alloc, own.requests.as_slice(), threads, turns)?;
+        if !gathered.take(load, first, &coming)? {
             return Ok(None);
         }
     }
     Ok(Some(gathered))
-}
-
-/// The fault of this word, before which the flag of a plan's loads stands: too many requests come.
-fn too_many<'a>(plan: &ArrivalPlan<'_>, word: &'a str) -> LoadFault<'a>
-    ensures { IsRefusedFor (flag_of (measure_in plan.now.loads.now)) word.now
-        (Why.TooMany MOST_REQUESTS) result }
-{
-    refused(flag_of(plan.measure()), word, Why::TooMany(MOST_REQUESTS))
 }
 
 /// The requests of each load of a plan, in their order, each of a task drawn for as many threads as
@@ -316,10 +317,11 @@ pub fn drawn_loads<'a>(
         (Why.TooMany MOST_REQUESTS)) }
 {
     let turns = plan.timing.nearest().turns;
-    match all_drawn(alloc, tables, plan, turns)? {
-        Some(drawn) => Ok(drawn),
-        None => Err(too_many(plan, word)),
-    }
+    let Some(drawn) = all_drawn(alloc, tables, plan, turns)? else {
+        let why = Why::TooMany(MOST_REQUESTS);
+        return Err(refused(flag_of(plan.measure()), word, why));
+    };
+    Ok(drawn)
 }
 
 /// The arrivals of what was drawn for the loads of a plan, for a table: so many passes and turns, and
@@ -349,7 +351,8 @@ pub fn dealt_arrivals<'a>(
 {
     let timing = plan.timing.nearest();
     let Some(gathered) = all_that_come(alloc, config, plan, drawn, timing.turns)? else {
-        return Err(too_many(plan, word));
+        let why = Why::TooMany(MOST_REQUESTS);
+        return Err(refused(flag_of(plan.measure()), word, why));
     };
     let made = gathered.assembled(alloc, timing)?;
     Ok(made)

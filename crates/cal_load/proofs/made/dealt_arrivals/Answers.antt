@@ -52,6 +52,6 @@ returns-clause-dealt c =
     let is : AreDealtOf table loads drawn c.nearest-timing.result.turns (length table.tasks) gathered = rw c.in-Some.is at c.in_ok-gathered.ensures.dealt in
     let timed = subst (λ (n : ℕ). AreDealtOf table loads drawn n (length table.tasks) gathered) c.nearest-timing.ensures.turns is in
     let requests = subst (λ (l : List Arrival). Each (λ load. load.task < length table.tasks → IsTaskDealt table loads drawn turns l gathered.counts.items load.task) loads)
-        (sym c.in_ok-made.ensures.requests) timed.each in
+    (sym c.in_ok-made.ensures.requests) timed.each in
     subst (λ (l : List Count). Each (λ load. load.task < length table.tasks → IsTaskDealt table loads drawn turns made.arrivals.requests l load.task) loads)
     (sym c.in_ok-made.ensures.counts) requests
