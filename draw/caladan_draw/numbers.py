@@ -19,8 +19,8 @@ UNIT = re.compile(r" \[(ns|us|ms|s)\]$")
 EXPECTED = {
     "compare": "not the CSV of `caladan_view compare --csv`, whose first line is measure or a key,LABEL,LABEL bound,"
                "LABEL of and so on, with four columns for each further table",
-    "sweep": "not the CSV of `caladan_view sweep --csv`, whose first line is load,(a key,)p50,p50 bound,p50 of and so "
-             "on, to best-effort share",
+    "sweep": "not the CSV of `caladan_view sweep --csv`, whose first line is load or offered,(a key,)p50,p50 bound,p50 "
+             "of and so on, to best-effort share",
     "seeds": "not the rows of runs with several seeds, whose first line is what is set in a run,seed,MEASURE,..",
 }
 
@@ -62,13 +62,14 @@ class SweptRun:
 
 @dataclass(frozen=True)
 class Sweep:
-    """The runs of a sweep, the key that is varied, if any, the task that is swept where it has a name, and the unit of
-    the times where the head says it."""
+    """The runs of a sweep, the key that is varied, if any, the task that is swept where it has a name, the unit of the
+    times where the head says it, and whether its loads are in cores."""
 
     task: str
     key: str
     runs: tuple[SweptRun, ...]
     unit: str = ""
+    in_cores: bool = False
 
     @property
     def values(self) -> list[str]:
@@ -150,4 +151,6 @@ def read_sweep(text: str, name: str) -> Sweep:
         runs.append(SweptRun(load, ", ".join([*row[1:len(between) + 1], *which]), times, counts))
     if not runs:
         raise Refusal(f"{name}: it has no runs below its head")
-    return Sweep(head[0].partition("load of ")[2], key, tuple(runs), unit_in(titles[1:]))
+    in_cores = head[0].startswith("offered")
+    task = head[0].partition("offered to " if in_cores else "load of ")[2]
+    return Sweep(task, key, tuple(runs), unit_in(titles[1:]), in_cores)

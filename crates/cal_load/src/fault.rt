@@ -10,6 +10,13 @@ use std::fmt;
 pub enum Why<'a> {
     /// It is no load: a number above 0 and at most 10, with up to three digits after the point.
     NotALoad,
+    /// It is no load in cores: a number above 0 and at most this, with up to three digits after the
+    /// point.
+    NotCores(u8),
+    /// A load of a limit is given too.
+    LoadToo,
+    /// It is more than so many threads can do.
+    TooFewThreads(u64),
     /// Several loads do not rise, or `..` does not stand between two loads and a last one.
     NotRising,
     /// It is no list of turns with their shares.
@@ -62,6 +69,18 @@ impl<'a> fmt::Display for Why<'a> {
                 "a load is a number above 0 and at most 10, with up to three digits after the \
 point",
             ),
+            Why::NotCores(most) => write!(
+                f,
+                "cores are a number above 0 and at most {most}, with up to three digits after the \
+point"
+            ),
+            Why::LoadToo => f.write_str("--load is given too, and one of the two is asked for"),
+            Why::TooFewThreads(threads) => {
+                write!(
+                    f,
+                    "a task may get as many cores as it has threads, here {threads}"
+                )
+            }
             Why::NotRising => f.write_str(
                 "several loads rise, and .. stands between two and the last",
             ),

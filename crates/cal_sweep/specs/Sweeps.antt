@@ -6,8 +6,14 @@ use Rattle.cal_came.specs.Windows.{window_of}
 use Rattle.cal_came.specs.declared.came.Came.{Came}
 use Rattle.cal_came.specs.declared.counted.Counted.{Counted}
 use Rattle.cal_input.specs.declared.fault.RunFault.TheVariants.{Memory, Write}
-use Rattle.cal_load.specs.Clocks.{IsTiming}
+use Rattle.cal_load.specs.Clocks.{IsTiming, nearest_turns}
+use Rattle.cal_load.specs.Drawn.{AreArrivalsOf, AreDrawnFor}
+use Rattle.cal_load.specs.Loads.{AreHeld, greatest_limit}
 use Rattle.cal_load.specs.Made.{IsMadeOf, IsTimedBy}
+use Rattle.cal_load.specs.declared.drawing.DrawnLoad.{DrawnLoad}
+use Rattle.cal_load.specs.declared.loads.Measure.{Measure}
+use Rattle.cal_load.specs.declared.loads.Measure.TheVariants.{Cores, Limit}
+use Rattle.cal_load.specs.declared.made.ArrivalPlan.{ArrivalPlan}
 use Rattle.cal_load.specs.declared.made.Count.{Count}
 use Rattle.cal_load.specs.declared.made.Made.{Made}
 use Rattle.cal_load.specs.declared.making.TaskLoad.{TaskLoad}
@@ -27,7 +33,7 @@ use Rattle.cal_sweep.specs.declared.runs.Point.{Point}
 use Rattle.cal_sweep.specs.declared.runs.SweptLoad.{SweptLoad}
 use Rattle.cal_sweep.specs.declared.runs.SweptRun.{SweptRun}
 use Rattle.cal_sweep.specs.declared.words.Asked.{Asked}
-use Rattle.cal_sweep.specs.Words.{AreLoadedWith}
+use Rattle.cal_sweep.specs.Words.{AreLoadedWith, greatest_of}
 
 -- requests count from when they came, and those are ranked that came within the turns asked for
 abbrev pub counted_of : Asked → Arrivals → List Came → Counted
@@ -53,28 +59,51 @@ pub record IsRunOn (policy : Policy) (asked : Asked) (table : Table) (made : Mad
   pub measured : IsCountedBy asked.plan policy table made.arrivals
       (counted_of asked made.arrivals made.came.items) run.numbers
 
--- a run by the policy of this table on arrivals that were made for it of what is asked for, with this
--- load of the task that is swept: as many for each task as the counts of the run say, by the timing
--- asked for
-pub record IsSweptRun (policy : Policy) (asked : Asked) (load : ℕ) (table : Table)
-    (run : SweptRun) : Type 0 where
-  pub loads : List TaskLoad
-  pub asks : AreLoadedWith asked load loads
+-- a run by the policy of this table on arrivals of what was drawn for the loads of a plan: as many for
+-- each task as the counts of the run say, by the timing asked for
+pub record IsSweptRun (policy : Policy) (asked : Asked) (plan : ArrivalPlan)
+    (drawn : List DrawnLoad) (table : Table) (run : SweptRun) : Type 0 where
   pub made : Made
-  pub are : IsMadeOf table loads made
-  pub timed : IsTiming asked.timing → IsTimedBy asked.timing made.arrivals
+  pub are : IsMadeOf table plan.loads.now made
+  pub of : AreArrivalsOf table plan.loads.now drawn (nearest_turns plan.timing) made
+  pub timed : IsTiming plan.timing → IsTimedBy plan.timing made.arrivals
   pub ran : IsRunOn policy asked table made run
 
--- as many runs as tables, each of the table at its place with this load
-abbrev pub AreSweptRuns : Policy → Asked → ℕ → List Table → List SweptRun → Type 0
-AreSweptRuns policy asked load tables runs = AreEachOf (IsSweptRun policy asked load) tables runs
+-- a run of this table on arrivals that were drawn for it alone
+pub record IsRunAlone (policy : Policy) (asked : Asked) (plan : ArrivalPlan) (table : Table)
+    (run : SweptRun) : Type 0 where
+  pub drawn : List DrawnLoad
+  pub are : AreDrawnFor (greatest_limit (table ∷ [])) plan.loads.now (nearest_turns plan.timing) drawn
+  pub is : IsSweptRun policy asked plan drawn table run
 
--- the runs of this load with this seed: one of each table
+-- as many runs as tables, each of the table at its place, on arrivals that were drawn for it alone
+abbrev pub AreRunsAlone : Policy → Asked → ArrivalPlan → List Table → List SweptRun → Type 0
+AreRunsAlone policy asked plan tables runs = AreEachOf (IsRunAlone policy asked plan) tables runs
+
+-- the same, all on the same requests, drawn for as many threads of each task as it has in the table
+-- where it has the most
+pub record AreRunsAlike (policy : Policy) (asked : Asked) (plan : ArrivalPlan) (tables : List Table)
+    (runs : List SweptRun) : Type 0 where
+  pub drawn : List DrawnLoad
+  pub are : AreDrawnFor (greatest_limit tables) plan.loads.now (nearest_turns plan.timing) drawn
+  pub each : AreEachOf (IsSweptRun policy asked plan drawn) tables runs
+
+-- of loads of a limit the one, of loads in cores the other
+abbrev pub AreRunsBy : Measure → Policy → Asked → ArrivalPlan → List Table → List SweptRun → Type 0
+AreRunsBy Limit policy asked plan tables runs = AreRunsAlone policy asked plan tables runs
+AreRunsBy Cores policy asked plan tables runs = AreRunsAlike policy asked plan tables runs
+
+-- the runs of this load with this seed: one of each table, by a plan of what is asked for where the
+-- swept task has this load
 pub record IsSweptLoad (policy : Policy) (asked : Asked) (tables : List Table) (point : Point)
     (of_load : SweptLoad) : Type 0 where
   pub at : of_load.load ≡ point.load
   pub seed : of_load.seed ≡ point.seed
-  pub runs : AreSweptRuns policy asked point.load tables of_load.runs.items
+  pub plan : ArrivalPlan
+  pub asks : AreLoadedWith asked point.load plan.loads.now
+  pub timing : plan.timing ≡ asked.timing
+  pub seeded : plan.seed ≡ point.seed
+  pub runs : AreRunsBy asked.measure policy asked plan tables of_load.runs.items
 
 -- for each of these loads with its seed, a run of each table
 abbrev pub AreSweptLoads : Policy → Asked → List Table → List Point → List SweptLoad → Type 0
@@ -111,12 +140,20 @@ abbrev pub AreTablesOf : Option Varying → Table → List Table → Type 0
 AreTablesOf None table tables = tables ≡ table ∷ []
 AreTablesOf (Some varying) table tables = AreVaried table varying.key varying.values tables
 
+-- the threads of each of these tables can hold what is asked for at the greatest load, where it is in
+-- cores
+pub record AreHeldAtMost (asked : Asked) (tables : List Table) : Type 0 where
+  pub loads : List TaskLoad
+  pub asks : AreLoadedWith asked (greatest_of asked) loads
+  pub held : AreHeld tables loads
+
 -- the sweep by the policy that is asked for, of the table of an input or of those that it gives
 pub record IsSweep (input : List ℕ) (varying : Option Varying) (policy : Policy) (asked : Asked)
     (tables : List Table) (swept : List SweptLoad) : Type 0 where
   pub table : Table
   pub given : table_in (table_part input) ≡ Ok table
   pub varied : AreTablesOf varying table tables
+  pub held : AreHeldAtMost asked tables
   pub are : AreSweptLoads policy asked tables (points_of asked) swept
 
 -- the fault of a writer

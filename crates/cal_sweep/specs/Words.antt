@@ -3,6 +3,7 @@ use Rattle.std.specs.Prelude.{◌≡◌, ◌==◌, ◌<◌, ◌≤◌, ◌+◌, 
 use Rattle.std.specs.Prelude.{length, map, slice_get, if◌then◌else◌}
 use Rattle.std.specs.List.{list_any}
 use Rattle.cal_load.specs.declared.making.TaskLoad.{TaskLoad}
+use Rattle.cal_trace.specs.Arrivals.{last_in}
 use Rattle.cal_trace.specs.Rows.Text.{numbered}
 use Rattle.cal_sweep.specs.declared.objective.Objective.{Objective}
 use Rattle.cal_sweep.specs.declared.words.Asked.{Asked}
@@ -52,6 +53,15 @@ task_loaded (Some of_task) = of_task.task
 abbrev pub swept_task : Asked → ℕ
 swept_task asked = task_loaded (slice_get asked.tasks.items asked.place)
 
+-- the last load, 0 where there is none
+abbrev pub load_or_none : Option ℕ → ℕ
+load_or_none None = 0
+load_or_none (Some load) = load
+
+-- the greatest of the loads: they rise
+abbrev pub greatest_of : Asked → ℕ
+greatest_of asked = load_or_none (last_in asked.loads.items)
+
 -- the load of the i-th of the tasks, where the one at a place has this load
 abbrev pub load_at : ℕ → ℕ → ℕ → TaskLoad → ℕ
 load_at place load i of_task = if i == place then load else of_task.load
@@ -60,5 +70,7 @@ load_at place load i of_task = if i == place then load else of_task.load
 pub record AreLoadedWith (asked : Asked) (load : ℕ) (tasks : List TaskLoad) : Type 0 where
   pub same : map (λ of_task. of_task.task) tasks
       ≡ map (λ of_task. of_task.task) asked.tasks.items
+  pub measures : map (λ of_task. of_task.measure) tasks
+      ≡ map (λ of_task. of_task.measure) asked.tasks.items
   pub loads : map (λ of_task. of_task.load) tasks
       ≡ numbered (load_at asked.place load) 0 asked.tasks.items

@@ -28,6 +28,7 @@ fn text_of(job: &SweepJob<'_>, sweeps: &[Sweep]) -> Result<String, AllocError> {
         sweeps,
         seeds: asked.seeds.max(1) as usize,
         swept: asked.task(),
+        measure: asked.measure,
         tasks: tasks.as_slice(),
         names: job.names,
         form,
@@ -43,9 +44,8 @@ fn text_of(job: &SweepJob<'_>, sweeps: &[Sweep]) -> Result<String, AllocError> {
 
 /// Writes a line for each miss of these sweeps, with its numbers.
 fn say_misses_of_each<E: Write>(job: &SweepJob<'_>, sweeps: &[Sweep], errors: &mut E) {
-    let objectives = job.asked.objectives.as_slice();
     for policy in 0..sweeps.len() {
-        say_misses(&sweeps[policy], policy, objectives, job.names, errors);
+        say_misses(&sweeps[policy], policy, job.asked, job.names, errors);
     }
 }
 

@@ -4,10 +4,12 @@ ghost use Rattle.std.specs.Prelude.{◌≡◌, ◌≤◌, ◌++◌, ◌∷◌, [
 ghost use Rattle.std.specs.Prelude.{length};
 ghost use Rattle.cal_machine.specs.Reading.{table_in};
 ghost use Rattle.cal_machine.specs.Table.{Table};
+ghost use Rattle.cal_load.specs.Drawn.{AreDrawnOf};
 ghost use Rattle.cal_load.specs.Known.{AreKnown};
 ghost use Rattle.cal_sweep.specs.Faults.{AreCounted, IsFirstFault, SweepDecided};
-ghost use Rattle.cal_sweep.specs.Sweeps.{AreSweptLoads, AreSweptRuns, AreTablesOf, IsSweep};
-ghost use Rattle.cal_sweep.specs.Sweeps.{IsRunOn, IsSweptLoad, IsSweptRun, counted_of};
+ghost use Rattle.cal_sweep.specs.Sweeps.{AreHeldAtMost, AreRunsAlike, AreRunsAlone};
+ghost use Rattle.cal_sweep.specs.Sweeps.{AreSweptLoads, AreTablesOf, IsSweep};
+ghost use Rattle.cal_sweep.specs.Sweeps.{IsRunAlone, IsRunOn, IsSweptLoad, IsSweptRun, counted_of};
 ghost use Rattle.cal_sweep.specs.Sweeps.{is_before, is_cut_before, points_of, varying_of};
 ghost use Rattle.cal_sweep.specs.Sweeps.{with_seeds};
 ghost use Rattle.cal_tables.specs.Compared.{AreEachOf};
@@ -19,7 +21,9 @@ use crate::job::SweepJob;
 use crate::naming::are_counted;
 use crate::words::Asked;
 use cal_came::{Came, Counted, window_of};
-use cal_load::{ArrivalPlan, Count, Made, are_known, made_arrivals};
+use cal_load::{
+    ArrivalPlan, Count, DrawnLoad, Made, Measure, are_held, are_known, dealt_arrivals, drawn_loads,
+};
 use cal_machine::{Config, Listed};
 use cal_policy::Policy;
 use cal_tables::{
@@ -29,6 +33,7 @@ use cal_tables::{
 use cal_trace::Arrivals;
 use rayon::prelude::*;
 use std::alloc::{AllocError, Global};
+use std::slice;
 use std::thread::Threads;
 
 /// A run of a sweep.
@@ -137,41 +142,71 @@ fn run_on(
     }
 }
 
-/// The run of a table on the arrivals that are made for it with this load and this seed.
+/// The run of a table on the arrivals of what was drawn for the loads of a plan.
 fn swept_run<'a>(
     job: &SweepJob<'a>,
     policy: Policy,
     table: &Config,
     place: usize,
-    point: Point,
+    plan: &ArrivalPlan<'_>,
+    drawn: &[DrawnLoad],
 ) -> Result<SweptRun, SweepFault<'a>>
-    ensures { IfOk result (IsSweptRun policy job.now.asked.now point.load table.now) }
+    requires { AreDrawnOf plan.now.loads.now drawn.now }
+    ensures { IfOk result (IsSweptRun policy job.now.asked.now plan.now drawn.now table.now) }
 {
-    let asked = job.asked;
-    let loads = asked.at(job.alloc, point.load)?;
-    let plan = ArrivalPlan {
-        loads: loads.as_slice(),
-        timing: asked.timing,
-        seed: point.seed,
-    };
-    let made = made_arrivals(job.alloc, table, &plan, asked.word)?;
+    let made = dealt_arrivals(job.alloc, table, plan, drawn, job.asked.word)?;
     let run = run_on(job, policy, table, place, made)?;
     Ok(run)
 }
 
-/// A run of each table with this load and this seed, in the order of the tables.
-fn swept_runs<'a>(
+/// The run of a table on arrivals that are drawn for it alone.
+fn run_alone<'a>(
+    job: &SweepJob<'a>,
+    policy: Policy,
+    table: &Config,
+    place: usize,
+    plan: &ArrivalPlan<'_>,
+) -> Result<SweptRun, SweepFault<'a>>
+    ensures { IfOk result (IsRunAlone policy job.now.asked.now plan.now table.now) }
+{
+    let drawn = drawn_loads(job.alloc, slice::from_ref(table), plan, job.asked.word)?;
+    let run = swept_run(job, policy, table, place, plan, drawn.as_slice())?;
+    Ok(run)
+}
+
+/// A run of each table, in their order, each on arrivals that are drawn for it alone.
+fn runs_alone<'a>(
     job: &SweepJob<'a>,
     policy: Policy,
     tables: &[Config],
-    point: Point,
+    plan: &ArrivalPlan<'_>,
 ) -> Result<Vec<SweptRun>, SweepFault<'a>>
     ensures { IfOk result (λ runs.
-        AreSweptRuns policy job.now.asked.now point.load tables.now runs.items) }
+        AreRunsAlone policy job.now.asked.now plan.now tables.now runs.items) }
 {
     let mut runs = Vec::new(job.alloc);
     for place in 0..tables.len() {
-        let of_table = swept_run(job, policy, table_at(tables, place), place, point)?;
+        let of_table = run_alone(job, policy, table_at(tables, place), place, plan)?;
+        runs.push(of_table)?;
+    }
+    Ok(runs)
+}
+
+/// A run of each table, in their order, on the same requests, which are drawn for all of them.
+fn runs_alike<'a>(
+    job: &SweepJob<'a>,
+    policy: Policy,
+    tables: &[Config],
+    plan: &ArrivalPlan<'_>,
+) -> Result<Vec<SweptRun>, SweepFault<'a>>
+    ensures { IfOk result (λ runs.
+        AreRunsAlike policy job.now.asked.now plan.now tables.now runs.items) }
+{
+    let drawn = drawn_loads(job.alloc, tables, plan, job.asked.word)?;
+    let mut runs = Vec::new(job.alloc);
+    for place in 0..tables.len() {
+        let table = table_at(tables, place);
+        let of_table = swept_run(job, policy, table, place, plan, drawn.as_slice())?;
         runs.push(of_table)?;
     }
     Ok(runs)
@@ -186,8 +221,17 @@ fn swept_load<'a>(
 ) -> Result<SweptLoad, SweepFault<'a>>
     ensures { IfOk result (IsSweptLoad policy job.now.asked.now tables.now point) }
 {
-    let runs = swept_runs(job, policy, tables, point)?;
     let Point { load, seed } = point;
+    let loads = job.asked.at(job.alloc, load)?;
+    let plan = ArrivalPlan {
+        loads: loads.as_slice(),
+        timing: job.asked.timing,
+        seed,
+    };
+    let runs = match job.asked.measure {
+        Measure::Limit => runs_alone(job, policy, tables, &plan)?,
+        Measure::Cores => runs_alike(job, policy, tables, &plan)?,
+    };
     Ok(SweptLoad { load, seed, runs })
 }
 
@@ -294,13 +338,26 @@ fn tables_of(
     }
 }
 
+/// Whether the threads of each of these tables can hold what is asked for at the greatest load. The
+/// fault is that of the word of a load in cores.
+fn are_all_held<'a>(job: &SweepJob<'a>, tables: &[Config]) -> Result<(), SweepFault<'a>>
+    ensures { IfOk result (λ _. AreHeldAtMost job.now.asked.now tables.now) }
+{
+    let asked = job.asked;
+    let loads = asked.at(job.alloc, asked.greatest())?;
+    are_held(tables, loads.as_slice(), asked.offered.as_slice())?;
+    Ok(())
+}
+
 /// The table of a job's input, or those that it gives with each value of a variation, and for each
-/// load in turn and each seed a run by this policy of each of these tables on arrivals that are made
-/// for it with this load and this seed.
+/// load in turn and each seed a run by this policy of each of these tables on arrivals of this load
+/// and this seed: of a load of a limit on those that are made for the table, of a load in cores on
+/// the same requests for all tables.
 ///
 /// The fault is that of the table, then `Names` where there are some and not as many as its tasks,
 /// then that of the first word that names a task which it has not, then that of the first value that
-/// makes the table faulty; then that of the first run that has one. `Memory` may come at any place.
+/// makes the table faulty, then that of the first word of more cores than a task has threads in one
+/// of the tables; then that of the first run that has one. `Memory` may come at any place.
 pub fn swept<'a>(
     rt: &(impl Threads + Sync),
     job: &SweepJob<'a>,
@@ -330,6 +387,7 @@ pub fn swept<'a>(
     are_counted(&table, names.labels)?;
     are_known(&table, asked.tasks.as_slice(), asked.named.as_slice())?;
     let tables = tables_of(alloc, table, names.variation)?;
+    are_all_held(job, tables.as_slice())?;
     let loads = swept_loads(rt, job, policy, tables.as_slice())?;
     Ok(Sweep { tables, loads })
 }

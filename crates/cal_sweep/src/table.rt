@@ -9,7 +9,7 @@ use crate::seed_rows::{SEED_ROWS, SeedRow, of_seeds, seed_row_name};
 use crate::shares::best_effort_share;
 use crate::verdict::keeps_all;
 use crate::words::Asked;
-use cal_load::Count;
+use cal_load::{Count, Measure};
 use cal_machine::Config;
 use cal_tables::{
     CoreLine, Figure, Line, NumberForm, Rank, Sheet, Unit, core_figure, number, request_figure,
@@ -167,6 +167,8 @@ pub struct ShownSweep<'a> {
     pub seeds: usize,
     /// The number of the task that is swept.
     pub swept: usize,
+    /// What the loads are measured in.
+    pub measure: Measure,
     /// The numbers of the tasks that have rows.
     pub tasks: &'a [usize],
     pub names: SweepNames<'a>,
@@ -186,9 +188,11 @@ impl<'a> ShownSweep<'a> {
 
     /// What stands over the loads: of which task they are, where it has a name.
     fn load_heading(self, alloc: Global) -> Result<String, AllocError> {
-        match self.names.labels.name(self.swept) {
-            Some(name) => format!(in alloc; "load of {name}"),
-            None => String::from_str(alloc, "load"),
+        match (self.measure, self.names.labels.name(self.swept)) {
+            (Measure::Limit, Some(name)) => format!(in alloc; "load of {name}"),
+            (Measure::Limit, None) => String::from_str(alloc, "load"),
+            (Measure::Cores, Some(name)) => format!(in alloc; "offered to {name}"),
+            (Measure::Cores, None) => String::from_str(alloc, "offered"),
         }
     }
 

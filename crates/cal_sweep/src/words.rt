@@ -2,11 +2,13 @@
 
 ghost use Rattle.std.specs.Prelude.{◌≡◌, ◌<◌, ◌≤◌, ◌+◌, ◌^◌, IfOk, IsTrue, None, Ok, length};
 ghost use Rattle.cal_sweep.specs.Words.{AreLoadedWith, AreObjectives, IsAsked, first_tenth};
-ghost use Rattle.cal_sweep.specs.Words.{has_load, last_tenth, swept_task};
+ghost use Rattle.cal_sweep.specs.Words.{greatest_of, has_load, last_tenth, swept_task};
 
 use crate::fault::SweepFault;
 use crate::objective::{FLAG, Objective, objective_of};
-use cal_load::{LoadFault, LoadWords, TaskLoad, Timing, Why, number_of, refused, stepped_loads};
+use cal_load::{
+    LoadFault, LoadWords, Measure, TaskLoad, Timing, Why, number_of, refused, stepped_loads,
+};
 use cal_paced::Plan;
 use cal_tables::NumberForm;
 use std::alloc::{AllocError, Global};
@@ -50,6 +52,10 @@ pub struct Asked<'a> {
     pub tasks: Vec<TaskLoad>,
     /// Which of these tasks is swept.
     pub place: usize,
+    /// What the loads are measured in.
+    pub measure: Measure,
+    /// The words of the loads in cores.
+    pub offered: Vec<&'a str>,
     /// How long each run is.
     pub timing: Timing,
     /// The first turn of the window: requests that come in it are ranked.
@@ -196,6 +202,8 @@ pub fn asked_of<'a>(alloc: Global, words: &SweepWords<'a>) -> Result<Asked<'a>, 
         objectives,
         tasks: stepped.tasks,
         place: stepped.place,
+        measure: stepped.measure,
+        offered: words.load.offered.clone()?,
         timing: words.load.timing,
         first,
         after,
@@ -221,6 +229,16 @@ impl<'a> Asked<'a> {
         }
     }
 
+    /// The greatest of the loads; 0 where there is none.
+    pub fn greatest(&self) -> u64
+        ensures { result ≡ greatest_of self.now }
+    {
+        match self.loads.as_slice().last() {
+            Some(load) => *load,
+            None => 0,
+        }
+    }
+
     /// What comes to each task where the swept one has this load.
     pub fn at(&self, alloc: Global, load: u64) -> Result<Vec<TaskLoad>, AllocError>
         ensures { IfOk result (λ tasks. AreLoadedWith self.now load tasks.items) }
@@ -230,6 +248,7 @@ impl<'a> Asked<'a> {
             let of_task = &self.tasks[place];
             tasks.push(TaskLoad {
                 task: of_task.task,
+                measure: of_task.measure,
                 load: if place == self.place {
                     load
                 } else {

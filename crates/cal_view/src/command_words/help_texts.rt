@@ -441,13 +441,14 @@ Output: arrivals (CSV), which `measure`, `compare` and
 `caladan_sim lockstep` read after the table; with --table an input of these.
 Pass p has the clock p times the ticks, from p = 1, with a bandwidth figure of
 0, and turn p comes half a turn later.
-A task's load is the work asked for, over the turns times its limit. Requests
-come each at a random time (poisson), as far apart as can be (even), or N at
-once (bursts:N), each to a random thread of the task. A thread gets at most one
-request before a turn: a second one comes before its next free turn. With
-several tasks give --load, --service and --pattern once, or once for each
---task, in the same order. The arrivals of a task depend on its number, its
-limit, its own options, the turns and the seed.
+A task's load is the work asked for, over the turns times its limit; with
+--offered in its place it is in cores, over the turns alone, and no more than
+the limit. Requests come each at a random time (poisson), as far apart as can be
+(even), or N at once (bursts:N), each to a random thread of the task. A thread
+gets at most one request before a turn: a second one comes before its next free
+turn. With several tasks give --load or --offered, --service and --pattern once,
+or once for each --task, in the same order. The arrivals of a task depend on its
+number, its limit, its own options, the turns and the seed.
 With --log the requests are those of a file: CSV with a header that names the
 columns time and service, in the unit of --unit, rows in order of time, and
 maybe task, a number or one of --names; else all are of --task, or of task 0. A
@@ -495,7 +496,9 @@ numbers are those of `measure`, but that responses count from when requests
 came, also where these come at a later turn, and are of those that came in the
 turns of a window. One task has the loads; each other --task has one.
 With --vary there is a row for each value, as in `compare`, on arrivals made for
-that table; with several policies a row for each. --seeds N runs each load with
+that table; with --offered on the same requests for all, drawn for the greatest
+limit, each at its thread modulo the table's, and later if its turn is taken;
+with several policies a row for each. --seeds N runs each load with
 N seeds: for each row there are three, the least, the median and the greatest of
 each column by itself.
 --slo is an objective for a task: p50, p90, p99, p99.9 or max, in ticks. It is

@@ -1,7 +1,7 @@
 //! The words after `sweep`.
 
 use crate::command_words::arrival_words::{
-    load_word, load_words, some_words, task_word, with_run_words,
+    load_word, load_words, offered_word, some_words, task_word, with_run_words,
 };
 use crate::command_words::command_line::{
     all_words, csv_word, flag_word, input_word, names_word, number_form_of, output_word, tick_word,
@@ -21,7 +21,8 @@ pub fn sweep_word<'a>(alloc: Global) -> Result<Command<'a>, AllocError> {
         .after_long_help(help_texts::SWEEP)
         .arg(input_word(alloc))?
         .arg(task_word(alloc).default_value("0"))?
-        .arg(load_word(alloc).help("Rising loads, such as 0.1,0.3,..,0.9"))?;
+        .arg(own_load_word(alloc)?)?
+        .arg(offered_word(alloc))?;
     let command = with_run_words(alloc, command)?.arg(policies_word(alloc))?;
     with_more_plan_words(alloc, command)?
         .arg(vary_word(alloc))?
@@ -35,6 +36,12 @@ pub fn sweep_word<'a>(alloc: Global) -> Result<Command<'a>, AllocError> {
         .arg(names_word(alloc))?
         .arg(tick_word(alloc))?
         .arg(output_word(alloc))
+}
+
+fn own_load_word<'a>(alloc: Global) -> Result<Arg<'a>, AllocError> {
+    load_word(alloc)
+        .help("Rising loads, such as 0.1,0.3,..,0.9")
+        .required_unless_present("offered")
 }
 
 fn slo_word<'a>(alloc: Global) -> Arg<'a> {
