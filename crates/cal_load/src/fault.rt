@@ -53,6 +53,8 @@ pub enum Why<'a> {
     NotAVariation,
     /// The key is varied before.
     VariedTwice,
+    /// With this key there would be more tables than so many.
+    TooManyTables(u64),
     /// It is no turn of a run, or its end: a number of at most so many turns.
     NotATurn(u64),
     /// There are no turns from this one up to that.
@@ -124,6 +126,7 @@ us, ms or s, as 10us",
                 "a key is varied as task.0.delay=10,20: the key, =, and its values",
             ),
             Why::VariedTwice => f.write_str("this key is varied already"),
+            Why::TooManyTables(most) => write!(f, "the keys make more than {most} tables"),
             Why::NotATurn(turns) => write!(f, "a turn is a number up to {turns}, the run's end"),
             Why::NoTurns(first, after) => write!(f, "no turns are from {first} up to {after}"),
             Why::NotSeeds(most) => write!(f, "a number of seeds is from 1 to {most}"),

@@ -24,8 +24,8 @@ use Rattle.cal_policy.specs.declared.policy.Policy.{Policy}
 use Rattle.cal_tables.specs.Compared.{AreEachOf}
 use Rattle.cal_tables.specs.Joining.{table_part}
 use Rattle.cal_tables.specs.Planned.{IsCountedBy}
+use Rattle.cal_tables.specs.Settings.{Varying, settings_of}
 use Rattle.cal_tables.specs.Varied.{AreVaried}
-use Rattle.cal_tables.specs.declared.comparing.Variation.{Variation}
 use Rattle.cal_tables.specs.declared.comparing.fault.ComparisonFault.{ComparisonFault}
 use Rattle.cal_tables.specs.declared.comparing.fault.ComparisonFault.TheVariants as faults
 use Rattle.cal_trace.specs.declared.arrivals.Arrivals.{Arrivals}
@@ -122,23 +122,11 @@ with_seeds first n load = map (point_at first load) (range_with_len 0 n)
 abbrev pub points_of : Asked → List Point
 points_of asked = flat_map (with_seeds asked.seed asked.seeds) asked.loads.items
 
--- a key and its values
-pub record Varying : Type 0 where
-  pub key : List ℕ
-  pub values : List (List ℕ)
-
--- those of a variation, where there is one
-abbrev pub varying_of : Option Variation → Option Varying
-varying_of None = None
-varying_of (Some variation) = Some (record {
-  key = variation.key.now;
-  values = map (λ value. value.now) variation.values.now;
-})
-
--- the table alone; or those that it gives with each of these values at this key
-abbrev pub AreTablesOf : Option Varying → Table → List Table → Type 0
-AreTablesOf None table tables = tables ≡ table ∷ []
-AreTablesOf (Some varying) table tables = AreVaried table varying.key varying.values tables
+-- the table alone; or those that it gives with each setting of these keys
+abbrev pub AreTablesOf : List Varying → Table → List Table → Type 0
+AreTablesOf [] table tables = tables ≡ table ∷ []
+AreTablesOf (first ∷ others) table tables =
+    AreVaried table (settings_of (first ∷ others)) tables
 
 -- the threads of each of these tables can hold what is asked for at the greatest load, where it is in
 -- cores
@@ -148,11 +136,11 @@ pub record AreHeldAtMost (asked : Asked) (tables : List Table) : Type 0 where
   pub held : AreHeld tables loads
 
 -- the sweep by the policy that is asked for, of the table of an input or of those that it gives
-pub record IsSweep (input : List ℕ) (varying : Option Varying) (policy : Policy) (asked : Asked)
+pub record IsSweep (input : List ℕ) (varyings : List Varying) (policy : Policy) (asked : Asked)
     (tables : List Table) (swept : List SweptLoad) : Type 0 where
   pub table : Table
   pub given : table_in (table_part input) ≡ Ok table
-  pub varied : AreTablesOf varying table tables
+  pub varied : AreTablesOf varyings table tables
   pub held : AreHeldAtMost asked tables
   pub are : AreSweptLoads policy asked tables (points_of asked) swept
 

@@ -9,6 +9,7 @@ use Rattle.cal_sweep.specs.declared.objective.Objective.{Objective}
 use Rattle.cal_sweep.specs.declared.words.Asked.{Asked}
 use Rattle.cal_sweep.specs.declared.words.SweepWords.{SweepWords}
 use Rattle.cal_sweep.specs.declared.words.TheConstants.{MOST_SEEDS}
+use Rattle.cal_sweep.specs.Varying.{AreVariations}
 
 -- requests come to this task
 abbrev pub has_load : List TaskLoad → ℕ → Bool
@@ -29,7 +30,8 @@ last_tenth turns = turns - turns / 10
 
 -- the timing, the seed, the plan and the form asked for are those of the words, there is an objective
 -- for each word, of a task to which requests come, the window has turns of the run: without words all but the first and
--- the last tenth of them; and there is a seed, or several, each a number: without a word one
+-- the last tenth of them; there is a seed, or several, each a number: without a word one; and a key
+-- is varied for each word
 pub record IsAsked (words : SweepWords) (asked : Asked) : Type 0 where
   pub timing : asked.timing ≡ words.load.timing
   pub seed : asked.seed ≡ words.load.seed
@@ -43,6 +45,7 @@ pub record IsAsked (words : SweepWords) (asked : Asked) : Type 0 where
   pub seeds : (1 ≤ asked.seeds) × (asked.seeds ≤ MOST_SEEDS)
   pub fit : asked.seed + asked.seeds ≤ 2 ^ 64
   pub alone : words.seeds ≡ None → asked.seeds ≡ 1
+  pub varied : AreVariations (length words.vary.items) asked.variations.items
 
 -- the number of this task with a load, 0 where there is none
 abbrev pub task_loaded : Option TaskLoad → ℕ

@@ -4,9 +4,10 @@ ghost use Rattle.std.specs.Prelude.{◌≡◌, ◌≢◌, ◌⊎◌, IfErr, IfOk
 ghost use Rattle.cal_machine.specs.Reading.{table_in};
 ghost use Rattle.cal_sweep.specs.Faults.{IsFirstFault, SweepDecided};
 ghost use Rattle.cal_sweep.specs.Objectives.{status_of_sweeps};
-ghost use Rattle.cal_sweep.specs.Sweeps.{IsSweep, of_memory, of_writer, varying_of};
+ghost use Rattle.cal_sweep.specs.Sweeps.{IsSweep, of_memory, of_writer};
 ghost use Rattle.cal_tables.specs.Compared.{AreEachOf};
 ghost use Rattle.cal_tables.specs.Joining.{table_part};
+ghost use Rattle.cal_tables.specs.Settings.{varyings_of};
 
 use crate::fault::SweepFault;
 use crate::job::SweepJob;
@@ -98,7 +99,7 @@ pub fn answer_sweep<'a, W: Write, E: Write>(
     errors: &mut E,
 ) -> Result<EndedSweeps, SweepFault<'a>>
     ensures made { IfOk result (λ ended. AreEachOf (λ policy sweep. IsSweep job.now.input.now
-        (varying_of job.now.names.variation) policy job.now.asked.now
+        (varyings_of job.now.names.variations.now) policy job.now.asked.now
         sweep.tables.items sweep.loads.items) job.now.names.policies.now ended.sweeps.items) }
     // The status is that of the runs of these very sweeps.
     ensures status { IfOk result (λ ended. ended.status ≡

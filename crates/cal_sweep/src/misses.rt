@@ -13,7 +13,7 @@ use std::io::Write;
 /// Writes a line for each objective, and of each for each table whose runs of the last load of a
 /// sweep do not keep it: the objective, the load, with how many of the seeds it stands so where there
 /// are several, what stands at the rank in the first of these runs, and up to which load the
-/// objective was kept. Before it stand the value that makes the table and the policy, at this place,
+/// objective was kept. Before it stand the values that make the table and the policy, at this place,
 /// where there are several.
 pub fn say_misses<E: Write>(
     sweep: &Sweep,
@@ -56,11 +56,15 @@ fn say_misses_of<'x, E: Write>(
     }
 }
 
-/// Writes the name of the program, the value that makes the table, and the policy.
+/// Writes the name of the program, the values that make the table, and the policy.
 fn say_name<E: Write>(names: SweepNames<'_>, table: usize, policy: usize, errors: &mut E) {
     let _ = write!(errors, "caladan_view: ");
-    if let (Some(variation), Some(value)) = (names.variation, names.value(table)) {
-        let _ = write!(errors, "{}={value}: ", variation.key);
+    let many = names.variations.len();
+    for place in 0..many {
+        let key = names.variations[place].shown.as_str();
+        let value = names.value(table, place).unwrap_or("");
+        let end = if place < many - 1 { "" } else { ":" };
+        let _ = write!(errors, "{key}={value}{end} ");
     }
     if let Some(policy) = names.policy(policy) {
         let _ = write!(errors, "{policy}: ");

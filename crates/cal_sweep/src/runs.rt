@@ -10,10 +10,10 @@ ghost use Rattle.cal_sweep.specs.Faults.{AreCounted, IsFirstFault, SweepDecided}
 ghost use Rattle.cal_sweep.specs.Sweeps.{AreHeldAtMost, AreRunsAlike, AreRunsAlone};
 ghost use Rattle.cal_sweep.specs.Sweeps.{AreSweptLoads, AreTablesOf, IsSweep};
 ghost use Rattle.cal_sweep.specs.Sweeps.{IsRunAlone, IsRunOn, IsSweptLoad, IsSweptRun, counted_of};
-ghost use Rattle.cal_sweep.specs.Sweeps.{is_before, is_cut_before, points_of, varying_of};
-ghost use Rattle.cal_sweep.specs.Sweeps.{with_seeds};
+ghost use Rattle.cal_sweep.specs.Sweeps.{is_before, is_cut_before, points_of, with_seeds};
 ghost use Rattle.cal_tables.specs.Compared.{AreEachOf};
 ghost use Rattle.cal_tables.specs.Joining.{table_part};
+ghost use Rattle.cal_tables.specs.Settings.{varyings_of};
 ghost use Rattle.cal_trace.specs.Arrivals.FitsTable.{FitsTable};
 
 use crate::fault::SweepFault;
@@ -324,17 +324,19 @@ fn one_table(alloc: Global, table: Config) -> Result<Vec<Config>, AllocError>
     Ok(tables)
 }
 
-/// The table alone, or those that it gives with each value of a variation.
+/// The table alone, or, where there are variations, those that it gives with their settings.
 fn tables_of(
     alloc: Global,
     table: Config,
-    variation: Option<Variation<'_>>,
+    variations: &[Variation],
 ) -> Result<Vec<Config>, ComparisonFault>
-    ensures { IfOk result (λ tables. AreTablesOf (varying_of variation.entry) table tables.items) }
+    ensures { IfOk result (λ tables.
+        AreTablesOf (varyings_of variations.now) table tables.items) }
 {
-    match variation {
-        None => Ok(one_table(alloc, table)?),
-        Some(variation) => varied_tables(alloc, &table, variation.key, variation.values),
+    if variations.is_empty() {
+        Ok(one_table(alloc, table)?)
+    } else {
+        varied_tables(alloc, &table, variations)
     }
 }
 
@@ -349,13 +351,13 @@ fn are_all_held<'a>(job: &SweepJob<'a>, tables: &[Config]) -> Result<(), SweepFa
     Ok(())
 }
 
-/// The table of a job's input, or those that it gives with each value of a variation, and for each
+/// The table of a job's input, or those that it gives with the settings of variations, and for each
 /// load in turn and each seed a run by this policy of each of these tables on arrivals of this load
 /// and this seed: of a load of a limit on those that are made for the table, of a load in cores on
 /// the same requests for all tables.
 ///
 /// The fault is that of the table, then `Names` where there are some and not as many as its tasks,
-/// then that of the first word that names a task which it has not, then that of the first value that
+/// then that of the first word that names a task which it has not, then that of the first setting that
 /// makes the table faulty, then that of the first word of more cores than a task has threads in one
 /// of the tables; then that of the first run that has one. `Memory` may come at any place.
 pub fn swept<'a>(
@@ -364,7 +366,7 @@ pub fn swept<'a>(
     policy: Policy,
 ) -> Result<Sweep, SweepFault<'a>>
     ensures made { IfOk result (λ sweep. IsSweep job.now.input.now
-        (varying_of job.now.names.variation) policy job.now.asked.now
+        (varyings_of job.now.names.variations.now) policy job.now.asked.now
         sweep.tables.items sweep.loads.items) }
     // None is made with some names that are not as many as the tasks, nor for a task that is not
     // there.
@@ -386,7 +388,7 @@ pub fn swept<'a>(
     let table = Config::read(alloc, table_part(input))?;
     are_counted(&table, names.labels)?;
     are_known(&table, asked.tasks.as_slice(), asked.named.as_slice())?;
-    let tables = tables_of(alloc, table, names.variation)?;
+    let tables = tables_of(alloc, table, names.variations)?;
     are_all_held(job, tables.as_slice())?;
     let loads = swept_loads(rt, job, policy, tables.as_slice())?;
     Ok(Sweep { tables, loads })
@@ -399,7 +401,7 @@ pub fn swept_by_each<'a>(
     job: &SweepJob<'a>,
 ) -> Result<Vec<Sweep>, SweepFault<'a>>
     ensures made { IfOk result (λ sweeps. AreEachOf (λ policy sweep. IsSweep job.now.input.now
-        (varying_of job.now.names.variation) policy job.now.asked.now
+        (varyings_of job.now.names.variations.now) policy job.now.asked.now
         sweep.tables.items sweep.loads.items) job.now.names.policies.now sweeps.items) }
     ensures refused { IfErr result (λ fault. SweepDecided fault (IsFirstFault
         (table_in (table_part job.now.input.now)) (length job.now.names.labels.names.now)

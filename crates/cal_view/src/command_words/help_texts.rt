@@ -294,8 +294,10 @@ columns, each after as many of its folders as tell it apart.
 With --vary the input is that of `measure`, or one table with --arrivals, and
 there is a column for each value: the table with that value at the key. Keys are
 cores, bandwidth_limit, and of task 1 task.1.kind, task.1.guaranteed,
-task.1.limit, task.1.delay and task.1.request. Write a value as in a table. To
-keep the given table among the columns, name its own value, best as the first.
+task.1.limit, task.1.delay and task.1.request; of --names a name may stand for a
+task, as in --vary memcached.limit=2,4. Write a value as in a table. To keep the
+given table among the columns, name its own value, best as the first. Several
+--vary make all combinations, at most 1000; the first key changes slowest.
 With several policies each table has a column for each of them.
 The arrivals are for the first table, or for the one that is varied. In each
 other table a request stays with its task, on the thread of the same number
@@ -306,7 +308,7 @@ With --pace, --beside, --memory or --figure the runs are like a machine:
 docs/VIEWER.md, \"Runs like a machine\".
 Exit status: 0 done, 2 rejected input, 3 memory or output was refused. A table
 that is refused, or that the arrivals do not fit, is named by its number, from
-0, or by its value.",
+0, or by its values.",
     "caladan_view compare",
     "\
 cores = 2
@@ -495,10 +497,11 @@ held. Each run is on the arrivals that `arrivals` makes with these options. Its
 numbers are those of `measure`, but that responses count from when requests
 came, also where these come at a later turn, and are of those that came in the
 turns of a window. One task has the loads; each other --task has one.
-With --vary there is a row for each value, as in `compare`, on arrivals made for
-that table; with --offered on the same requests for all, drawn for the greatest
-limit, each at its thread modulo the table's, and later if its turn is taken;
-with several policies a row for each. --seeds N runs each load with
+With --vary there is a row for each value, or for each combination of several
+--vary, as in `compare`, on arrivals made for that table; with --offered on the
+same requests for all, drawn for the greatest limit, each at its thread modulo
+the table's, and later if its turn is taken; with several policies a row for
+each. --seeds N runs each load with
 N seeds: for each row there are three, the least, the median and the greatest of
 each column by itself.
 --slo is an objective for a task: p50, p90, p99, p99.9 or max, in ticks. It is

@@ -86,7 +86,7 @@ pub fn sweep_words<'a>(
 ) -> Result<SweepWords<'a>, AllocError> {
     Ok(SweepWords {
         load: load_words(alloc, matches)?,
-        vary: matches.get_str("vary"),
+        vary: all_words(alloc, matches, "vary")?,
         slo: all_words(alloc, matches, "slo")?,
         from: matches.get_str("from"),
         to: matches.get_str("to"),

@@ -1,6 +1,5 @@
 //! The runs of a table at one load after the other.
 
-use crate::command_words::variation::{values_of, variation_of};
 use crate::fault::RefusedRuns;
 use crate::jobs::naming::refuse_other_count;
 use crate::jobs::pacing::refuse_no_misses;
@@ -39,28 +38,27 @@ impl Sweeping<'_> {
         // Words that need no table are refused before anything is read.
         let asked = match asked_of(self.alloc, self.words) {
             Ok(asked) => asked,
-            Err(fault) => return self.refuse(b"", None, fault, errors),
+            Err(fault) => return self.refuse(b"", &[], fault, errors),
         };
         if self.bounds_misses() {
             return Ok(refuse_no_misses(errors));
         }
         let input = read_input(self.alloc, &mut reader)?;
         let input = input.as_slice();
-        let values = values_of(self.alloc, self.words.vary)?;
-        let variation = variation_of(self.words.vary, values.as_slice());
+        let variations = asked.variations.as_slice();
         let job = SweepJob {
             alloc: self.alloc,
             input,
             asked: &asked,
             names: SweepNames {
-                variation,
+                variations,
                 policies: self.policies,
                 labels: self.labels,
             },
         };
         match answer_sweep(rt, &job, output, errors) {
             Ok(ended) => Ok(ended.status),
-            Err(fault) => self.refuse(input, variation, fault, errors),
+            Err(fault) => self.refuse(input, variations, fault, errors),
         }
     }
 
@@ -77,7 +75,7 @@ impl Sweeping<'_> {
     fn refuse<'x, E: Write>(
         &self,
         input: &'x [u8],
-        variation: Option<Variation<'x>>,
+        variations: &'x [Variation],
         fault: SweepFault<'_>,
         errors: &mut E,
     ) -> Result<u8, RunFault> {
@@ -89,7 +87,7 @@ impl Sweeping<'_> {
                 RefusedRuns {
                     read,
                     came: None,
-                    variation,
+                    variations,
                 }
                 .end(self.alloc, &fault, errors)
             }
