@@ -18,7 +18,7 @@ loop-place-preserved c =
     let more : c.push.new.self.items ≡ old ++ now ∷ [] = c.in_ok-push.ensures.items in
     let many : length old ≡ place = c.loop-place.invariant.many in
     let threads : c.greatest_limit-threads.result ≡ limits load.task = c.greatest_limit-threads.ensures in
-    let of : AreDrawn c.greatest_limit-threads.result turns now.requests.items = c.in-Some.ensures in
+    let of : AreDrawn c.greatest_limit-threads.result turns now.requests.items = rw c.in-Some.is at c.in_ok-of_load.ensures in
     let is = subst (λ (n : ℕ). AreDrawn n turns now.requests.items) threads of in
     record {
       many = let e = ap (λ (l : List DrawnLoad). length l) more in omega (arith, e, many, length-append old (now ∷ []));
