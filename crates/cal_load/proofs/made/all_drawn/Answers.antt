@@ -1,4 +1,4 @@
-use Rattle.std.proofs.Common.{◌≡◌, ◌<◌, ◌∙◌, ◌⊎◌, inl, inr, ⊎_elim, ℕ, List, [], ◌∷◌, ◌++◌, Some, length, slice_get, ap, sym, subst, arith, length-append}
+use Rattle.std.proofs.Common.{◌≡◌, ◌<◌, ◌∙◌, ◌⊎◌, ⊎_elim, ℕ, List, [], ◌∷◌, ◌++◌, Some, length, slice_get, ap, sym, subst, arith, length-append}
 use Rattle.cal_load.specs.Drawn.{AreDrawn}
 use Rattle.cal_load.specs.Loads.{greatest_limit}
 use Rattle.cal_load.specs.declared.drawing.DrawnLoad.{DrawnLoad}
@@ -28,5 +28,5 @@ loop-place-preserved c =
           (λ (last : (i ≡ length old) × (now ≡ own)).
           let here : load ≡ one = some_same load one (sym c.load_at-load.ensures ∙ ap (λ (n : ℕ). slice_get loads n) (sym (last.0 ∙ many)) ∙ at) in
           subst (λ (d : DrawnLoad). AreDrawn (limits one.task) turns d.requests.items) last.1 (subst (λ (l : TaskLoad). AreDrawn (limits l.task) turns now.requests.items) here is))
-          (last_or_before old now i own (subst (λ (l : List DrawnLoad). slice_get l i ≡ Some own) more found));
+          (last_or_before old now own i (subst (λ (l : List DrawnLoad). slice_get l i ≡ Some own) more found));
     }
