@@ -1,7 +1,7 @@
 //! What comes to tasks, as the words of a command line say it.
 
-ghost use Rattle.std.specs.Prelude.{ℕ, List, IfErr, IfOk, length};
-ghost use Rattle.cal_load.specs.Known.{AreKnown};
+ghost use Rattle.std.specs.Prelude.{◌≡◌, ℕ, List, IfErr, IfOk, length, slice_get};
+ghost use Rattle.cal_load.specs.Known.{AreKnown, text_of};
 ghost use Rattle.cal_load.specs.Refused.{IsRefusedFor};
 
 use crate::clocks::Timing;
@@ -60,7 +60,9 @@ struct AskedTask<'a> {
 }
 
 /// The word at a place, or an empty one.
-pub fn word_at<'a>(words: &[&'a str], place: usize) -> &'a str {
+pub fn word_at<'a>(words: &[&'a str], place: usize) -> &'a str
+    ensures { result.now ≡ text_of (slice_get words.now place) }
+{
     match words.get(place) {
         Some(word) => *word,
         None => "",
@@ -101,7 +103,10 @@ pub fn task_named(names: Option<&str>, word: &str) -> Option<usize> {
 }
 
 /// The task that the word at this place names.
-pub fn task_at<'a>(words: &LoadWords<'a>, place: usize) -> Result<usize, LoadFault<'a>> {
+pub fn task_at<'a>(words: &LoadWords<'a>, place: usize) -> Result<usize, LoadFault<'a>>
+    ensures fault { IfErr result (IsRefusedFor TASK.now
+        (text_of (slice_get words.now.tasks.items place)) (Why.NotNamed words.now.names)) }
+{
     let word = word_at(words.tasks.as_slice(), place);
     match task_named(words.names, word) {
         Some(task) => Ok(task),

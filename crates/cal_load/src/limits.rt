@@ -1,6 +1,6 @@
 //! How many threads tasks have in some tables, and whether these can hold what comes.
 
-ghost use Rattle.std.specs.Prelude.{◌≡◌, ℕ, List, All, IfErr, IfOk, IfSome, None};
+ghost use Rattle.std.specs.Prelude.{◌≡◌, ℕ, List, IfErr, IfOk, IfSome, None, false, true};
 ghost use Rattle.cal_load.specs.Loads.{AreHeld, IsHeld, IsHeldIn, greatest_limit, limit_of};
 ghost use Rattle.cal_load.specs.Refused.{IsRefusedFor};
 

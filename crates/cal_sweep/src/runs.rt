@@ -7,7 +7,7 @@ ghost use Rattle.cal_machine.specs.Table.{Table};
 ghost use Rattle.cal_load.specs.Drawn.{AreDrawnOf};
 ghost use Rattle.cal_load.specs.Known.{AreKnown};
 ghost use Rattle.cal_sweep.specs.Faults.{AreCounted, IsFirstFault, SweepDecided};
-ghost use Rattle.cal_sweep.specs.Sweeps.{AreHeldAtMost, AreRunsAlike, AreRunsAlone};
+ghost use Rattle.cal_sweep.specs.Sweeps.{AreHeldAtMost, AreRunsAlike, AreRunsAlone, AreRunsBy};
 ghost use Rattle.cal_sweep.specs.Sweeps.{AreSweptLoads, AreTablesOf, IsSweep};
 ghost use Rattle.cal_sweep.specs.Sweeps.{IsRunAlone, IsRunOn, IsSweptLoad, IsSweptRun, counted_of};
 ghost use Rattle.cal_sweep.specs.Sweeps.{is_before, is_cut_before, points_of, with_seeds};
@@ -212,6 +212,23 @@ fn runs_alike<'a>(
     Ok(runs)
 }
 
+/// A run of each table, in their order, on the arrivals of a plan: of loads of a limit on those that are
+/// drawn for it, of loads in cores on the same requests for all.
+fn swept_runs<'a>(
+    job: &SweepJob<'a>,
+    policy: Policy,
+    tables: &[Config],
+    plan: &ArrivalPlan<'_>,
+) -> Result<Vec<SweptRun>, SweepFault<'a>>
+    ensures { IfOk result (λ runs. AreRunsBy job.now.asked.now.measure policy
+        job.now.asked.now plan.now tables.now runs.items) }
+{
+    match job.asked.measure {
+        Measure::Limit => runs_alone(job, policy, tables, plan),
+        Measure::Cores => runs_alike(job, policy, tables, plan),
+    }
+}
+
 /// The runs of a load with a seed: one of each table.
 fn swept_load<'a>(
     job: &SweepJob<'a>,
@@ -228,10 +245,7 @@ fn swept_load<'a>(
         timing: job.asked.timing,
         seed,
     };
-    let runs = match job.asked.measure {
-        Measure::Limit => runs_alone(job, policy, tables, &plan)?,
-        Measure::Cores => runs_alike(job, policy, tables, &plan)?,
-    };
+    let runs = swept_runs(job, policy, tables, &plan)?;
     Ok(SweptLoad { load, seed, runs })
 }
 

@@ -1,4 +1,4 @@
-use Rattle.std.proofs.Common.{◌≡◌, ◌<◌, ◌+◌, ◌%◌, ◌^◌, ◌∙◌, ◌++◌, ◌∷◌, [], ℕ, List, All, length, take, take_all, refl, sym, subst, ap, arith, length-take}
+use Rattle.std.proofs.Common.{◌≡◌, ◌<◌, ◌%◌, ◌^◌, ◌∙◌, ℕ, List, All, length, take, take_all, refl, sym, subst, arith, length-take}
 use Rattle.cal_load.specs.Comings.{IsQueue}
 use Rattle.cal_load.specs.Drawn.{IsDealtTo}
 use Rattle.cal_load.specs.declared.drawing.DrawnRequest.{DrawnRequest}

@@ -1,4 +1,4 @@
-use Rattle.std.proofs.Common.{◌≡◌, ◌<◌, ◌∙◌, ◌⊎◌, inl, inr, ⊎_elim, ℕ, List, [], ◌∷◌, ◌++◌, Some, length, slice_get, ap, sym, subst, arith, length-append}
+use Rattle.std.proofs.Common.{◌≡◌, ◌<◌, ◌∙◌, ◌⊎◌, ⊎_elim, ℕ, List, [], ◌∷◌, ◌++◌, Some, length, slice_get, ap, sym, subst, arith, length-append}
 use Rattle.cal_load.specs.Drawn.{AreDrawn}
 use Rattle.cal_load.specs.Loads.{greatest_limit}
 use Rattle.cal_load.specs.declared.drawing.DrawnLoad.{DrawnLoad}
@@ -18,7 +18,7 @@ loop-place-preserved c =
     let more : c.push.new.self.items ≡ old ++ now ∷ [] = c.in_ok-push.ensures.items in
     let many : length old ≡ place = c.loop-place.invariant.many in
     let threads : c.greatest_limit-threads.result ≡ limits load.task = c.greatest_limit-threads.ensures in
-    let of : AreDrawn c.greatest_limit-threads.result turns now.requests.items = c.in-Some.ensures in
+    let of : AreDrawn c.greatest_limit-threads.result turns now.requests.items = rw c.in-Some.is at c.in_ok-of_load.ensures in
     let is = subst (λ (n : ℕ). AreDrawn n turns now.requests.items) threads of in
     record {
       many = let e = ap (λ (l : List DrawnLoad). length l) more in omega (arith, e, many, length-append old (now ∷ []));
@@ -28,5 +28,5 @@ loop-place-preserved c =
           (λ (last : (i ≡ length old) × (now ≡ own)).
           let here : load ≡ one = some_same load one (sym c.load_at-load.ensures ∙ ap (λ (n : ℕ). slice_get loads n) (sym (last.0 ∙ many)) ∙ at) in
           subst (λ (d : DrawnLoad). AreDrawn (limits one.task) turns d.requests.items) last.1 (subst (λ (l : TaskLoad). AreDrawn (limits l.task) turns now.requests.items) here is))
-          (last_or_before old now i own (subst (λ (l : List DrawnLoad). slice_get l i ≡ Some own) more found));
+          (last_or_before old now own i (subst (λ (l : List DrawnLoad). slice_get l i ≡ Some own) more found));
     }

@@ -40,8 +40,8 @@ drawn_at-own-requires c =
     let many = c.requires.are.many in
     omega (arith, within, many)
 
-pub dealt-coming-requires : goal.dealt-coming-requires
-dealt-coming-requires c =
+pub dealt-requires : goal.dealt-requires
+dealt-requires c =
     let tasks = c.args.config.now.tasks in
     let own : DrawnLoad = c.drawn_at-own.result.now in
     let drawn = c.requires.are.each c.in-Some.place c.load_at-load.result.now own c.load_at-load.ensures c.drawn_at-own.ensures in

@@ -6,8 +6,8 @@ use Rattle.cal_load.specs.declared.drawing.DrawnLoad.{DrawnLoad}
 use Rattle.cal_machine.specs.Table.{Table}
 use Rattle.cal_load.proofs.made.made_arrivals.Goals as goal
 
-pub dealt_arrivals-made-requires : goal.dealt_arrivals-made-requires
-dealt_arrivals-made-requires c = record {
+pub dealt_arrivals-requires : goal.dealt_arrivals-requires
+dealt_arrivals-requires c = record {
   limits = greatest_limit c.from_ref.result.now;
   turns = nearest_turns c.args.plan.now.timing;
   are = subst (λ (l : List DrawnLoad). AreDrawnFor (greatest_limit c.from_ref.result.now) c.args.plan.now.loads.now (nearest_turns c.args.plan.now.timing) l)

@@ -17,8 +17,8 @@ returns c =
       is = subst (λ (l : List DrawnLoad). IsSweptRun c.args.policy c.args.job.now.asked.now plan l c.args.table.now c.in_ok-run.run) c.as_slice.ensures.value c.in_ok-run.ensures;
     }
 
-pub swept_run-run-requires : goal.swept_run-run-requires
-swept_run-run-requires c = record {
+pub swept_run-requires : goal.swept_run-requires
+swept_run-requires c = record {
   limits = greatest_limit c.from_ref.result.now;
   turns = nearest_turns c.args.plan.now.timing;
   are = subst (λ (l : List DrawnLoad). AreDrawnFor (greatest_limit c.from_ref.result.now) c.args.plan.now.loads.now (nearest_turns c.args.plan.now.timing) l)

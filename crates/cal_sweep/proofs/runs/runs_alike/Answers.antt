@@ -25,8 +25,8 @@ loop-place-preserved c =
           (one_more Is c.args.tables.now before c.loop-place.place _ now many c.table_at-table.ensures is c.loop-place.invariant.each);
     }
 
-pub swept_run-of_table-requires : goal.swept_run-of_table-requires
-swept_run-of_table-requires c = record {
+pub swept_run-requires : goal.swept_run-requires
+swept_run-requires c = record {
   limits = greatest_limit c.args.tables.now;
   turns = nearest_turns c.args.plan.now.timing;
   are = subst (λ (l : List DrawnLoad). AreDrawnFor (greatest_limit c.args.tables.now) c.args.plan.now.loads.now (nearest_turns c.args.plan.now.timing) l)
