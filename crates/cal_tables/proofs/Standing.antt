@@ -55,6 +55,7 @@ stands setting differ = record {
 pub stand_all : (varyings : List Varying) → AreApart varyings → (setting : List KeyValue) → Contains (settings_of varyings) setting → IsSettingOf varyings setting × StandsAtItsKeys setting
 stand_all varyings apart setting at =
     let is : setting_at varyings at.0 ≡ setting = get_or_default (settings_of varyings) at.0 [] setting at.1 ∙ at.2 in
-    subst (λ (s : List KeyValue). IsSettingOf varyings s × StandsAtItsKeys s) is
-    (record { keys = keys_at varyings at.0 at.1; values = values_at varyings at.0 at.1; },
-    stands (setting_at varyings at.0) (subst Differ (sym (keys_at varyings at.0 at.1)) (varied_differ varyings apart)))
+    subst (λ (s : List KeyValue). IsSettingOf varyings s × StandsAtItsKeys s) is (
+      record { keys = keys_at varyings at.0 at.1; values = values_at varyings at.0 at.1 },
+      stands (setting_at varyings at.0) (subst Differ (sym (keys_at varyings at.0 at.1)) (varied_differ varyings apart)),
+    )

@@ -327,12 +327,11 @@ impl<'h, 'a, H: Files + Threads + Sync> ProgramRun<'h, 'a, H> {
     ) -> Result<u8, RunFault> {
         let alloc = self.alloc;
         let request = self.request;
-        let variations =
-            match variations_of(alloc, request.vary.as_slice(), request.labels.names) {
-                Ok(variations) => variations,
-                Err(LoadFault::Word(fault)) => return Ok(refuse_word(&fault, errors)),
-                Err(LoadFault::Memory) => return Err(RunFault::Memory),
-            };
+        let variations = match variations_of(alloc, request.vary.as_slice(), request.labels.names) {
+            Ok(variations) => variations,
+            Err(LoadFault::Word(fault)) => return Ok(refuse_word(&fault, errors)),
+            Err(LoadFault::Memory) => return Err(RunFault::Memory),
+        };
         let bytes = read_input(alloc, &mut reader)?;
         let came = match self.read_came() {
             Ok(came) => came,

@@ -1,8 +1,6 @@
 //! What the words of a command line ask for.
 
-use crate::command_words::arrival_words::{
-    ArrivalWords, arrival_word, arrival_words, some_words,
-};
+use crate::command_words::arrival_words::{ArrivalWords, arrival_word, arrival_words, some_words};
 use crate::command_words::count_words::{CountWords, count_words, own_came_word, with_count_words};
 use crate::command_words::help_texts;
 use crate::command_words::plan_words::{plan_asked, with_plan_words};
