@@ -1,13 +1,13 @@
 -- The keys and the values of a setting are those that are varied.
-use Rattle.std.proofs.Common.{◌≡◌, ◌<◌, ◌/◌, ◌%◌, ◌∷◌, [], ℕ, zero, suc, Bool, List, length, map, get_or, refl, sym, ap, subst, ◌∙◌, arith}
+use Rattle.std.proofs.Common.{◌≡◌, ◌<◌, ◌/◌, ◌%◌, ◌∷◌, [], ℕ, zero, suc, Bool, List, length, map, get_or, string_bytes, refl, sym, ap, subst, ◌∙◌, arith}
 use Rattle.std.specs.List.{AllZip, Contains, list_all}
 use Rattle.std.proofs.Math.Nat.{mod-lt}
 use Rattle.std.proofs.lemmas.List.{get_or_default}
 use Rattle.std.proofs.lemmas.List.Folds.{list_all-map}
 use Rattle.cal_machine.specs.Table.{Table}
-use Rattle.cal_tables.specs.Settings.{KeyValue, Varying, with_key, settings_of, setting_at}
+use Rattle.cal_tables.specs.Settings.{KeyValue, Varying, varying_of, varyings_of, settings_of, setting_at}
 use Rattle.cal_tables.specs.Varied.{has_key, has_keys}
-use Rattle.cal_tables.specs.Writing.{has_each}
+use Rattle.cal_tables.specs.declared.comparing.Variation.{Variation}
 use Rattle.cal_tables.proofs.Product.{Unrolled, unrolled}
 
 abbrev pub own_key : KeyValue → List ℕ
@@ -41,9 +41,12 @@ values_at (varying ∷ others) i lt =
     ((turn, within, get_or_default varying.values turn value [] within), values_at others rest (mod-lt i h.more))
 
 -- a table has the keys that are varied exactly if it has those of the setting
-pub has_all : (varyings : List Varying) (i : ℕ) (table : Table) → i < length (settings_of varyings) → has_each varyings table ≡ has_keys (setting_at varyings i) table
-has_all varyings i table lt =
+pub has_all : (variations : List Variation) (i : ℕ) (table : Table) → i < length (settings_of (varyings_of variations))
+    → list_all (λ (variation : Variation). has_key (string_bytes variation.key) table) variations ≡ has_keys (setting_at (varyings_of variations) i) table
+has_all variations i table lt =
     let has : List ℕ → Bool = λ key. has_key key table in
-    sym (list_all-map has varied_key varyings)
+    let varyings : List Varying = varyings_of variations in
+    sym (list_all-map (λ (varying : Varying). has_key varying.key table) varying_of variations)
+    ∙ sym (list_all-map has varied_key varyings)
     ∙ ap (λ (keys : List (List ℕ)). list_all has keys) (sym (keys_at varyings i lt))
     ∙ list_all-map has own_key (setting_at varyings i)

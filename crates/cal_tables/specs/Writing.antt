@@ -1,12 +1,12 @@
 -- What the functions that write a varied table cite: its lines, each where it is written.
 use Rattle.std.specs.Prelude.{◌||◌, bytes_eq, ℕ, zero, suc, Bool, false, List, [], ◌∷◌, codes}
 use Rattle.std.specs.Prelude.{decimal, length}
-use Rattle.std.specs.List.{concat, list_all}
+use Rattle.std.specs.List.{concat}
 use Rattle.cal_machine.specs.Table.{Table}
 use Rattle.cal_machine.specs.declared.task.Task.{Task}
 use Rattle.cal_tables.specs.TableText.{field_key, kind_text, line_of, line_text}
-use Rattle.cal_tables.specs.Settings.{KeyValue, Varying, setting_at, varyings_of}
-use Rattle.cal_tables.specs.Varied.{has_key, with_values}
+use Rattle.cal_tables.specs.Settings.{KeyValue, setting_at, varyings_of}
+use Rattle.cal_tables.specs.Varied.{with_values}
 use Rattle.cal_tables.specs.declared.comparing.varying.Setting.{Setting}
 
 -- the keys and the values of a setting
@@ -46,7 +46,3 @@ any_below f (suc n) = any_below f n || f n
 abbrev pub is_place : List ℕ → Table → Bool
 is_place key table = bytes_eq (codes "bandwidth_limit") key || bytes_eq (codes "cores") key
     || any_below (is_field key) (length table.tasks)
-
--- the table has each of these keys
-abbrev pub has_each : List Varying → Table → Bool
-has_each varyings table = list_all (λ (varying : Varying). has_key varying.key table) varyings

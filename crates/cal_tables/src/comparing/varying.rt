@@ -2,7 +2,7 @@
 
 ghost use Rattle.std.specs.Prelude.{◌≡◌, ◌++◌, bytes_eq, codes, decimal, Err, IfErr, IfOk, OnOk, map};
 ghost use Rattle.std.specs.Prelude.{◌<◌, length, string_bytes};
-ghost use Rattle.std.specs.List.{concat};
+ghost use Rattle.std.specs.List.{concat, list_all};
 ghost use Rattle.cal_input.specs.Answers.{ConfigDecided};
 ghost use Rattle.cal_trace.specs.Rows.Text.{numbered};
 ghost use Rattle.cal_tables.specs.Faulty.{IsFirstFaultySetting, SaysWhichTable};
@@ -10,7 +10,7 @@ ghost use Rattle.cal_tables.specs.Settings.{settings_of, varyings_of};
 ghost use Rattle.cal_tables.specs.TableText.{field_key, kind_text, lines_of, text_of_lines};
 ghost use Rattle.cal_tables.specs.Varied.{AreVaried, AreVariedWith, has_key, varied};
 ghost use Rattle.cal_tables.specs.Varied.{varied_lines};
-ghost use Rattle.cal_tables.specs.Writing.{any_below, has_each, is_field, is_place, key_line};
+ghost use Rattle.cal_tables.specs.Writing.{any_below, is_field, is_place, key_line};
 ghost use Rattle.cal_tables.specs.Writing.{task_text, values_in, varied_line};
 ghost use Rattle.cal_trace.specs.Arrivals.FitsTable.{FitsTable};
 
@@ -210,7 +210,8 @@ fn has_key(alloc: Global, key: &str, table: &Config) -> Result<bool, AllocError>
 
 /// Whether a table has the key of each of these variations.
 fn has_keys(alloc: Global, variations: &[Variation], table: &Config) -> Result<bool, AllocError>
-    ensures { IfOk result (λ has. has ≡ has_each (varyings_of variations.now) table.now) }
+    ensures { IfOk result (λ has. has ≡ list_all
+        (λ variation. has_key (string_bytes variation.key) table.now) variations.now) }
 {
     for variation in variations {
         if !has_key(alloc, variation.key.as_str(), table)? {

@@ -500,10 +500,9 @@ turns of a window. One task has the loads; each other --task has one.
 With --vary there is a row for each value, or for each combination of several
 --vary, as in `compare`, on arrivals made for that table; with --offered on the
 same requests for all, drawn for the greatest limit, each at its thread modulo
-the table's, and later if its turn is taken; with several policies a row for
-each. --seeds N runs each load with
-N seeds: for each row there are three, the least, the median and the greatest of
-each column by itself.
+the table's, and later if its turn is taken. With several policies there is a
+row for each. --seeds N runs each load with N seeds: for each row there are
+three, the least, the median and the greatest of each column by itself.
 --slo is an objective for a task: p50, p90, p99, p99.9 or max, in ticks. It is
 undecided where the request at its rank is pending for less, and missed where
 some that came before the end of the window are left out; of several seeds one

@@ -1,4 +1,5 @@
-use Rattle.std.proofs.Common.{◌≡◌, ◌<◌, ℕ, Bool, true, false, length, cond, List, Result, Ok, Err, IfErr, sym, ap, ◌∙◌, rules}
+use Rattle.std.proofs.Common.{◌≡◌, ◌<◌, ℕ, Bool, true, false, length, string_bytes, cond, List, Result, Ok, Err, IfErr, sym, ap, ◌∙◌, rules}
+use Rattle.std.specs.List.{list_all}
 use Rattle.cal_input.specs.Answers.{ConfigDecided}
 use Rattle.cal_machine.specs.Outcome.{Fails, Gives}
 use Rattle.cal_machine.specs.Reading.{table_in}
@@ -7,8 +8,9 @@ use Rattle.cal_machine.specs.declared.fault.ConfigFault.{ConfigFault}
 use Rattle.cal_machine.specs.declared.fault.ConfigFault.TheVariants as fault
 use Rattle.cal_tables.specs.TableText.{text_of_lines}
 use Rattle.cal_tables.specs.Settings.{KeyValue, settings_of, varyings_of}
-use Rattle.cal_tables.specs.Varied.{has_keys, varied, varied_lines}
-use Rattle.cal_tables.specs.Writing.{has_each, values_in}
+use Rattle.cal_tables.specs.Varied.{has_key, has_keys, varied, varied_lines}
+use Rattle.cal_tables.specs.Writing.{values_in}
+use Rattle.cal_tables.specs.declared.comparing.Variation.{Variation}
 use Rattle.cal_tables.specs.declared.comparing.varying.Setting.{Setting}
 use Rattle.cal_tables.proofs.Keys.{has_all}
 use Rattle.cal_tables.proofs.comparing.varying.varied.Goals as goal
@@ -39,14 +41,15 @@ decided (Err f) made read same gives = fails f made read same gives
 
 -- of these keys of a setting
 keys_are : (setting : Setting) (table : Table) → setting.place < length (settings_of (varyings_of setting.variations.now)) →
-    has_each (varyings_of setting.variations.now) table ≡ has_keys (values_in setting) table
+    list_all (λ (variation : Variation). has_key (string_bytes variation.key) table) setting.variations.now ≡ has_keys (values_in setting) table
 unfolding values_in
-keys_are setting table lt = has_all (varyings_of setting.variations.now) setting.place table lt
+keys_are setting table lt = has_all setting.variations.now setting.place table lt
 
 pub returns-clause-fault : goal.returns-clause-fault
 returns-clause-fault c =
     let setting = values_in c.args.setting in
     let table = c.args.table.now in
-    let has : has_keys setting table ≡ true = sym (keys_are c.args.setting table c.requires) ∙ (let has : has_each (varyings_of c.args.setting.variations.now) table ≡ true = search rules in has) in
+    let has : has_keys setting table ≡ true = sym (keys_are c.args.setting table c.requires)
+    ∙ (let all : list_all (λ (variation : Variation). has_key (string_bytes variation.key) table) c.args.setting.variations.now ≡ true = search rules in all) in
     let text : c.as_bytes.result.now ≡ text_of_lines (varied_lines setting table) = search rules in
     decided c.read.result (varied table setting) (table_in c.as_bytes.result.now) (varied_is table setting has ∙ ap table_in (sym text)) c.read.ensures.table
