@@ -1,4 +1,4 @@
-use Rattle.std.proofs.Common.{◌≡◌, ◌<◌, ℕ, Bool, true, false, length, string_bytes, cond, List, Result, Ok, Err, IfErr, sym, ap, ◌∙◌, rules}
+use Rattle.std.proofs.Common.{◌≡◌, ◌<◌, ℕ, Bool, true, false, length, string_bytes, cond, List, Result, Ok, Err, IfErr, IfOk, sym, ap, ◌∙◌, rules}
 use Rattle.std.specs.List.{list_all}
 use Rattle.cal_input.specs.Answers.{ConfigDecided}
 use Rattle.cal_machine.specs.Outcome.{Fails, Gives}
@@ -53,3 +53,23 @@ returns-clause-fault c =
     ∙ (let all : list_all (λ (variation : Variation). has_key (string_bytes variation.key) table) c.args.setting.variations.now ≡ true = search rules in all) in
     let text : c.as_bytes.result.now ≡ text_of_lines (varied_lines setting table) = search rules in
     decided c.read.result (varied table setting) (table_in c.as_bytes.result.now) (varied_is table setting has ∙ ap table_in (sym text)) c.read.ensures.table
+
+made_is : (result read whole : Result Table ConfigFault) → whole ≡ read → Gives (λ (t : Table). t) result read → IfOk result (λ (made : Table). whole ≡ Ok made)
+made_is (Ok t) read whole same gives = same ∙ gives
+made_is (Err f) read whole same gives = tt
+
+pub returns-clause-made : goal.returns-clause-made
+returns-clause-made c =
+    let setting = values_in c.args.setting in
+    let table = c.args.table.now in
+    let has : has_keys setting table ≡ true = sym (keys_are c.args.setting table c.requires)
+    ∙ (let all : list_all (λ (variation : Variation). has_key (string_bytes variation.key) table) c.args.setting.variations.now ≡ true = search rules in all) in
+    let text : c.as_bytes.result.now ≡ text_of_lines (varied_lines setting table) = search rules in
+    made_is c.read.result (table_in c.as_bytes.result.now) (varied table setting) (varied_is table setting has ∙ ap table_in (sym text)) c.read.ensures.table
+
+pub returns-then-not-branch-clause-fault : goal.returns-then-not-branch-clause-fault
+returns-then-not-branch-clause-fault c =
+    let setting = values_in c.args.setting in
+    let table = c.args.table.now in
+    varied_unknown table setting (sym (keys_are c.args.setting table c.requires)
+    ∙ (let none : list_all (λ (variation : Variation). has_key (string_bytes variation.key) table) c.args.setting.variations.now ≡ false = search rules in none))

@@ -11,9 +11,9 @@ returns c =
     let sought : Option (List ℕ) = value_of (values_in c.args.self) c.args.place.now in
     let stands : c.match-value_in.stands.now ≡ unwrap_or sought own =
     elim c.match-value_in.branch [
-      in-Some w ↦ (let here : w.in-Some.value.now ≡ unwrap_or sought own = ap (λ (found : Option (List ℕ)). unwrap_or found own) w.in-Some.ensures in
-      first_of (ap (λ it. it.now) w.stands-is ∙ here, w.stands-is ∙ here, cc))
+      | in-Some w ↦ (let here : w.in-Some.value.now ≡ unwrap_or sought own = ap (λ (found : Option (List ℕ)). unwrap_or found own) w.in-Some.ensures in
+          rw w.stands-is here)
       | in-None w ↦ (let here : own ≡ unwrap_or sought own = ap (λ (found : Option (List ℕ)). unwrap_or found own) w.in-None.ensures in
-      first_of (ap (λ it. it.now) w.stands-is ∙ here, w.stands-is ∙ here, cc))
+          rw w.stands-is here)
     ] in
     rw (← stands) (search rules)
