@@ -14,7 +14,7 @@ returns c =
     record {
       drawn = drawn;
       are = subst (λ (l : List Table). AreDrawnFor (greatest_limit l) plan.loads.now (nearest_turns plan.timing) drawn) c.from_ref.ensures.value c.in_ok-drawn.ensures.drawn;
-      is = subst (λ (l : List DrawnLoad). IsSweptRun c.args.policy c.args.job.now.asked.now plan l c.args.table.now c.in_ok-run.run) c.as_slice.ensures.value c.in_ok-run.ensures;
+      is = subst (λ (l : List DrawnLoad). IsSweptRun c.args.policy c.args.job.now.asked.now plan l c.args.table.now c.in_ok-run.run') c.as_slice.ensures.value c.in_ok-run.ensures;
     }
 
 pub swept_run-requires : goal.swept_run-requires
