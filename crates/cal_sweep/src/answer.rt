@@ -14,6 +14,7 @@ use crate::misses::say_misses;
 use crate::runs::{Sweep, swept_by_each};
 use crate::table::{ShownSweep, shown_tasks};
 use crate::verdict::status_of_sweeps;
+use crate::watch::Watch;
 use cal_input::RunFault;
 use cal_tables::ComparisonFault;
 use std::alloc::AllocError;
@@ -93,6 +94,7 @@ pub struct EndedSweeps {
 /// and the text is in memory.
 pub fn answer_sweep<'a, W: Write, E: Write>(
     rt: &(impl Threads + Sync),
+    watch: &(impl Watch + Sync),
     job: &SweepJob<'a>,
     output: &mut W,
     errors: &mut E,
@@ -111,7 +113,10 @@ pub fn answer_sweep<'a, W: Write, E: Write>(
     ensures untouched { IfErr result (λ fault.
         fault ≢ SweepFault.Run of_writer → output.new ≡ output.old) }
 {
-    let sweeps = swept_by_each(rt, job)?;
+    let swept = swept_by_each(rt, watch, job);
+    // What shows how far it is goes before anything is said.
+    watch.ended();
+    let sweeps = swept?;
     let status = end_sweeps(job, sweeps.as_slice(), output, errors)?;
     Ok(EndedSweeps { sweeps, status })
 }

@@ -18,6 +18,7 @@ mod seed_rows;
 mod shares;
 mod table;
 mod verdict;
+mod watch;
 mod words;
 
 pub use answer::{EndedSweeps, answer_sweep, end_sweeps};
@@ -27,4 +28,5 @@ pub use naming::SweepNames;
 pub use objective::{Objective, Standing, objective_of};
 pub use runs::{Sweep, SweptLoad, SweptRun, swept, swept_by_each};
 pub use verdict::{AtLoad, is_not_kept, keeps_all, standing_of, status_of_sweeps};
+pub use watch::Watch;
 pub use words::{Asked, MOST_SEEDS, SweepWords, asked_of};

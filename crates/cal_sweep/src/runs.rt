@@ -17,6 +17,7 @@ ghost use Rattle.cal_trace.specs.Arrivals.FitsTable.{FitsTable};
 use crate::fault::SweepFault;
 use crate::job::SweepJob;
 use crate::naming::are_counted;
+use crate::watch::Watch;
 use crate::words::Asked;
 use cal_came::{Came, Counted, window_of};
 use cal_load::{ArrivalPlan, Count, Made, are_known, made_arrivals};
@@ -191,6 +192,14 @@ fn swept_load<'a>(
     Ok(SweptLoad { load, seed, runs })
 }
 
+/// What was made, after the watch was told of it.
+fn watched<T>(watch: &impl Watch, made: T) -> T
+    ensures { result ≡ made }
+{
+    watch.made();
+    made
+}
+
 /// How many of so many loads stand in one piece at least, where each piece runs by itself and there are
 /// at most so many pieces.
 fn least_piece(points: usize, jobs: Option<u64>) -> usize
@@ -210,6 +219,7 @@ fn least_piece(points: usize, jobs: Option<u64>) -> usize
 /// of the first that has one. What is answered does not depend on the threads. Fails only when out of memory.
 fn answered_loads<'a>(
     rt: &(impl Threads + Sync),
+    watch: &(impl Watch + Sync),
     job: &SweepJob<'a>,
     policy: Policy,
     tables: &[Config],
@@ -226,7 +236,7 @@ fn answered_loads<'a>(
             |point: &Point| -> Result<SweptLoad, SweepFault>
                 ensures { IfOk result (IsSweptLoad policy
                     job.entry.now.asked.now tables.entry.now point.now) }
-            { swept_load(job, policy, tables, *point) },
+            { watched(watch, swept_load(job, policy, tables, *point)) },
         )
         .collect(rt, job.alloc)
 }
@@ -259,6 +269,7 @@ fn points_of(alloc: Global, asked: &Asked<'_>) -> Result<Vec<Point>, AllocError>
 /// then of the seeds.
 fn swept_loads<'a>(
     rt: &(impl Threads + Sync),
+    watch: &(impl Watch + Sync),
     job: &SweepJob<'a>,
     policy: Policy,
     tables: &[Config],
@@ -268,7 +279,7 @@ fn swept_loads<'a>(
 {
     let points = points_of(job.alloc, job.asked)?;
     let least = least_piece(points.len(), job.asked.jobs);
-    answered_loads(rt, job, policy, tables, points.as_slice(), least)?
+    answered_loads(rt, watch, job, policy, tables, points.as_slice(), least)?
 }
 
 /// One table alone. Fails only when out of memory.
@@ -303,6 +314,7 @@ fn tables_of(
 /// makes the table faulty; then that of the first run that has one. `Memory` may come at any place.
 pub fn swept<'a>(
     rt: &(impl Threads + Sync),
+    watch: &(impl Watch + Sync),
     job: &SweepJob<'a>,
     policy: Policy,
 ) -> Result<Sweep, SweepFault<'a>>
@@ -330,14 +342,15 @@ pub fn swept<'a>(
     are_counted(&table, names.labels)?;
     are_known(&table, asked.tasks.as_slice(), asked.named.as_slice())?;
     let tables = tables_of(alloc, table, names.variation)?;
-    let loads = swept_loads(rt, job, policy, tables.as_slice())?;
+    let loads = swept_loads(rt, watch, job, policy, tables.as_slice())?;
     Ok(Sweep { tables, loads })
 }
 
 /// The sweep by each of a job's policies, in their order. The fault is that of the first that has one,
-/// as `swept` says.
+/// as `swept` says. The watch is told of each load with each seed.
 pub fn swept_by_each<'a>(
     rt: &(impl Threads + Sync),
+    watch: &(impl Watch + Sync),
     job: &SweepJob<'a>,
 ) -> Result<Vec<Sweep>, SweepFault<'a>>
     ensures made { IfOk result (λ sweeps. AreEachOf (λ policy sweep. IsSweep job.now.input.now
@@ -350,7 +363,7 @@ pub fn swept_by_each<'a>(
     let mut sweeps = Vec::new(job.alloc);
     for place in 0..job.names.policies.len() {
         let policy = policy_at(job.names.policies, place);
-        let sweep = swept(rt, job, policy)?;
+        let sweep = swept(rt, watch, job, policy)?;
         sweeps.push(sweep)?;
     }
     Ok(sweeps)

@@ -30,9 +30,10 @@ use cal_input::{RunFault, read_input};
 use cal_tables::Labels;
 use cal_why::RefusedInput;
 use std::alloc::Global;
-use std::io::{BufWriter, Read, Write};
+use std::io::{BufWriter, Eprint, IsTerminal, Read, Write};
 use std::rt::Files;
 use std::thread::Threads;
+use std::time::Clock;
 
 /// Runs the program on its name and the words after it and on an input, and answers its exit
 /// status: 0 is done (help too), 1 is an illegal history explained or an objective missed, 2 is bad
@@ -41,22 +42,29 @@ use std::thread::Threads;
 /// The input is what the reader gives, or the files that the words name. The answer goes to
 /// `output`, or to a file where the words name one, and help to `output`; what is wrong with the
 /// words (`clap`'s text) or the one line of a fault goes to `errors`. If the reader of the answer
-/// has gone, there is no line.
-pub fn run_program<H: Files + Threads + Sync, R: Read + Drop, W: Write, E: Write>(
-    rt: &H,
-    alloc: Global,
-    named: &[String],
-    reader: R,
-    output: &mut W,
-    errors: &mut E,
-) -> u8 {
+/// has gone, there is no line. Where `errors` is a terminal, a long job shows there how far it is.
+pub fn run_program<
+    H: Files + Threads + Clock + Eprint + Sync,
+    R: Read + Drop,
+    W: Write,
+    E: Write + IsTerminal,
+>(rt: &H, alloc: Global, named: &[String], reader: R, output: &mut W, errors: &mut E) -> u8 {
     let given = match words_after_first(alloc, named) {
         Ok(given) => given,
         Err(_) => return Failure::from(RunFault::Memory).end(errors),
     };
     let mut output = Noted::new(&mut *output);
     match words(alloc, given.as_slice()) {
-        Ok(request) => run_asked(rt, alloc, &request, reader, &mut output, errors),
+        Ok(request) => {
+            let is_shown = errors.is_terminal() && !request.quiet;
+            let run = ProgramRun {
+                rt,
+                alloc,
+                request: &request,
+                is_shown,
+            };
+            run.status(reader, &mut output, errors)
+        }
         Err(error) => match refuse_words(&error, &mut output, errors) {
             Ok(status) => status,
             Err(fault) => Failure {
@@ -66,22 +74,6 @@ pub fn run_program<H: Files + Threads + Sync, R: Read + Drop, W: Write, E: Write
             }
             .end(errors),
         },
-    }
-}
-
-/// Runs the program on what its words ask for and on an input, and answers its exit status.
-fn run_asked<H: Files + Threads + Sync, R: Read + Drop, W: Write, E: Write>(
-    rt: &H,
-    alloc: Global,
-    request: &Request<'_>,
-    reader: R,
-    output: &mut Noted<W>,
-    errors: &mut E,
-) -> u8 {
-    let run = ProgramRun { rt, alloc, request };
-    match run.answer(reader, output, errors) {
-        Ok(status) => status,
-        Err(failure) => failure.end(errors),
     }
 }
 
@@ -106,9 +98,25 @@ struct ProgramRun<'h, 'a, H> {
     alloc: Global,
     /// What the words ask for.
     request: &'a Request<'a>,
+    /// Whether a long job shows how far it is.
+    is_shown: bool,
 }
 
-impl<'h, 'a, H: Files + Threads + Sync> ProgramRun<'h, 'a, H> {
+impl<'h, 'a, H: Files + Threads + Clock + Eprint + Sync> ProgramRun<'h, 'a, H> {
+    /// Does what the words ask for on the reader or on the files that they name, and answers the
+    /// exit status.
+    fn status<R: Read + Drop, W: Write, E: Write>(
+        &self,
+        reader: R,
+        output: &mut Noted<W>,
+        errors: &mut E,
+    ) -> u8 {
+        match self.answer(reader, output, errors) {
+            Ok(status) => status,
+            Err(failure) => failure.end(errors),
+        }
+    }
+
     /// Does what the words ask for on the reader or on the files that they name, and answers the
     /// exit status where there is no fault.
     fn answer<R: Read + Drop, W: Write, E: Write>(
@@ -262,6 +270,7 @@ impl<'h, 'a, H: Files + Threads + Sync> ProgramRun<'h, 'a, H> {
                     words: asked,
                     policies: request.policies.as_slice(),
                     labels,
+                    is_shown: self.is_shown,
                 };
                 sweeping.answer(self.rt, reader, output, errors)
             }

@@ -114,6 +114,8 @@ pub struct Request<'a> {
     pub input: Option<&'a str>,
     /// The file that the answer goes to; without it the standard output.
     pub output: Option<&'a str>,
+    /// Whether it is not to be shown how far the job is.
+    pub quiet: bool,
 }
 
 /// What the words after the program's name ask for; no words are `Job::Help`.
@@ -418,6 +420,7 @@ fn request_of<'a>(alloc: Global, matches: &ArgMatches<'a>) -> Result<Request<'a>
         tables,
         input: file_named(arrivals.or(own.get_str("tables")).or(own.get_str("input"))),
         output: file_named(own.get_str("output")),
+        quiet: name == "sweep" && own.get_flag("quiet"),
     })
 }
 
@@ -441,6 +444,7 @@ impl<'a> Request<'a> {
             tables: Vec::new(alloc),
             input: None,
             output: None,
+            quiet: false,
         }
     }
 }

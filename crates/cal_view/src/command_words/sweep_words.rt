@@ -31,6 +31,7 @@ pub fn sweep_word<'a>(alloc: Global) -> Result<Command<'a>, AllocError> {
         .arg(seeds_word(alloc))?
         .arg(cheapest_word(alloc)?)?
         .arg(jobs_word(alloc))?
+        .arg(quiet_word(alloc))?
         .arg(csv_word(alloc))?
         .arg(names_word(alloc))?
         .arg(tick_word(alloc))?
@@ -69,6 +70,13 @@ fn jobs_word<'a>(alloc: Global) -> Arg<'a> {
     value_word(alloc, "jobs", "N", help)
         .short('j')
         .value_parser(clap::value_parser!(u64).range(1..=i64::MAX))
+        .hide_short_help(true)
+}
+
+fn quiet_word<'a>(alloc: Global) -> Arg<'a> {
+    let help = "Do not show on a terminal how many loads are done";
+    flag_word(alloc, "quiet", help)
+        .short('q')
         .hide_short_help(true)
 }
 

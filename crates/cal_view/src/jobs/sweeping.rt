@@ -1,17 +1,19 @@
 //! The runs of a table at one load after the other.
 
 use crate::command_words::variation::{values_of, variation_of};
+use crate::edge::progress::Progress;
 use crate::fault::RefusedRuns;
 use crate::jobs::naming::refuse_other_count;
 use crate::jobs::pacing::refuse_no_misses;
 use crate::refusing::{refuse_word, table_alone};
 use cal_input::{RunFault, read_input};
 use cal_policy::Policy;
-use cal_sweep::{SweepFault, SweepJob, SweepNames, SweepWords, answer_sweep, asked_of};
+use cal_sweep::{Asked, SweepFault, SweepJob, SweepNames, SweepWords, answer_sweep, asked_of};
 use cal_tables::{Labels, Variation};
 use std::alloc::Global;
-use std::io::{Read, Write};
+use std::io::{Eprint, Read, Write};
 use std::thread::Threads;
+use std::time::Clock;
 
 /// A sweep that words ask for.
 #[derive(Clone, Copy)]
@@ -24,12 +26,14 @@ pub struct Sweeping<'a> {
     pub policies: &'a [Policy],
     /// What tasks and clock ticks are called.
     pub labels: Labels<'a>,
+    /// Whether it is shown how far it is.
+    pub is_shown: bool,
 }
 
 impl Sweeping<'_> {
     /// Makes the runs of an input, and answers the exit status: 1 where the last load misses the
     /// objective, 2 where a word is refused, of which one line then says why.
-    pub fn answer<H: Threads + Sync, R: Read + Drop, W: Write, E: Write>(
+    pub fn answer<H: Clock + Eprint + Threads + Sync, R: Read + Drop, W: Write, E: Write>(
         &self,
         rt: &H,
         mut reader: R,
@@ -58,7 +62,8 @@ impl Sweeping<'_> {
                 labels: self.labels,
             },
         };
-        match answer_sweep(rt, &job, output, errors) {
+        let progress = Progress::new(rt, self.points(&asked), self.is_shown);
+        match answer_sweep(rt, &progress, &job, output, errors) {
             Ok(ended) => Ok(ended.status),
             Err(fault) => self.refuse(input, variation, fault, errors),
         }
@@ -94,5 +99,11 @@ impl Sweeping<'_> {
                 .end(self.alloc, &fault, errors)
             }
         }
+    }
+
+    /// How many loads with their seeds there are, of all policies.
+    fn points(&self, asked: &Asked<'_>) -> u64 {
+        let of_policy = (asked.loads.len() as u64).saturating_mul(asked.seeds);
+        of_policy.saturating_mul(self.policies.len() as u64)
     }
 }
