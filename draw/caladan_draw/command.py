@@ -14,6 +14,7 @@ NAME, LEAST_WIDTH, MOST_WIDTH, MOST = "caladan_draw", 480, 6000, 2 ** 63
 SWEEP_OPTIONS = {
     "--task": ("T", "a task that requests come to; again for each further one"),
     "--load": ("L", "its load; for one task several, by commas, as 0.1,0.3,..,0.9"),
+    "--offered": ("CORES", "in its place the load in cores, whatever the task's limit"),
     "--service": ("TURNS", "the turns that requests take, as 90%%:1,10%%:10"),
     "--pattern": ("PATTERN", "poisson, bursts:N or even"),
     "--turns": ("N", "how many turns each thread makes"),

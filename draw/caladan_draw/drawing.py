@@ -69,7 +69,7 @@ def swept_task(words: Sequence[str]) -> int:
     """The task with several loads, or the first."""
     pairs = list(zip(words[::2], words[1::2]))
     tasks = [value for option, value in pairs if option == "--task"]
-    loads = [value for option, value in pairs if option == "--load"]
+    loads = [value for option, value in pairs if option in ("--load", "--offered")]
     several = next((n for n, it in enumerate(loads) if "," in it), 0)
     return int(tasks[several]) if several < len(tasks) and tasks[several].isdigit() else 0
 

@@ -72,7 +72,7 @@ def kind_of(text: str) -> str:
     for kind, known in HEADS.items():
         if head == known:
             return kind
-    if head.startswith("load") and re.search(r",p50( \[\w+\])?,p50 bound,", head):
+    if head.startswith(("load", "offered")) and re.search(r",p50( \[\w+\])?,p50 bound,", head):
         return "sweep"
     cells = next(csv.reader([head]), [])
     if "seed" in cells[1:-1]:

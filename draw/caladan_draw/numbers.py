@@ -19,8 +19,8 @@ UNIT = re.compile(r" \[(ns|us|ms|s)\]$")
 EXPECTED = {
     "compare": "not the CSV of `caladan_view compare --csv`, whose first line is measure or a key,LABEL,LABEL bound,"
                "LABEL of and so on, with four columns for each further table",
-    "sweep": "not the CSV of `caladan_view sweep --csv`, whose first line is load,(a key,)p50,p50 bound,p50 of and so "
-             "on, to best-effort share",
+    "sweep": "not the CSV of `caladan_view sweep --csv`, whose first line is load or offered,(keys,)p50,p50 bound,p50 "
+             "of and so on, to best-effort share",
     "seeds": "not the rows of runs with several seeds, whose first line is what is set in a run,seed,MEASURE,..",
 }
 
@@ -62,13 +62,14 @@ class SweptRun:
 
 @dataclass(frozen=True)
 class Sweep:
-    """The runs of a sweep, the key that is varied, if any, the task that is swept where it has a name, and the unit of
-    the times where the head says it."""
+    """The runs of a sweep, the key that is varied, if any, the task that is swept where it has a name, the unit of the
+    times where the head says it, and whether its loads are in cores."""
 
     task: str
     key: str
     runs: tuple[SweptRun, ...]
     unit: str = ""
+    in_cores: bool = False
 
     @property
     def values(self) -> list[str]:
@@ -130,7 +131,8 @@ def read_comparison(text: str, name: str) -> Comparison:
 
 
 def read_sweep(text: str, name: str) -> Sweep:
-    """A sweep; a column between its load and its times is of the key that is varied, and one after it of seeds."""
+    """A sweep; the columns between its load and its times are of what is varied, and the last of these of seeds. Where
+    several keys are varied, each value stands with its key."""
     titles, lines = lines_of(text, name, "sweep")
     head = [titles[0], *map(bare, titles[1:])]
     missing = [it for it in (*TIMES, *COLUMNS) if it not in head]
@@ -138,7 +140,8 @@ def read_sweep(text: str, name: str) -> Sweep:
         raise Refusal(f"{name}: {EXPECTED['sweep']}: it has no column {missing[0]}")
     between = head[1:head.index("p50")]
     seeds = between.pop() if between and re.fullmatch(r"of \d+ seeds", between[-1]) else ""
-    key = " ".join(between)
+    has_several = len([it for it in between if it not in ("policy", "task")]) > 1
+    key = "" if has_several else " ".join(between)
     runs = []
     for where, row in lines:
         times = {it: cell(row[head.index(it):head.index(it) + 3], where) for it in TIMES}
@@ -147,7 +150,12 @@ def read_sweep(text: str, name: str) -> Sweep:
         if load is None:
             raise Refusal(f"{where}: its load is `{row[0]}`; wanted: a number")
         which = [f"{row[len(between) + 1]} {seeds}"] if seeds else []
-        runs.append(SweptRun(load, ", ".join([*row[1:len(between) + 1], *which]), times, counts))
+        values = row[1:len(between) + 1]
+        if has_several:
+            values = [" ".join(f"{key_of}={value}" for key_of, value in zip(between, values))]
+        runs.append(SweptRun(load, ", ".join([*values, *which]), times, counts))
     if not runs:
         raise Refusal(f"{name}: it has no runs below its head")
-    return Sweep(head[0].partition("load of ")[2], key, tuple(runs), unit_in(titles[1:]))
+    in_cores = head[0].startswith("offered")
+    task = head[0].partition("offered to " if in_cores else "load of ")[2]
+    return Sweep(task, key, tuple(runs), unit_in(titles[1:]), in_cores)

@@ -162,7 +162,8 @@ class LoadPlot:
             axes.axhline(scene.objective.ticks, color=colours.ink, lw=1.4, gid="objective", zorder=2)
         paper.text(MARGIN + 6, top + PLOT / 2, f"response, {scene.unit}", SMALL, color=colours.second, ha="center",
                    rotation="vertical")
-        paper.text(self.left + self.across / 2, top + PLOT + 32, f"load{' of ' * bool(scene.task)}{scene.task}", SMALL,
+        what, of = ("cores offered", " to ") if scene.sweep.in_cores else ("load", " of ")
+        paper.text(self.left + self.across / 2, top + PLOT + 32, f"{what}{of * bool(scene.task)}{scene.task}", SMALL,
                    color=colours.second, ha="center")
 
 
@@ -218,7 +219,8 @@ class CostPlot:
         ends = sorted({it.load: it for it in (*runs[:1], *runs[-1:])}.values(), key=scene.best_effort)
         for run, side in zip(ends, ((-7, "right"), (7, "left"))):
             place = (scene.best_effort(run), answered(run.times[scene.cost_rank]))
-            axes.annotate(f"load {run.load:g}", place, (side[0], 0), textcoords="offset points", ha=side[1],
+            load = f"{run.load:g} cores" if scene.sweep.in_cores else f"load {run.load:g}"
+            axes.annotate(load, place, (side[0], 0), textcoords="offset points", ha=side[1],
                           va="center", fontsize=(SMALL - 1) * 0.75, color=colours.second, zorder=2)
 
 

@@ -19,6 +19,12 @@ def rows(delay):
     return [it for it in rows_in(text_of(example(CSV, "output"))) if it["task.0.delay"] == delay]
 
 
+def by_load(told, cores, delay):
+    """The runs of one combination, by load."""
+    return [{"load": it["load of search"], **it} for it in rows_in(told)
+            if (it["cores"], it["search.delay"]) == (cores, delay)]
+
+
 def answered(row, rank):
     """The time at a rank, or none where the request there is pending."""
     return math.nan if row[f"{rank} bound"] else float(row[rank])
@@ -125,6 +131,19 @@ class Asked(unittest.TestCase):
         held = [x for x, _ in pairs(named(paper, "cost-0")["cost-0"].get_xydata())]
         numpy.testing.assert_allclose(held, [it * cores for it in shares])
         self.assertIn("best-effort cores", words_of(paper))
+
+
+class SeveralKeys(unittest.TestCase):
+    """A sweep in which two keys are varied."""
+
+    def test_each_combination_has_its_curve(self):
+        told = text_of(example("sweep/two_keys", "output")).partition("\n\n")[0] + "\n"
+        paper = drawn("sweep", file("two_keys.csv", told))
+        each = [(cores, delay) for cores in ("4", "6") for delay in ("10", "40")]
+        for number, (cores, delay) in enumerate(each):
+            self.assertIn(f"cores={cores} search.delay={delay}", words_of(paper))
+            asked = [(float(it["load"]), answered(it, "p50")) for it in by_load(told, cores, delay)]
+            self.assertEqual(repr(pairs(named(paper, f"p50-{number}")[f"p50-{number}"].get_xydata())), repr(asked))
 
 
 class Times(unittest.TestCase):

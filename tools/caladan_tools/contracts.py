@@ -139,7 +139,7 @@ def definition(file, name):
 
 
 ITEM = re.compile(r"^pub (?:struct|enum|trait|union|const|type|static) (\w+).*?(?:;$|^\}$)", re.M | re.S)
-DEFINED = re.compile(r"Rattle\.(\w+)\.specs\.([\w.]+)")
+GHOST = re.compile(r"^ *ghost (?!use\b)[^;]*;", re.M)
 
 
 def bare(text):
@@ -148,15 +148,15 @@ def bare(text):
 
 
 @functools.cache
-def stated(crate, is_own=True):
-    """What the functions, the types and the constants of a crate state, each as its name and its text; from outside,
-    the public ones. Bodies and proofs are no part of it."""
+def stated(crate):
+    """What the public functions, types and constants of a crate state, each as its name and its text. Bodies and proofs
+    are no part of it."""
     found = []
     for file in files_of([crate], "src"):
         found += [(it[1], bare(it[0])) for it in ITEM.finditer(text_of(file))]
     for it in edits.functions(crate):
         lines = text_of(f"{TOP}/crates/{crate}/{it.file}").splitlines()
-        if is_own or is_public(crate, it, lines[it.first - 1]):
+        if is_public(crate, it, lines[it.first - 1]):
             head, clauses = contract_below(lines, it.first)
             said = [bare(f"{word} {name} {text}") for word, name, text in clauses]
             found.append((it.path.split("::")[-1], "\n".join([it.path, head, *said])))
@@ -164,37 +164,42 @@ def stated(crate, is_own=True):
 
 
 @functools.cache
-def cited(file):
-    """The files of specs/ that a file takes definitions from."""
-    found = set()
-    for crate, path in DEFINED.findall(text_of(f"{TOP}/{file}")):
-        parts = path.rstrip(".").split(".")
-        # (the last part may be a name in the file)
-        names = ["/".join(parts[:n]) for n in (len(parts), len(parts) - 1) if n]
-        files = [f"crates/{crate}/specs/{name}.antt" for name in names]
-        found |= {it for it in files if os.path.isfile(f"{TOP}/{it}")}
-    return found
+def outline(file):
+    """A source file without the bodies of its functions and without comments: types, impls and traits with what they
+    state, heads and clauses."""
+    said, end, head, has_clauses = [], None, None, False
+    for line in text_of(file).splitlines():
+        if end is not None:
+            end = None if line == end else end
+            continue
+        if head is None and (found := edits.HEAD.match(line)):
+            head, has_clauses = found[1], False
+        said.append(line)
+        if head is None:
+            continue
+        has_clauses |= bool(CLAUSE.match(line.strip()))
+        if line == f"{head}{{" or not has_clauses and line.endswith(" {"):
+            end, head = f"{head}}}", None
+        elif line.endswith(("};", "{}") if has_clauses else (";", "{}")):
+            head = None
+    return bare("\n".join(said))
 
 
-def definitions_of(crate):
-    """The files of specs/ that a crate's code and definitions stand on, its own among them."""
-    waiting = {os.path.relpath(it, TOP) for it in files_of([crate], "src", "specs")}
-    seen = set()
-    while waiting:
-        file = waiting.pop()
-        seen.add(file)
-        waiting |= cited(file) - seen
-    return sorted(it for it in seen if "/specs/" in it)
+def rules_of(crate):
+    """What the impls and the traits of a crate say of types, as `ghost view = ..;`."""
+    return [it for file in files_of([crate], "src") for it in GHOST.findall(outline(file))]
 
 
 @functools.cache
 def terms_of(crate):
-    """All in whose terms the functions of a crate are proved or refused: the definitions that it stands on, what it
-    states itself, and what the crates below it state of what it names."""
+    """All in whose terms the functions of a crate are proved or refused: its definitions and those of the crates below
+    it, all of its code but bodies, and what the crates below state of what it names, and of their types."""
+    lowers = below(crate, crates(), [])
     named = set(re.findall(r"\w+", "\n".join(text_of(it) for it in files_of([crate], "src"))))
-    said = [bare(text_of(f"{TOP}/{it}")) for it in definitions_of(crate)] + [text for _, text in stated(crate)]
-    for lower in below(crate, crates(), []):
-        said += [text for name, text in stated(lower, is_own=False) if name in named]
+    said = [bare(text_of(it)) for it in files_of([*lowers, crate], "specs")]
+    said += [outline(it) for it in files_of([crate], "src")]
+    for lower in lowers:
+        said += [text for name, text in stated(lower) if name in named] + rules_of(lower)
     return "\n".join(said)
 
 

@@ -24,7 +24,7 @@ from .crates import TOP, text_of
 
 FOLDERS = ("must-fail", "witnesses")
 # Rises where fault_of, at the end, is to judge otherwise what it has judged before.
-JUDGED = 1
+JUDGED = 2
 # An edit: its file, the crate, its name, the mistake, the function and what of it is refused, and the pairs of texts
 # as (file, old, new).
 Edit = collections.namedtuple("Edit", "file crate name mistake function clauses pairs")

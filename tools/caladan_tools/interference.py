@@ -46,20 +46,23 @@ def number(value):
     return OFF if value == "off" else int(value)
 
 
-def service(limit=OFF, request=OFF):
-    """A service beside a batch job with a thread for each core; the service too keeps to one thread a core."""
-    return table(8, [("lc", 2, 6, 10, request), ("be", 0, 8, 0, 0)], limit)
+def service(limit=OFF, request=OFF, most=8):
+    """A service beside a batch job with a thread for each core, or with fewer."""
+    return table(8, [("lc", 2, 6, 10, request), ("be", 0, most, 0, 0)], limit)
 
 
 def arrivals(words, seed):
     return [*words.split(), "--turns", TURNS, "--ticks", TICKS, "--seed", seed]
 
 
-def memory(load, limit, seed):
-    """A service beside a batch job that floods memory: without the bandwidth controller and with it."""
-    words = f"--task 0 --load {load} --service 1 --task 1 --load 0.9 --service 20"
-    plan = {"pace": 5, "memory": 400, "figure": "shown"}
-    return Asked(service(limit=number(limit)), arrivals(words, seed), [10, 100], "caladan", plan)
+def memory(bears, load, limit, seed):
+    """A service beside a batch job that floods memory, and as a control beside memory that bears all: the job has no
+    limit, one of two for its bandwidth, or two threads."""
+    words = f"--task 0 --load {load} --service 3 --task 1 --load 2 --service 20"
+    by_limit = {"none": service(), "2 cores": service(most=2)}
+    asked = by_limit.get(limit) or service(int(limit.split()[1]))
+    plan = {"pace": 1, "figure": "shown", **({} if bears == "all" else {"memory": int(bears)})}
+    return Asked(asked, arrivals(words, seed), [10, 100], "caladan", plan)
 
 
 def siblings(request, load, seed):
@@ -79,8 +82,10 @@ def pace(loads, passes, policy, seed):
 
 RANKS = [("response median", 0), ("response 99 of 100", 0)]
 PARTS = {
-    "memory": Part(["load", "bandwidth_limit"], [["0.1", "0.2", "0.3", "0.4", "0.5", "0.6"], ["off", "360"]], memory,
-                   [*RANKS, ("requests served", 1)]),
+    "memory": Part(["memory bears", "load", "limit of the job"],
+                   [["250", "all"], ["0.1", "0.2", "0.3", "0.4", "0.5"],
+                    ["none", "bandwidth_limit 250", "bandwidth_limit 150", "2 cores"]],
+                   memory, [*RANKS, ("requests served", 1)]),
     "siblings": Part(["task.0.request", "load"], [["off", "200", "100", "50", "20"], ["0.2", "0.4", "0.6"]],
                      siblings, [*RANKS, ("requests served", 1)]),
     "pace": Part(["loads of tasks 0 and 1", "passes to a turn", "policy"],
@@ -160,9 +165,10 @@ def page_rows(name, found):
     """The rows of the page's table, without its head."""
     of, rows = medians(name, found), []
     if name == "memory":
-        for load in PARTS[name].values[0]:
-            pairs = zip(*(of[load, limit] for limit in ("off", "360")))
-            rows.append([load, *(", ".join(it) for it in pairs)])
+        bears, loads, limits = PARTS[name].values
+        for load in loads[::2]:
+            cells = [(it, 1) for it in bears] + [(bears[0], 2)]
+            rows.append([load, *(", ".join(of[it, load, limit][at] for limit in limits) for it, at in cells)])
     elif name == "siblings":
         for request in PARTS[name].values[0]:
             rows.append([request, *(", ".join(of[request, load][1:]) for load in PARTS[name].values[1])])

@@ -75,10 +75,11 @@ def parts_of(service):
     return [(round(1000 * float(it[0])), int(it[1])) if it[1:] else (100000, int(it[0])) for it in parts]
 
 
-def comes(chance, threads, load, parts, pattern, turns):
-    """When requests come, in their order: the turn, the turns that each takes, and the thread."""
+def comes(chance, threads, cores, parts, pattern, turns):
+    """When requests come, in their order: the turn, the turns that each takes, and the thread. Cores are in
+    thousandths."""
     at_once = int(pattern[7:]) if pattern.startswith("bursts:") else 1
-    mean, rate = sum(share * work for share, work in parts) * at_once, load * threads * 100
+    mean, rate = sum(share * work for share, work in parts) * at_once, cores * 100
     time = 0
     while True:
         time += (2**32 if pattern == "even" else waited(chance)) * mean // rate
@@ -94,18 +95,22 @@ def comes(chance, threads, load, parts, pattern, turns):
             yield time >> 32, work, chance.below(threads)
 
 
-def made(given, asked, turns, ticks, seed):
+def made(given, asked, turns, ticks, seed, drawn_for=()):
     """The arrivals, the summary, and what came: by its id the turn to which each request came; and of each task how
     many came, how many of these were moved to a later turn, how many by more than one, how many were left out, and to
-    which turn the first of these came. What is asked: task, load in thousandths, parts and pattern."""
+    which turn the first of these came. What is asked: task, load in thousandths, whether it is in cores, parts,
+    pattern, and the misses that each turn of work of a request adds. Requests are drawn for as many threads of each
+    task as are told, or as the table has; one comes to the thread of its number modulo the table's."""
     limits = numbers(given, "limit")
     rows = [f"pass,{ticks * it},0" for it in range(1, turns + 1)]
     rows += [f"turn,{ticks * it + ticks // 2}" for it in range(1, turns + 1)]
     told, came_to, counts = [f"passes {turns} turns {turns}"], {}, {}
-    for task, load, parts, pattern in sorted(asked):
+    for task, load, is_cores, parts, pattern, misses in sorted(asked):
         queues, came, later, far, left = [{} for _ in range(limits[task])], 0, 0, 0, []
-        for turn, work, thread in comes(seeded(seed, task), limits[task], load, parts, pattern, turns):
-            came += 1
+        threads = (drawn_for or limits)[task]
+        for turn, work, drawn in comes(seeded(seed, task), threads, load if is_cores else load * threads, parts,
+                                       pattern, turns):
+            came, thread = came + 1, drawn % limits[task]
             place = max(turn, max(queues[thread], default=-1) + 1)
             if place >= turns:
                 left.append(turn)
@@ -118,7 +123,7 @@ def made(given, asked, turns, ticks, seed):
             for place, (work, turn) in queue.items():
                 came_to[len(came_to) + 1] = turn
                 total += work
-                rows.append(f"request,{thread},{place},{len(came_to)},{work},0")
+                rows.append(f"request,{thread},{place},{len(came_to)},{work},{misses}")
         made_load = (2000 * total + turns * limits[task]) // (2 * turns * limits[task])
         what = f"came {came} later {later} left out {len(left)} load {made_load // 1000}.{made_load % 1000:03}"
         told.append(f"task {task} {what}")
@@ -129,13 +134,15 @@ def made(given, asked, turns, ticks, seed):
 def asked_by(words):
     """What the words ask for: of each task, and the turns, the ticks and the seed."""
     it = argparse.ArgumentParser()
-    for name, default in (("task", None), ("load", None), ("service", ["1"]), ("pattern", ["poisson"])):
-        it.add_argument(f"--{name}", action="append", required=default is None)
+    it.add_argument("--task", action="append", required=True)
+    for name in ("load", "offered", "service", "pattern", "misses"):
+        it.add_argument(f"--{name}", action="append")
     for name, default in (("turns", 1000), ("ticks", 10), ("seed", 1)):
         it.add_argument(f"--{name}", type=int, default=default)
     given = it.parse_args(words)
-    each = [(given.load, lambda it: round(1000 * float(it))), (given.service or ["1"], parts_of),
-            (given.pattern or ["poisson"], str)]
+    each = [(given.load or given.offered, lambda it: round(1000 * float(it))),
+            ([given.offered is not None], bool), (given.service or ["1"], parts_of),
+            (given.pattern or ["poisson"], str), (given.misses or ["0"], int)]
     asked = [(int(task), *(read((of if of[1:] else of * len(given.task))[i]) for of, read in each))
              for i, task in enumerate(given.task)]
     return asked, given.turns, given.ticks, given.seed

@@ -537,7 +537,10 @@ impl Scheduler {
         let mut clocks = Vec::new();
         for row in tasks {
             for thread in 0..usize::from(row.limit) {
-                let Some(kept) = self.kept(usize::from(row.first_thread) + thread) else { continue };
+                let kept = match self.kept(usize::from(row.first_thread) + thread) {
+                    Some(kept) => kept,
+                    None => continue,
+                };
                 let [_, running, queued, oldest, started, _, _, paused, since] = kept.words;
                 let runs = row.kind == 1 && running != 0 && started != 0;
                 let waits = [(queued != 0, oldest, row.delay), (paused != 0, since, row.delay), (runs, started, row.request)];

@@ -10,7 +10,7 @@ use Rattle.cal_trace.specs.Arrivals.{last_in}
 use Rattle.cal_trace.specs.Arrivals.FitsTable.{EachLater, IsArrival, ComesBefore, HaveTwoIds}
 use Rattle.cal_trace.specs.History.Ranges.{Each}
 use Rattle.cal_trace.specs.declared.arrivals.Arrival.{Arrival}
-use Rattle.cal_trace.specs.declared.arrivals.reading.TheConstants.{MOST_WORK}
+use Rattle.cal_trace.specs.declared.arrivals.reading.TheConstants.{MOST_WORK, MOST_REQUEST_MISSES}
 use Rattle.cal_trace.proofs.ListLemmas.EachLater.{later_push}
 use Rattle.cal_trace.proofs.ListLemmas.EachOne.{each_push}
 
@@ -83,7 +83,7 @@ end_of-le slots (suc i) d lt rising =
 -- the request at the next place of what comes to a thread
 pub put_more : (threads turns thread i : ℕ) (slots xs : List Slot) (d : Slot) (old new : List Arrival) (arrival : Arrival) → xs ≡ slots → i < length slots → thread < threads
     → Each (IsSlot turns) slots → EachLater IsEarlier slots → arrival.thread ≡ thread → arrival.turn ≡ (get_or xs i d).turn → arrival.request.work ≡ (get_or xs i d).work
-    → arrival.request.misses ≡ 0 → arrival.request.id ≡ length old + 1 → arrival.request.id < 2 ^ 64 → new ≡ old ++ arrival ∷ []
+    → arrival.request.misses < 2 ^ 32 → arrival.request.id ≡ length old + 1 → arrival.request.id < 2 ^ 64 → new ≡ old ++ arrival ∷ []
     → AreBuiltTo threads turns thread (end_of (take i slots)) old → AreBuiltTo threads turns thread (end_of (take (i + 1) slots)) new
 put_more threads turns thread i slots xs d old new arrival same lt below each rising of_thread turn work misses id word more b =
     let slot = get_or slots i d in
@@ -99,7 +99,7 @@ put_more threads turns thread i slots xs d old new arrival same lt below each ri
       turn = omega (arith, at, within);
       some_work = omega (arith, takes, some);
       most_work = let limit : MOST_WORK ≡ 1000000 = refl in omega (arith, takes, most, limit);
-      misses = omega (arith, misses);
+      misses = let limit : MOST_REQUEST_MISSES ≡ 4294967295 = refl in omega (arith, misses, limit);
     } in
     let after : end_of (take i slots) ≤ arrival.turn = let e = end_of-le slots i d lt rising in omega (arith, e, at) in
     let grown = built_more threads turns thread (end_of (take i slots)) old arrival b of of_thread after id word in

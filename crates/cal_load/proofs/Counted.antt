@@ -25,17 +25,18 @@ each_append : {X : Type 0} (P : X → Type 0) (xs ys : List X) → Each P xs →
 each_append P [] ys h k = k
 each_append P (x ∷ xs) ys h k = each_cons P x (xs ++ ys) (each_first P x xs h) (each_append P xs ys (each_other P x xs h) k)
 
-pub more_push : (first after : ℕ) (old mid new : List Arrival) (x : Arrival) → HasMoreFor first after old mid → new ≡ mid ++ x ∷ [] → first ≤ x.thread → x.thread < after
-    → HasMoreFor first after old new
-more_push first after old mid new x h is le lt = record {
+pub more_push : (first after misses : ℕ) (old mid new : List Arrival) (x : Arrival) → HasMoreFor first after misses old mid → new ≡ mid ++ x ∷ [] → first ≤ x.thread
+    → x.thread < after → x.request.misses ≡ misses → HasMoreFor first after misses old new
+more_push first after misses old mid new x h is le lt missed = record {
   own = h.own ++ x ∷ [];
   more = is ∙ ap (λ l. l ++ x ∷ []) h.more ∙ append_assoc old h.own (x ∷ []);
   each = each_push (λ a. (first ≤ a.thread) × (a.thread < after)) h.own x h.each (le, lt);
+  missed = each_push (λ a. a.request.misses ≡ misses) h.own x h.missed missed;
 }
 
-pub more_on : (first middle after : ℕ) (old mid new : List Arrival) → HasMoreFor first middle old mid → HasMoreFor middle after mid new → first ≤ middle → middle ≤ after
-    → HasMoreFor first after old new
-more_on first middle after old mid new a b le lt =
+pub more_on : (first middle after misses : ℕ) (old mid new : List Arrival) → HasMoreFor first middle misses old mid → HasMoreFor middle after misses mid new → first ≤ middle
+    → middle ≤ after → HasMoreFor first after misses old new
+more_on first middle after misses old mid new a b le lt =
     let P : Arrival → Type 0 = λ a. (first ≤ a.thread) × (a.thread < after) in
     let early : Each P a.own = record { at = λ k x e. let own = a.each.at k x e in let is = own.1 in (own.0, omega (arith, is, lt)) } in
     let late : Each P b.own = record { at = λ k x e. let own = b.each.at k x e in let is = own.0 in (omega (arith, is, le), own.1) } in
@@ -43,6 +44,7 @@ more_on first middle after old mid new a b le lt =
       own = a.own ++ b.own;
       more = b.more ∙ ap (λ l. l ++ b.own) a.more ∙ append_assoc old a.own b.own;
       each = each_append P a.own b.own early late;
+      missed = each_append (λ x. x.request.misses ≡ misses) a.own b.own a.missed b.missed;
     }
 
 counted_push : (table : Table) (loads : List TaskLoad) (counts : List Count) (count : Count) (requests own : List Arrival) → AreCountedBy table loads counts requests
@@ -93,8 +95,8 @@ gathered_skip table loads turns n gathered lt h none = record {
 
 -- the requests of the next task are put, and counted
 pub gathered_more : (table : Table) (loads : List TaskLoad) (turns n first threads : ℕ) (old new : Gathered) (count : Count) → n < length table.tasks → first ≡ first_thread table.tasks n
-    → threads ≡ (task_at table.tasks n).limit → AreGathered table loads turns n old → HasLoad loads count.task count.load → count.task ≡ n
-    → HasMoreFor first (first + threads) old.requests.items new.requests.items → AreBuilt (threads_in table.tasks) turns (first + threads) new.requests.items
+    → threads ≡ (task_at table.tasks n).limit → AreGathered table loads turns n old → (has : HasLoad loads count.task count.load) → count.task ≡ n
+    → HasMoreFor first (first + threads) has.of_task.misses old.requests.items new.requests.items → AreBuilt (threads_in table.tasks) turns (first + threads) new.requests.items
     → length new.requests.items + count.left_out ≡ length old.requests.items + count.came → new.counts.items ≡ old.counts.items ++ count ∷ []
     → new.came ≡ old.came + count.came → new.came ≤ MOST_REQUESTS → AreGathered table loads turns (n + 1) new
 gathered_more table loads turns n first threads old new count lt at many h has is own built counted counts came few =
@@ -107,7 +109,7 @@ gathered_more table loads turns n first threads old new count lt at many h has i
           let below = within.1 in
           task_there table.tasks n a.thread lt (omega (arith, from, at)) (omega (arith, below, at, many)) ∙ sym is;
     } in
-    let of : IsCountOf table loads count own.own = record { asked = has; counted = omega (arith, long, counted); own = all } in
+    let of : IsCountOf table loads count own.own = record { asked = has; counted = omega (arith, long, counted); own = all; missed = own.missed } in
     let pushed = counted_push table loads old.counts.items count old.requests.items own.own h.counted of in
     record {
       built = subst (λ n. AreBuilt (threads_in table.tasks) turns n new.requests.items) next built;

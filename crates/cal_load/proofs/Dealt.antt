@@ -87,11 +87,11 @@ queue_at P queues place now lt here there k queue e = go (cases_eq k place)
         subst (λ n. P n queue) (sym same) (subst (λ q. P place q) is here)
     go (inr other) = there k queue other (sym (set_other queues place k now other) ∙ e)
 
--- one more request is given to a thread
-pub given_more : (threads turns : ℕ) (rows : List LogRow) (row : LogRow) (slot : Slot) (thread : ℕ) (old new : Coming) → IsGivenTo threads turns rows old → old.turns ≡ turns
-    → thread < threads → slot ≡ slot_of row → length rows < 2 ^ 63 → IsComing old → IsGiving thread slot old new → All (IsQueue turns) new.queues.items
-    → IsGivenTo threads turns (rows ++ row ∷ []) new
-given_more threads turns rows row slot thread old new g same lt is few coming giving all =
+-- one more request is given to a thread, after the others
+pub given_next : (threads turns : ℕ) (rows more : List LogRow) (row : LogRow) (slot : Slot) (thread : ℕ) (old new : Coming) (g : IsGivenTo threads turns rows old) → old.turns ≡ turns
+    → thread < threads → slot ≡ slot_of row → length rows < 2 ^ 63 → IsComing old → (giving : IsGiving thread slot old new) → All (IsQueue turns) new.queues.items
+    → more ≡ rows ++ row ∷ [] → (now : IsGivenTo threads turns more new) × (now.given ≡ g.given ++ next_given row thread giving.taken ∷ [])
+given_next threads turns rows more row slot thread old new g same lt is few coming giving all of_more =
     let given = g.given in
     let one : Given = next_given row thread giving.taken in
     let long : length given ≡ length rows = sym (length-map' given) ∙ ap (λ (l : List LogRow). length l) g.dealt.of_rows in
@@ -104,30 +104,32 @@ given_more threads turns rows row slot thread old new g same lt is few coming gi
     let free_here : giving.now.free ≡ free_after thread (given ++ one ∷ []) =
     giving.taking.free ∙ ap (λ n. free_next n giving.taken) (g.of.free thread giving.was giving.at) ∙ sym (after_placed (slots_on thread given) (slot_of row) giving.taken)
     ∙ sym (ap (λ l. after_last (last_in l)) (here_on given one)) in
-    let size : length new.queues.items ≡ length old.queues.items = ap (λ (l : List Queue). length l) giving.queues ∙ length-set' old.queues.items thread giving.now in
-    record {
-      given = given ++ one ∷ [];
-      dealt = dealt_more threads turns rows given one g.dealt lt turn_is;
-      of = record {
-        queues = λ k queue e.
-            queue_at (λ n q. q.slots.items ≡ slots_on n (given ++ one ∷ [])) old.queues.items thread giving.now within slots_here
-            (λ n q other at. g.of.queues n q at ∙ sym (other_on n given one other)) k queue (subst (λ (l : List Queue). slice_get l k ≡ Some queue) giving.queues e);
-        free = λ k queue e.
-            queue_at (λ n q. q.free ≡ free_after n (given ++ one ∷ [])) old.queues.items thread giving.now within free_here
-            (λ n q other at. g.of.free n q at ∙ sym (ap (λ l. after_last (last_in l)) (other_on n given one other))) k queue
-            (subst (λ (l : List Queue). slice_get l k ≡ Some queue) giving.queues e);
-        came = let before = g.of.came in let more = giving.came (omega (arith, before, long, few)) in omega (arith, before, more, length-append given (one ∷ []));
-        left =
-            let before = g.of.left in
-            let came = g.of.came in
-            let some = coming.counted (omega (arith, came, long, few)) in
-            let more = giving.left (omega (arith, some, came, long, few)) in
-            let sum = sum_by_push (λ (h : Given). out_in h.turn) given one in
-            omega (arith, before, more, sum);
-      };
-      queues = size ∙ g.queues;
-      all = all;
-    }
+    let size : length new.queues.items ≡ length old.queues.items = ap (λ (l : List Queue). length l) giving.queues ∙ length-set' old.queues.items thread giving.now in (
+      record {
+        given = given ++ one ∷ [];
+        dealt = subst (λ (l : List LogRow). AreDealt threads turns l (given ++ one ∷ [])) (sym of_more) (dealt_more threads turns rows given one g.dealt lt turn_is);
+        of = record {
+          queues = λ k queue e.
+              queue_at (λ n q. q.slots.items ≡ slots_on n (given ++ one ∷ [])) old.queues.items thread giving.now within slots_here
+              (λ n q other at. g.of.queues n q at ∙ sym (other_on n given one other)) k queue (subst (λ (l : List Queue). slice_get l k ≡ Some queue) giving.queues e);
+          free = λ k queue e.
+              queue_at (λ n q. q.free ≡ free_after n (given ++ one ∷ [])) old.queues.items thread giving.now within free_here
+              (λ n q other at. g.of.free n q at ∙ sym (ap (λ l. after_last (last_in l)) (other_on n given one other))) k queue
+              (subst (λ (l : List Queue). slice_get l k ≡ Some queue) giving.queues e);
+          came = let before = g.of.came in let more = giving.came (omega (arith, before, long, few)) in omega (arith, before, more, length-append given (one ∷ []));
+          left =
+              let before = g.of.left in
+              let came = g.of.came in
+              let some = coming.counted (omega (arith, came, long, few)) in
+              let more = giving.left (omega (arith, some, came, long, few)) in
+              let sum = sum_by_push (λ (h : Given). out_in h.turn) given one in
+              omega (arith, before, more, sum);
+        };
+        queues = size ∙ g.queues;
+        all = all;
+      },
+      refl,
+    )
   where
     length-map' : (xs : List Given) → length (map (λ (h : Given). h.row) xs) ≡ length xs
     length-map' [] = refl
@@ -137,6 +139,12 @@ given_more threads turns rows row slot thread old new g same lt is few coming gi
     length-set' [] i x = refl
     length-set' (y ∷ ys) zero x = refl
     length-set' (y ∷ ys) (suc i) x = ap suc (length-set' ys i x)
+
+pub given_more : (threads turns : ℕ) (rows : List LogRow) (row : LogRow) (slot : Slot) (thread : ℕ) (old new : Coming) → IsGivenTo threads turns rows old → old.turns ≡ turns
+    → thread < threads → slot ≡ slot_of row → length rows < 2 ^ 63 → IsComing old → IsGiving thread slot old new → All (IsQueue turns) new.queues.items
+    → IsGivenTo threads turns (rows ++ row ∷ []) new
+given_more threads turns rows row slot thread old new g same lt is few coming giving all =
+    (given_next threads turns rows (rows ++ row ∷ []) row slot thread old new g same lt is few coming giving all refl).0
 
 -- nothing of a log is given yet
 pub given_none : (threads turns : ℕ) (coming : Coming) → IsNothing coming → length coming.queues.items ≡ threads → All (IsQueue turns) coming.queues.items → IsGivenTo threads turns [] coming

@@ -3,5 +3,6 @@ mod Built
 mod ClockLemmas
 mod Counted
 mod Dealt
+mod DealtDrawn
 mod On
 mod TasksOfLog

@@ -18,7 +18,7 @@ use Rattle.cal_machine.specs.declared.task.Task.{Task}
 use Rattle.cal_trace.specs.declared.arrivals.Arrival.{Arrival}
 
 -- the threads of a task come before the first of each later one
-first_after : (tasks : List Task) (t n : ℕ) → t < n → n ≤ length tasks → first_thread tasks t + (task_at tasks t).limit ≤ first_thread tasks n
+pub first_after : (tasks : List Task) (t n : ℕ) → t < n → n ≤ length tasks → first_thread tasks t + (task_at tasks t).limit ≤ first_thread tasks n
 first_after tasks t zero lt le = elim lt [ ]
 first_after tasks t (suc n) lt le =
     let next_is : first_thread tasks (suc n) ≡ first_thread tasks (n + 1) = ap (λ k. first_thread tasks k) (let e : suc n ≡ n + 1 = omega arith in e) in

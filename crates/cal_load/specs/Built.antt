@@ -27,8 +27,9 @@ abbrev pub AreBuilt : ℕ → ℕ → ℕ → List Arrival → Type 0
 AreBuilt threads turns thread requests = AreBuiltTo threads turns thread 0 requests
 
 -- there are more requests than before: these at the end, all for threads from a first one up to
--- another
-pub record HasMoreFor (first after : ℕ) (old new : List Arrival) : Type 0 where
+-- another, and with so many misses
+pub record HasMoreFor (first after misses : ℕ) (old new : List Arrival) : Type 0 where
   pub own : List Arrival
   pub more : new ≡ old ++ own
   pub each : Each (λ arrival. (first ≤ arrival.thread) × (arrival.thread < after)) own
+  pub missed : Each (λ arrival. arrival.request.misses ≡ misses) own

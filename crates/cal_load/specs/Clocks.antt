@@ -1,5 +1,5 @@
 -- The clocks of a run that is made.
-use Rattle.std.specs.Prelude.{◌≡◌, ◌≤◌, ◌+◌, ◌*◌, ◌/◌, ℕ, List, length, Some, slice_get}
+use Rattle.std.specs.Prelude.{◌≡◌, ◌≤◌, ◌+◌, ◌*◌, ◌/◌, min, max, ℕ, List, length, Some, slice_get}
 use Rattle.cal_load.specs.declared.clocks.Timing.{Timing}
 use Rattle.cal_load.specs.declared.clocks.TheConstants.{MOST_TICKS}
 use Rattle.cal_trace.specs.declared.arrivals.GivenPass.{GivenPass}
@@ -11,6 +11,10 @@ pub record IsTiming (timing : Timing) : Type 0 where
   pub most_turns : timing.turns ≤ MOST_TURNS
   pub some_ticks : 1 ≤ timing.ticks
   pub most_ticks : timing.ticks ≤ MOST_TICKS
+
+-- how many turns a run has, or the nearest that arrivals can have
+abbrev pub nearest_turns : Timing → ℕ
+nearest_turns timing = min (max timing.turns 1) MOST_TURNS
 
 -- so many things, the one at each place being this
 pub record AreAt {X : Type 0} (many : ℕ) (at : ℕ → X) (xs : List X) : Type 0 where

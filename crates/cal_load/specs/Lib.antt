@@ -2,8 +2,10 @@ pub mod Built
 pub mod Clocks
 pub mod Comings
 pub mod Counts
+pub mod Drawn
 pub mod Giving
 pub mod Known
+pub mod Loads
 pub mod Logs
 pub mod Made
 pub mod Refused

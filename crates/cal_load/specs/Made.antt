@@ -33,13 +33,14 @@ pub record HasCount (counts : List Count) (task : ℕ) : Type 0 where
   pub at : slice_get counts place ≡ Some count
   pub is_of : count.task ≡ task
 
--- what came to a task by its load: these requests, all for its threads, and as many as came but for
--- those that are left out
+-- what came to a task by its load: these requests, all for its threads and with the load's misses,
+-- and as many as came but for those that are left out
 pub record IsCountOf (table : Table) (loads : List TaskLoad) (count : Count)
     (requests : List Arrival) : Type 0 where
   pub asked : HasLoad loads count.task count.load
   pub counted : length requests + count.left_out ≡ count.came
   pub own : Each (λ arrival. task_of table.tasks arrival.thread ≡ count.task) requests
+  pub missed : Each (λ arrival. arrival.request.misses ≡ asked.of_task.misses) requests
 
 -- requests are those of each count in turn
 abbrev pub AreCountedBy : Table → List TaskLoad → List Count → List Arrival → Type 0

@@ -1,19 +1,21 @@
 //! What comes to tasks, as the words of a command line say it.
 
-ghost use Rattle.std.specs.Prelude.{ℕ, List, IfErr, IfOk, length};
-ghost use Rattle.cal_load.specs.Known.{AreKnown};
+ghost use Rattle.std.specs.Prelude.{◌≡◌, ℕ, List, IfErr, IfOk, length, slice_get};
+ghost use Rattle.cal_load.specs.Known.{AreKnown, text_of};
 ghost use Rattle.cal_load.specs.Refused.{IsRefusedFor};
 
 use crate::clocks::Timing;
 use crate::decimal::number_of;
 use crate::fault::{LoadFault, Why, refused};
-use crate::loads::{FLAG, loads_of};
+use crate::loads::{Measure, OFFERED, flag_of, loads_of};
 use crate::making::{TaskLoad, pattern_of};
 use crate::service::service_of;
 use cal_machine::Config;
 use std::alloc::Global;
 
 const TASK: &str = "--task";
+
+const MISSES: &str = "--misses";
 
 /// What words ask for, each word of a task as it was given.
 #[derive(Debug, Drop)]
@@ -22,12 +24,16 @@ pub struct LoadWords<'a> {
     pub tasks: Vec<&'a str>,
     /// The names of the table's tasks, in task order with commas between.
     pub names: Option<&'a str>,
-    /// One load for all of them, or one for each. The next two are given in the same way.
+    /// One load for all of them, or one for each. The next four are given in the same way.
     pub loads: Vec<&'a str>,
+    /// The loads in cores, in place of these.
+    pub offered: Vec<&'a str>,
     /// The turns that requests take.
     pub services: Vec<&'a str>,
     /// How they come.
     pub patterns: Vec<&'a str>,
+    /// The misses that each turn of their work adds.
+    pub misses: Vec<&'a str>,
     /// How long the run is.
     pub timing: Timing,
     /// The seed.
@@ -41,6 +47,8 @@ pub struct SteppedLoads<'a> {
     pub tasks: Vec<TaskLoad>,
     /// Which of them has several loads; the first, where none has.
     pub place: usize,
+    /// What the loads are measured in.
+    pub measure: Measure,
     /// The loads of that one, in thousandths, rising.
     pub loads: Vec<u64>,
     /// The word of these loads.
@@ -56,10 +64,21 @@ struct AskedTask<'a> {
 }
 
 /// The word at a place, or an empty one.
-pub fn word_at<'a>(words: &[&'a str], place: usize) -> &'a str {
+pub fn word_at<'a>(words: &[&'a str], place: usize) -> &'a str
+    ensures { result.now ≡ text_of (slice_get words.now place) }
+{
     match words.get(place) {
         Some(word) => *word,
         None => "",
+    }
+}
+
+/// The word that an option has for the task at a place: its only one, or that at this place.
+pub(crate) fn word_of<'a>(words: &[&'a str], place: usize) -> &'a str {
+    if words.len() == 1 {
+        word_at(words, 0)
+    } else {
+        word_at(words, place)
     }
 }
 
@@ -72,14 +91,21 @@ fn word_for<'a>(
     place: usize,
 ) -> Result<&'a str, LoadFault<'a>> {
     let times = words.len();
-    if times == 1 {
-        return Ok(word_at(words, 0));
-    }
-    if times == tasks {
-        return Ok(word_at(words, place));
+    if times == 1 || times == tasks {
+        return Ok(word_of(words, place));
     }
     let last = word_at(words, times.saturating_sub(1));
     Err(refused(flag, last, Why::NotOneEach(times as u64, tasks as u64)))
+}
+
+/// The misses of a word.
+fn misses_of<'a>(word: &'a str) -> Result<u32, LoadFault<'a>>
+    ensures { IfErr result (IsRefusedFor MISSES.now word.now Why.NotMisses) }
+{
+    match number_of(word).and_then(|misses| u32::try_from(misses).ok()) {
+        Some(misses) => Ok(misses),
+        None => Err(refused(MISSES, word, Why::NotMisses)),
+    }
 }
 
 /// The task that a word names: by its number, or by the first of these names that it is.
@@ -91,7 +117,10 @@ pub fn task_named(names: Option<&str>, word: &str) -> Option<usize> {
 }
 
 /// The task that the word at this place names.
-pub fn task_at<'a>(words: &LoadWords<'a>, place: usize) -> Result<usize, LoadFault<'a>> {
+pub fn task_at<'a>(words: &LoadWords<'a>, place: usize) -> Result<usize, LoadFault<'a>>
+    ensures fault { IfErr result (IsRefusedFor TASK.now
+        (text_of (slice_get words.now.tasks.items place)) (Why.NotNamed words.now.names)) }
+{
     let word = word_at(words.tasks.as_slice(), place);
     match task_named(words.names, word) {
         Some(task) => Ok(task),
@@ -99,24 +128,51 @@ pub fn task_at<'a>(words: &LoadWords<'a>, place: usize) -> Result<usize, LoadFau
     }
 }
 
+impl<'a> LoadWords<'a> {
+    /// What the loads are measured in. The fault is that of the first load in cores, where there are
+    /// others too.
+    fn measure(&self) -> Result<Measure, LoadFault<'a>> {
+        if self.offered.is_empty() {
+            return Ok(Measure::Limit);
+        }
+        if self.loads.is_empty() {
+            return Ok(Measure::Cores);
+        }
+        let word = word_at(self.offered.as_slice(), 0);
+        Err(refused(OFFERED, word, Why::LoadToo))
+    }
+
+    /// The loads in this measure.
+    pub fn loads_in(&self, measure: Measure) -> &[&'a str] {
+        match measure {
+            Measure::Limit => self.loads.as_slice(),
+            Measure::Cores => self.offered.as_slice(),
+        }
+    }
+}
+
 /// What words ask of the task that is named at this place.
 fn asked_task<'a>(
     alloc: Global,
     words: &LoadWords<'a>,
+    measure: Measure,
     place: usize,
 ) -> Result<AskedTask<'a>, LoadFault<'a>> {
     let tasks = words.tasks.len();
     let task = task_at(words, place)?;
-    let word = word_for(FLAG, words.loads.as_slice(), tasks, place)?;
+    let word = word_for(flag_of(measure), words.loads_in(measure), tasks, place)?;
     let service = word_for("--service", words.services.as_slice(), tasks, place)?;
     let pattern = word_for("--pattern", words.patterns.as_slice(), tasks, place)?;
-    let loads = loads_of(alloc, word)?;
+    let misses = word_for(MISSES, words.misses.as_slice(), tasks, place)?;
+    let loads = loads_of(alloc, measure, word)?;
     let load = loads.as_slice().get(0).copied().unwrap_or(0);
     let of_task = TaskLoad {
         task,
+        measure,
         load,
         service: service_of(alloc, service)?,
         pattern: pattern_of(pattern)?,
+        misses: misses_of(misses)?,
     };
     Ok(AskedTask {
         of_task,
@@ -137,7 +193,7 @@ impl<'a> SteppedLoads<'a> {
             return Err(refused(TASK, task, Why::Twice));
         }
         if loads.len() > 1 && self.loads.len() > 1 {
-            return Err(refused(FLAG, word, Why::Several));
+            return Err(refused(flag_of(self.measure), word, Why::Several));
         }
         if loads.len() > 1 || self.tasks.is_empty() {
             self.place = self.tasks.len();
@@ -155,14 +211,16 @@ pub fn stepped_loads<'a>(
     alloc: Global,
     words: &LoadWords<'a>,
 ) -> Result<SteppedLoads<'a>, LoadFault<'a>> {
+    let measure = words.measure()?;
     let mut stepped = SteppedLoads {
         tasks: Vec::new(alloc),
         place: 0,
+        measure,
         loads: Vec::new(alloc),
         word: "",
     };
     for place in 0..words.tasks.len() {
-        let asked = asked_task(alloc, words, place)?;
+        let asked = asked_task(alloc, words, measure, place)?;
         stepped.take(asked, word_at(words.tasks.as_slice(), place))?;
     }
     Ok(stepped)
@@ -176,7 +234,7 @@ pub fn asked_loads<'a>(
 ) -> Result<Vec<TaskLoad>, LoadFault<'a>> {
     let stepped = stepped_loads(alloc, words)?;
     if stepped.loads.len() > 1 {
-        return Err(refused(FLAG, stepped.word, Why::Several));
+        return Err(refused(flag_of(stepped.measure), stepped.word, Why::Several));
     }
     Ok(stepped.tasks)
 }

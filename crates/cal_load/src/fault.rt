@@ -2,6 +2,7 @@
 
 ghost use Rattle.std.specs.Prelude.{◌≡◌};
 
+use cal_trace::MOST_REQUEST_MISSES;
 use std::alloc::{AllocError, AllocFailed};
 use std::fmt;
 
@@ -10,6 +11,13 @@ use std::fmt;
 pub enum Why<'a> {
     /// It is no load: a number above 0 and at most 10, with up to three digits after the point.
     NotALoad,
+    /// It is no load in cores: a number above 0 and at most this, with up to three digits after the
+    /// point.
+    NotCores(u8),
+    /// A load of a limit is given too.
+    LoadToo,
+    /// It is more than so many threads can do.
+    TooFewThreads(u64),
     /// Several loads do not rise, or `..` does not stand between two loads and a last one.
     NotRising,
     /// It is no list of turns with their shares.
@@ -18,6 +26,8 @@ pub enum Why<'a> {
     NotAHundred(u64),
     /// It is no way in which requests come.
     NotAPattern,
+    /// It is no number of a request's misses.
+    NotMisses,
     /// It is no task of the table, which has so many.
     NotATask(u64),
     /// It is neither a number nor one of these names, with commas between; of no names a number.
@@ -46,6 +56,8 @@ pub enum Why<'a> {
     NotAVariation,
     /// The key is varied before.
     VariedTwice,
+    /// With this key there would be more tables than so many.
+    TooManyTables(u64),
     /// It is no turn of a run, or its end: a number of at most so many turns.
     NotATurn(u64),
     /// There are no turns from this one up to that.
@@ -62,6 +74,18 @@ impl<'a> fmt::Display for Why<'a> {
                 "a load is a number above 0 and at most 10, with up to three digits after the \
 point",
             ),
+            Why::NotCores(most) => write!(
+                f,
+                "cores are a number above 0 and at most {most}, with up to three digits after the \
+point"
+            ),
+            Why::LoadToo => f.write_str("--load is given too, and one of the two is asked for"),
+            Why::TooFewThreads(threads) => {
+                write!(
+                    f,
+                    "a task may get as many cores as it has threads, here {threads}"
+                )
+            }
             Why::NotRising => f.write_str(
                 "several loads rise, and .. stands between two and the last",
             ),
@@ -75,6 +99,10 @@ shares, as 90%:1,10%:20",
             }
             Why::NotAPattern => f.write_str(
                 "requests come poisson, even or in bursts:N, N from 2 to 10000",
+            ),
+            Why::NotMisses => write!(
+                f,
+                "a request's misses are a number up to {MOST_REQUEST_MISSES}"
             ),
             Why::NotATask(tasks) => write!(f, "the table has {tasks} tasks, numbered from 0"),
             Why::NotNamed(Some(names)) => write!(f, "the tasks are called {names}"),
@@ -105,6 +133,7 @@ us, ms or s, as 10us",
                 "a key is varied as task.0.delay=10,20: the key, =, and its values",
             ),
             Why::VariedTwice => f.write_str("this key is varied already"),
+            Why::TooManyTables(most) => write!(f, "the keys make more than {most} tables"),
             Why::NotATurn(turns) => write!(f, "a turn is a number up to {turns}, the run's end"),
             Why::NoTurns(first, after) => write!(f, "no turns are from {first} up to {after}"),
             Why::NotSeeds(most) => write!(f, "a number of seeds is from 1 to {most}"),

@@ -2,15 +2,17 @@
 //! take, how they come, and a seed; or of the requests of a log. The same words give the same bytes.
 //!
 //! That what is made are arrivals that fit the table, with as many requests as are counted, is
-//! proved; of a log also which requests come, and before which turns. Which come by a load, and
-//! when, is only tested, and so is what a log's text says.
+//! proved, and to which thread and before which turn each comes of those that were drawn by a load or
+//! that a log has. Which are drawn by a load is only tested, and so is what a log's text says.
 #![tactic(auto)]
 
 mod asked;
 mod clocks;
 mod comings;
 mod decimal;
+mod drawing;
 mod fault;
+mod limits;
 mod loads;
 mod log;
 mod made;
@@ -25,12 +27,16 @@ pub use asked::{
 pub use clocks::{MOST_TICKS, Timing};
 pub use comings::turn_of;
 pub use decimal::number_of;
+pub use drawing::{DrawnLoad, DrawnRequest};
 pub use fault::{LoadFault, Why, WordFault, refused};
-pub use loads::{MOST_LOAD, loads_of};
+pub use limits::are_held;
+pub use loads::{MOST_LOAD, MOST_OFFERED, Measure, loads_of};
 pub use log::{
     LogFault, LogRow, LogScale, LogTerms, LogWhy, RowFault, UNITS, logged_arrivals, read_log,
     scale_of, turns_for,
 };
-pub use made::{ArrivalPlan, Count, MOST_REQUESTS, Made, made_arrivals};
+pub use made::{
+    ArrivalPlan, Count, MOST_REQUESTS, Made, dealt_arrivals, drawn_loads, made_arrivals,
+};
 pub use making::{Pattern, TaskLoad, pattern_of};
 pub use service::{ServicePart, service_of};

@@ -1,18 +1,15 @@
 //! The requests that come to the threads of a task.
 
-ghost use Rattle.std.specs.Prelude.{◌≡◌, ◌<◌, ◌+◌, codes, length, IfErr, IfOk, IfSome, OnOk};
-ghost use Rattle.cal_load.specs.Comings.{IsComing, IsComingTo, IsQueue, taken_in};
+ghost use Rattle.std.specs.Prelude.{◌≡◌, ◌<◌, ◌+◌, codes, length, IfErr, IfOk, OnOk};
+ghost use Rattle.cal_load.specs.Comings.{IsComing, IsQueue, taken_in};
 ghost use Rattle.cal_load.specs.Giving.{IsGiving, IsNothing, IsTaken};
 ghost use Rattle.cal_load.specs.Refused.{IsRefusedFor};
 ghost use Rattle.cal_load.specs.Services.{IsWork};
 
 use crate::decimal::number_of;
 use crate::fault::{LoadFault, Why, refused};
-use crate::made::MOST_REQUESTS;
-use crate::service::{ServicePart, next_turns, turns_by_share};
-use crate::variate::{ONE, exponential};
-use rand::RngExt;
-use rand_core::Rng;
+use crate::loads::Measure;
+use crate::service::ServicePart;
 use std::alloc::{AllocError, Global};
 
 /// How requests come.
@@ -55,11 +52,14 @@ pub fn pattern_of<'a>(word: &'a str) -> Result<Pattern, LoadFault<'a>>
 pub struct TaskLoad {
     /// The number of the task.
     pub task: usize,
-    /// The work that is asked for, in thousandths of what the task's threads can do: of the turns
-    /// times the task's limit.
+    /// What the load is measured in.
+    pub measure: Measure,
+    /// The work that is asked for, in thousandths of that.
     pub load: u64,
     /// What requests take.
     pub service: Vec<ServicePart>,
+    /// The misses that each turn of a request's work adds.
+    pub misses: u32,
     /// How they come.
     pub pattern: Pattern,
 }
@@ -156,38 +156,6 @@ impl Coming {
         })
     }
 
-    /// Gives the requests of a load that come at once to a turn, each to a thread by chance.
-    fn give_all<R: Rng>(
-        &mut self,
-        rng: &mut R,
-        load: &TaskLoad,
-        turn: u64,
-    ) -> Result<(), AllocError>
-        requires { IsComing self.old }
-        ensures is { OnOk result (IsComing self.new) }
-        ensures threads { length self.new.queues.items ≡ length self.old.queues.items }
-        ensures turns { self.new.turns ≡ self.old.turns }
-    {
-        let threads = self.queues.len();
-        if threads == 0 {
-            return Ok(());
-        }
-        for _k in 0..load.at_once() {
-            let work = next_turns(rng, load.service.as_slice());
-            let thread = rng.random_range(0..threads as u64) as usize;
-            let came_to = turn;
-            self.give(
-                thread,
-                Slot {
-                    turn,
-                    work,
-                    came_to,
-                },
-            )?;
-        }
-        Ok(())
-    }
-
     /// Gives a request that came to a turn to a thread: before that turn or the first after it that
     /// is free.
     pub(crate) fn give(&mut self, thread: usize, slot: Slot) -> Result<(), AllocError>
@@ -214,76 +182,5 @@ impl Coming {
             }
         }
         Ok(())
-    }
-}
-
-/// The time between two arrivals of a task.
-#[derive(Clone, Copy)]
-struct Gap {
-    /// The mean is this part of a turn: so much of so much.
-    part: u64,
-    whole: u64,
-    pattern: Pattern,
-}
-
-impl Gap {
-    /// That of a load on so many threads.
-    fn of(load: &TaskLoad, threads: usize) -> Gap {
-        let part = turns_by_share(load.service.as_slice());
-        let whole = load.load.saturating_mul(threads as u64).saturating_mul(100);
-        Gap {
-            part: part.saturating_mul(load.at_once()),
-            whole,
-            pattern: load.pattern,
-        }
-    }
-
-    /// The next one, in 2^-32 of a turn.
-    fn next<R: Rng>(&self, rng: &mut R) -> u128 {
-        let time = match self.pattern {
-            Pattern::Even => ONE,
-            Pattern::Poisson | Pattern::Bursts(_) => exponential(rng),
-        };
-        let far = u128::from(time).saturating_mul(u128::from(self.part));
-        far.checked_div(u128::from(self.whole)).unwrap_or(0)
-    }
-}
-
-impl TaskLoad {
-    /// How many requests come at once.
-    fn at_once(&self) -> u64 {
-        match self.pattern {
-            Pattern::Poisson | Pattern::Even => 1,
-            Pattern::Bursts(number) => number,
-        }
-    }
-
-    /// What comes to so many threads of the task in so many turns; nothing where it is more than
-    /// `MOST_REQUESTS`. The same generator gives the same. Fails only when out of memory.
-    pub fn come<R: Rng>(
-        &self,
-        alloc: Global,
-        rng: &mut R,
-        threads: usize,
-        turns: u64,
-    ) -> Result<Option<Coming>, AllocError>
-        ensures { IfOk result (λ answer. IfSome answer (IsComingTo threads turns)) }
-    {
-        let mut coming = Coming::new(alloc, threads, turns)?;
-        let gap = Gap::of(self, threads);
-        let mut time = 0u128;
-        // One more than the most that come, one at a time: the last one finds the end.
-        for _k in 0..=MOST_REQUESTS {
-            if coming.came > MOST_REQUESTS {
-                return Ok(None);
-            }
-            time = time.saturating_add(gap.next(rng));
-            let turn = (time >> 32).min(u128::from(turns)) as u64;
-            if turn >= turns {
-                return Ok(Some(coming));
-            }
-            coming.give_all(rng, self, turn)?;
-        }
-        Ok(None)
     }
 }

@@ -12,14 +12,15 @@ use cal_machine::Request;
 use cal_trace::Arrival;
 use std::alloc::AllocError;
 
-/// The request of a slot, for this thread and with this id.
-fn arrival_of(thread: u8, slot: Slot, id: u64) -> Arrival
-    // A caller's proof learns here that the id is of 64 bits.
+/// The request of a slot, for this thread, with this id and these misses.
+fn arrival_of(thread: u8, slot: Slot, id: u64, misses: u32) -> Arrival
+    // A caller's proof learns here that the id is of 64 bits, and the misses of 32.
     ensures word { id < 2 ^ 64 }
+    ensures few { misses < 2 ^ 32 }
     ensures is { result ≡ record {
       thread = thread;
       turn = slot.turn;
-      request = record { id = id; work = slot.work; misses = 0 };
+      request = record { id = id; work = slot.work; misses = misses };
     } }
 {
     Arrival {
@@ -28,17 +29,22 @@ fn arrival_of(thread: u8, slot: Slot, id: u64) -> Arrival
         request: Request {
             id,
             work: slot.work,
-            misses: 0,
+            misses: u64::from(misses),
         },
     }
 }
 
-/// Puts what comes to a thread.
-fn put_queue(requests: &mut Vec<Arrival>, thread: u8, queue: &Queue) -> Result<(), AllocError>
+/// Puts what comes to a thread, each request with these misses.
+fn put_queue(
+    requests: &mut Vec<Arrival>,
+    thread: u8,
+    queue: &Queue,
+    misses: u32,
+) -> Result<(), AllocError>
     ensures put { (threads turns : ℕ) → AreBuilt threads turns thread requests.old.items →
         thread < threads → IsQueue turns queue.now →
         OnOk result (AreBuilt threads turns (thread + 1) requests.new.items) }
-    ensures own { OnOk result (HasMoreFor thread (thread + 1) requests.old.items
+    ensures own { OnOk result (HasMoreFor thread (thread + 1) misses requests.old.items
         requests.new.items) }
     ensures many { OnOk result (length requests.new.items ≡
         length requests.old.items + length queue.now.slots.items) }
@@ -48,7 +54,7 @@ fn put_queue(requests: &mut Vec<Arrival>, thread: u8, queue: &Queue) -> Result<(
     let slots = queue.slots.as_slice();
     for place in 0..slots.len() {
         let id = requests.len() as u64 + 1;
-        requests.push(arrival_of(thread, slots[place], id))?;
+        requests.push(arrival_of(thread, slots[place], id, misses))?;
     }
     Ok(())
 }
@@ -69,18 +75,19 @@ pub fn put_turns(came_to: &mut Vec<u64>, queues: &[Queue]) -> Result<(), AllocEr
     Ok(())
 }
 
-/// Puts what comes to some threads, of which this is the first.
+/// Puts what comes to some threads, of which this is the first, each request with these misses.
 pub fn put_queues(
     requests: &mut Vec<Arrival>,
     first: usize,
     queues: &[Queue],
+    misses: u32,
 ) -> Result<(), AllocError>
     requires { first + length queues.now ≤ 256 }
     ensures put { (threads turns : ℕ) → AreBuilt threads turns first requests.old.items →
         first + length queues.now ≤ threads → All (IsQueue turns) queues.now →
         OnOk result (AreBuilt threads turns (first + length queues.now) requests.new.items) }
-    ensures own { OnOk result (HasMoreFor first (first + length queues.now) requests.old.items
-        requests.new.items) }
+    ensures own { OnOk result (HasMoreFor first (first + length queues.now) misses
+        requests.old.items requests.new.items) }
     ensures many { OnOk result (length requests.new.items ≡
         length requests.old.items + slots_in queues.now) }
     ensures told { (place : ℕ) (queue : Queue) → slice_get queues.now place ≡ Some queue →
@@ -90,7 +97,7 @@ pub fn put_queues(
         OnOk result (all_on k requests.new.items ≡ all_on k requests.old.items) }
 {
     for place in 0..queues.len() {
-        put_queue(requests, (first + place) as u8, &queues[place])?;
+        put_queue(requests, (first + place) as u8, &queues[place], misses)?;
     }
     Ok(())
 }

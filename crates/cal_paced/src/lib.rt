@@ -23,5 +23,5 @@ mod shares;
 pub use fault::PaceFault;
 pub use pacing::paced_arrivals;
 pub use plan::{Figure, Plan, WHOLE};
-pub use planned::planned_arrivals;
+pub use planned::{have_misses, planned_arrivals};
 pub use run::{paced_collected_by, paced_end_by};

@@ -37,7 +37,7 @@ pub fn planned_arrivals(
 }
 
 /// Whether some request has misses.
-fn have_misses(requests: &[Arrival]) -> bool
+pub fn have_misses(requests: &[Arrival]) -> bool
     ensures { result ≡ have_misses requests.now }
 {
     for arrival in requests {

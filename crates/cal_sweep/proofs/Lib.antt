@@ -1,2 +1,4 @@
 mod Answered
 mod OneMore
+pub mod TablesOf
+pub mod OtherKeys

@@ -4,4 +4,5 @@ pub mod Objectives
 pub mod SeedRows
 pub mod Shares
 pub mod Sweeps
+pub mod Varying
 pub mod Words

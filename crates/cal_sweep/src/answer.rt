@@ -4,9 +4,10 @@ ghost use Rattle.std.specs.Prelude.{◌≡◌, ◌≢◌, ◌⊎◌, IfErr, IfOk
 ghost use Rattle.cal_machine.specs.Reading.{table_in};
 ghost use Rattle.cal_sweep.specs.Faults.{IsFirstFault, SweepDecided};
 ghost use Rattle.cal_sweep.specs.Objectives.{status_of_sweeps};
-ghost use Rattle.cal_sweep.specs.Sweeps.{IsSweep, of_memory, of_writer, varying_of};
+ghost use Rattle.cal_sweep.specs.Sweeps.{IsSweep, of_memory, of_writer};
 ghost use Rattle.cal_tables.specs.Compared.{AreEachOf};
 ghost use Rattle.cal_tables.specs.Joining.{table_part};
+ghost use Rattle.cal_tables.specs.Settings.{varyings_of};
 
 use crate::fault::SweepFault;
 use crate::job::SweepJob;
@@ -14,6 +15,7 @@ use crate::misses::say_misses;
 use crate::runs::{Sweep, swept_by_each};
 use crate::table::{ShownSweep, shown_tasks};
 use crate::verdict::status_of_sweeps;
+use crate::watch::Watch;
 use cal_input::RunFault;
 use cal_tables::ComparisonFault;
 use std::alloc::AllocError;
@@ -28,6 +30,7 @@ fn text_of(job: &SweepJob<'_>, sweeps: &[Sweep]) -> Result<String, AllocError> {
         sweeps,
         seeds: asked.seeds.max(1) as usize,
         swept: asked.task(),
+        measure: asked.measure,
         tasks: tasks.as_slice(),
         names: job.names,
         form,
@@ -43,9 +46,8 @@ fn text_of(job: &SweepJob<'_>, sweeps: &[Sweep]) -> Result<String, AllocError> {
 
 /// Writes a line for each miss of these sweeps, with its numbers.
 fn say_misses_of_each<E: Write>(job: &SweepJob<'_>, sweeps: &[Sweep], errors: &mut E) {
-    let objectives = job.asked.objectives.as_slice();
     for policy in 0..sweeps.len() {
-        say_misses(&sweeps[policy], policy, objectives, job.names, errors);
+        say_misses(&sweeps[policy], policy, job.asked, job.names, errors);
     }
 }
 
@@ -93,12 +95,13 @@ pub struct EndedSweeps {
 /// and the text is in memory.
 pub fn answer_sweep<'a, W: Write, E: Write>(
     rt: &(impl Threads + Sync),
+    watch: &(impl Watch + Sync),
     job: &SweepJob<'a>,
     output: &mut W,
     errors: &mut E,
 ) -> Result<EndedSweeps, SweepFault<'a>>
     ensures made { IfOk result (λ ended. AreEachOf (λ policy sweep. IsSweep job.now.input.now
-        (varying_of job.now.names.variation) policy job.now.asked.now
+        (varyings_of job.now.names.variations.now) policy job.now.asked.now
         sweep.tables.items sweep.loads.items) job.now.names.policies.now ended.sweeps.items) }
     // The status is that of the runs of these very sweeps.
     ensures status { IfOk result (λ ended. ended.status ≡
@@ -111,7 +114,10 @@ pub fn answer_sweep<'a, W: Write, E: Write>(
     ensures untouched { IfErr result (λ fault.
         fault ≢ SweepFault.Run of_writer → output.new ≡ output.old) }
 {
-    let sweeps = swept_by_each(rt, job)?;
+    let swept = swept_by_each(rt, watch, job);
+    // What shows how far it is goes before anything is said.
+    watch.ended();
+    let sweeps = swept?;
     let status = end_sweeps(job, sweeps.as_slice(), output, errors)?;
     Ok(EndedSweeps { sweeps, status })
 }

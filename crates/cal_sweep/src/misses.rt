@@ -4,7 +4,8 @@ use crate::naming::SweepNames;
 use crate::objective::{Objective, Standing, is_kept, rank_word, response_at};
 use crate::runs::{Sweep, SweptRun};
 use crate::verdict::{AtLoad, standing_of};
-use cal_load::Count;
+use crate::words::Asked;
+use cal_load::{Count, Measure};
 use cal_measure::Time;
 use cal_tables::Labels;
 use std::io::Write;
@@ -12,17 +13,17 @@ use std::io::Write;
 /// Writes a line for each objective, and of each for each table whose runs of the last load of a
 /// sweep do not keep it: the objective, the load, with how many of the seeds it stands so where there
 /// are several, what stands at the rank in the first of these runs, and up to which load the
-/// objective was kept. Before it stand the value that makes the table and the policy, at this place,
+/// objective was kept. Before it stand the values that make the table and the policy, at this place,
 /// where there are several.
 pub fn say_misses<E: Write>(
     sweep: &Sweep,
     policy: usize,
-    objectives: &[Objective<'_>],
+    asked: &Asked<'_>,
     names: SweepNames<'_>,
     errors: &mut E,
 ) {
-    for objective in objectives {
-        say_misses_of(sweep, policy, objective, names, errors);
+    for objective in asked.objectives.as_slice() {
+        say_misses_of(sweep, policy, objective, asked.measure, names, errors);
     }
 }
 
@@ -31,6 +32,7 @@ fn say_misses_of<'x, E: Write>(
     sweep: &'x Sweep,
     policy: usize,
     objective: &'x Objective<'x>,
+    measure: Measure,
     names: SweepNames<'_>,
     errors: &mut E,
 ) {
@@ -47,18 +49,22 @@ fn say_misses_of<'x, E: Write>(
         };
         if let Some(miss) = miss_at(at) {
             say_name(names, table, policy, errors);
-            say_standing(miss, errors);
+            say_standing(miss, measure, errors);
             say_time(miss, names.labels, errors);
-            say_kept(kept_up_to(at), errors);
+            say_kept(kept_up_to(at), measure, errors);
         }
     }
 }
 
-/// Writes the name of the program, the value that makes the table, and the policy.
+/// Writes the name of the program, the values that make the table, and the policy.
 fn say_name<E: Write>(names: SweepNames<'_>, table: usize, policy: usize, errors: &mut E) {
     let _ = write!(errors, "caladan_view: ");
-    if let (Some(variation), Some(value)) = (names.variation, names.value(table)) {
-        let _ = write!(errors, "{}={value}: ", variation.key);
+    let many = names.variations.len();
+    for place in 0..many {
+        let key = names.variations[place].shown.as_str();
+        let value = names.value(table, place).unwrap_or("");
+        let end = if place < many - 1 { "" } else { ":" };
+        let _ = write!(errors, "{key}={value}{end} ");
     }
     if let Some(policy) = names.policy(policy) {
         let _ = write!(errors, "{policy}: ");
@@ -110,7 +116,7 @@ fn miss_at<'a>(at: AtLoad<'a>) -> Option<Miss<'a>> {
 
 /// Writes the objective, that it is missed or undecided, and the load; of several seeds with how
 /// many of them, and the first of these.
-fn say_standing<E: Write>(miss: Miss<'_>, errors: &mut E) {
+fn say_standing<E: Write>(miss: Miss<'_>, measure: Measure, errors: &mut E) {
     let AtLoad {
         objective,
         load,
@@ -120,9 +126,8 @@ fn say_standing<E: Write>(miss: Miss<'_>, errors: &mut E) {
         Standing::Undecided => "undecided",
         Standing::Missed | Standing::Kept => "missed",
     };
-    let (ones, rest) = (load / 1000, load % 1000);
-    let word = objective.word;
-    let _ = write!(errors, "{word} is {standing} at load {ones}.{rest:03}");
+    let _ = write!(errors, "{} is {standing} at ", objective.word);
+    say_load(load, measure, errors);
     let (times, seeds, seed) = (miss.times, miss.seeds, miss.seed);
     let _ = if seeds > 1 {
         write!(errors, " with {times} of {seeds} seeds: with seed {seed} ")
@@ -166,15 +171,24 @@ fn left_from(counts: &[Count]) -> u64 {
     first.unwrap_or(0)
 }
 
-/// Writes up to which load the objective was kept, and ends the line.
-fn say_kept<E: Write>(kept: Option<u64>, errors: &mut E) {
-    let _ = match kept {
-        None => writeln!(errors, "; kept at no load"),
-        Some(load) => {
-            let (ones, rest) = (load / 1000, load % 1000);
-            writeln!(errors, "; kept up to load {ones}.{rest:03}")
-        }
+/// Writes a load.
+fn say_load<E: Write>(load: u64, measure: Measure, errors: &mut E) {
+    let (ones, rest) = (load / 1000, load % 1000);
+    let _ = match measure {
+        Measure::Limit => write!(errors, "load {ones}.{rest:03}"),
+        Measure::Cores => write!(errors, "{ones}.{rest:03} cores"),
     };
+}
+
+/// Writes up to which load the objective was kept, and ends the line.
+fn say_kept<E: Write>(kept: Option<u64>, measure: Measure, errors: &mut E) {
+    let Some(load) = kept else {
+        let _ = writeln!(errors, "; kept at no load");
+        return;
+    };
+    let _ = write!(errors, "; kept up to ");
+    say_load(load, measure, errors);
+    let _ = writeln!(errors);
 }
 
 /// The last load up to which the runs of a table keep the objective with all seeds.

@@ -6,14 +6,14 @@ ghost use Rattle.cal_sweep.specs.Faults.{AreCounted};
 use crate::fault::SweepFault;
 use cal_machine::Config;
 use cal_policy::Policy;
-use cal_tables::{Labels, Variation};
+use cal_tables::{Labels, Variation, value_in};
 
 /// What the tables, the policies, the tasks and the clock ticks of a sweep are called.
 #[derive(Clone, Copy)]
 pub struct SweepNames<'a> {
-    /// The key and the values that make the tables, of which each is called by its own; none where
+    /// The keys and the values that make the tables, of which each is called by its own; none where
     /// there is the input's table alone.
-    pub variation: Option<Variation<'a>>,
+    pub variations: &'a [Variation],
     /// The policies by each of which there is a sweep.
     pub policies: &'a [Policy],
     /// What tasks and clock ticks are called.
@@ -21,10 +21,10 @@ pub struct SweepNames<'a> {
 }
 
 impl<'a> SweepNames<'a> {
-    /// The value that made the table at a place.
-    pub fn value(self, table: usize) -> Option<&'a str> {
-        let variation = self.variation?;
-        variation.values.get(table).copied()
+    /// The value of the key at a place in the setting that makes a table.
+    pub fn value(self, table: usize, place: usize) -> Option<&'a str> {
+        let variation = self.variations.get(place)?;
+        value_in(self.variations, table, variation.key.as_str())
     }
 
     /// The name of the policy at a place, where there are several.

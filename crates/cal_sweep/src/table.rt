@@ -9,7 +9,7 @@ use crate::seed_rows::{SEED_ROWS, SeedRow, of_seeds, seed_row_name};
 use crate::shares::best_effort_share;
 use crate::verdict::keeps_all;
 use crate::words::Asked;
-use cal_load::Count;
+use cal_load::{Count, Measure};
 use cal_machine::Config;
 use cal_tables::{
     CoreLine, Figure, Line, NumberForm, Rank, Sheet, Unit, core_figure, number, request_figure,
@@ -167,6 +167,8 @@ pub struct ShownSweep<'a> {
     pub seeds: usize,
     /// The number of the task that is swept.
     pub swept: usize,
+    /// What the loads are measured in.
+    pub measure: Measure,
     /// The numbers of the tasks that have rows.
     pub tasks: &'a [usize],
     pub names: SweepNames<'a>,
@@ -186,33 +188,41 @@ impl<'a> ShownSweep<'a> {
 
     /// What stands over the loads: of which task they are, where it has a name.
     fn load_heading(self, alloc: Global) -> Result<String, AllocError> {
-        match self.names.labels.name(self.swept) {
-            Some(name) => format!(in alloc; "load of {name}"),
-            None => String::from_str(alloc, "load"),
+        match (self.measure, self.names.labels.name(self.swept)) {
+            (Measure::Limit, Some(name)) => format!(in alloc; "load of {name}"),
+            (Measure::Limit, None) => String::from_str(alloc, "load"),
+            (Measure::Cores, Some(name)) => format!(in alloc; "offered to {name}"),
+            (Measure::Cores, None) => String::from_str(alloc, "offered"),
         }
     }
 
-    /// What stands over the names of the runs of a load, where these have names: the key that is
-    /// varied, `policy` where there are several, or both.
-    fn run_heading(self, alloc: Global) -> Result<Option<String>, AllocError> {
-        let key = match self.names.variation {
-            Some(variation) => Some(variation.key),
-            None => None,
-        };
+    /// Puts what stands over the names of the runs of a load, where these have names: each key that
+    /// is varied, and `policy` where there are several. One key alone stands in one cell with it.
+    fn put_run_headings(self, alloc: Global, row: &mut Vec<String>) -> Result<(), AllocError> {
         let policy = match self.names.policy(0) {
             Some(_) => Some("policy"),
             None => None,
         };
-        joined(alloc, key, policy)
+        let alone = match self.names.variations {
+            [only] => Some(only.shown.as_str()),
+            several => {
+                for variation in several {
+                    row.push(String::from_str(alloc, variation.shown.as_str())?)?;
+                }
+                None
+            }
+        };
+        if let Some(name) = joined(alloc, alone, policy)? {
+            row.push(name)?;
+        }
+        Ok(())
     }
 
     /// The first row: what each column is.
     fn heading(self, alloc: Global) -> Result<Vec<String>, AllocError> {
         let mut row = Vec::new(alloc);
         row.push(self.load_heading(alloc)?)?;
-        if let Some(name) = self.run_heading(alloc)? {
-            row.push(name)?;
-        }
+        self.put_run_headings(alloc, &mut row)?;
         if self.tasks.len() > 1 {
             row.push(String::from_str(alloc, "task")?)?;
         }
@@ -242,14 +252,28 @@ impl<'a> ShownSweep<'a> {
         }
     }
 
-    /// What the runs of a table by a policy are called, where they have a name.
-    fn name_of(
+    /// Puts what the runs of a table by a policy are called, below the headings of these names.
+    fn put_run_names(
         self,
         alloc: Global,
         table: usize,
         policy: usize,
-    ) -> Result<Option<String>, AllocError> {
-        joined(alloc, self.names.value(table), self.names.policy(policy))
+        row: &mut Vec<String>,
+    ) -> Result<(), AllocError> {
+        let keys = self.names.variations.len();
+        let alone = if keys == 1 {
+            self.names.value(table, 0)
+        } else {
+            for place in 0..keys {
+                let value = self.names.value(table, place).unwrap_or("");
+                row.push(String::from_str(alloc, value)?)?;
+            }
+            None
+        };
+        if let Some(name) = joined(alloc, alone, self.names.policy(policy))? {
+            row.push(name)?;
+        }
+        Ok(())
     }
 
     /// What a task is called.
@@ -265,9 +289,7 @@ impl<'a> ShownSweep<'a> {
     fn row(self, alloc: Global, at: RunsAt, which: SeedRow) -> Result<Vec<String>, AllocError> {
         let mut row = Vec::new(alloc);
         row.push(number(alloc, at.load, Unit::Thousandth)?)?;
-        if let Some(name) = self.name_of(alloc, at.table, at.policy)? {
-            row.push(name)?;
-        }
+        self.put_run_names(alloc, at.table, at.policy, &mut row)?;
         if self.tasks.len() > 1 {
             row.push(self.task_name(alloc, at.task)?)?;
         }
@@ -398,9 +420,7 @@ impl<'a> ShownSweep<'a> {
     ) -> Result<Vec<String>, AllocError> {
         let mut row = Vec::new(alloc);
         row.push(number(alloc, load, Unit::Thousandth)?)?;
-        if let Some(name) = self.name_of(alloc, choice.table, choice.policy)? {
-            row.push(name)?;
-        }
+        self.put_run_names(alloc, choice.table, choice.policy, &mut row)?;
         let unit = unit_of(Column::BestEffort);
         NumberForm::Columns.put_figure(alloc, &mut row, choice.left, unit)?;
         Ok(row)
@@ -433,9 +453,7 @@ impl<'a> ShownSweep<'a> {
     ) -> Result<Sheet, AllocError> {
         let mut heading = Vec::new(alloc);
         heading.push(self.load_heading(alloc)?)?;
-        if let Some(name) = self.run_heading(alloc)? {
-            heading.push(name)?;
-        }
+        self.put_run_headings(alloc, &mut heading)?;
         heading.push(String::from_str(alloc, name_of(Column::BestEffort))?)?;
         let mut sheet = Sheet::new(alloc);
         sheet.put(heading)?;

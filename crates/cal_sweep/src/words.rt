@@ -2,13 +2,16 @@
 
 ghost use Rattle.std.specs.Prelude.{◌≡◌, ◌<◌, ◌≤◌, ◌+◌, ◌^◌, IfOk, IsTrue, None, Ok, length};
 ghost use Rattle.cal_sweep.specs.Words.{AreLoadedWith, AreObjectives, IsAsked, first_tenth};
-ghost use Rattle.cal_sweep.specs.Words.{has_load, last_tenth, swept_task};
+ghost use Rattle.cal_sweep.specs.Words.{greatest_of, has_load, last_tenth, swept_task};
 
 use crate::fault::SweepFault;
 use crate::objective::{FLAG, Objective, objective_of};
-use cal_load::{LoadFault, LoadWords, TaskLoad, Timing, Why, number_of, refused, stepped_loads};
+use crate::varying::variations_of;
+use cal_load::{
+    LoadFault, LoadWords, Measure, TaskLoad, Timing, Why, number_of, refused, stepped_loads,
+};
 use cal_paced::Plan;
-use cal_tables::NumberForm;
+use cal_tables::{NumberForm, Variation};
 use std::alloc::{AllocError, Global};
 
 /// With how many seeds a load may run.
@@ -19,8 +22,8 @@ pub const MOST_SEEDS: u64 = 1000;
 pub struct SweepWords<'a> {
     /// What comes to tasks. One of them may have several loads.
     pub load: LoadWords<'a>,
-    /// A key of the table and its values, as `KEY=V1,V2`.
-    pub vary: Option<&'a str>,
+    /// Keys of the table, each with its values, as `KEY=V1,V2`.
+    pub vary: Vec<&'a str>,
     /// The objectives.
     pub slo: Vec<&'a str>,
     /// The first turn of the window: requests that come in it are ranked.
@@ -50,8 +53,14 @@ pub struct Asked<'a> {
     pub tasks: Vec<TaskLoad>,
     /// Which of these tasks is swept.
     pub place: usize,
+    /// What the loads are measured in.
+    pub measure: Measure,
+    /// The words of the loads in cores.
+    pub offered: Vec<&'a str>,
     /// How long each run is.
     pub timing: Timing,
+    /// The keys of the table that are varied, in the order of their words.
+    pub variations: Vec<Variation>,
     /// The first turn of the window: requests that come in it are ranked.
     pub first: u64,
     /// The first turn after the window.
@@ -107,14 +116,6 @@ fn asked_objectives<'a>(
         objectives.push(objective)?;
     }
     Ok(objectives)
-}
-
-/// Whether the values of a key are such; no word says nothing of them.
-fn are_values<'a>(vary: Option<&'a str>) -> Result<(), LoadFault<'a>> {
-    match vary {
-        Some(word) if !word.contains('=') => Err(refused("--vary", word, Why::NotAVariation)),
-        _ => Ok(()),
-    }
 }
 
 /// The turn of a word, of so many and their end, or without a word this one.
@@ -179,7 +180,7 @@ fn asked_seeds<'a>(word: Option<&'a str>, first: u64) -> Result<u64, LoadFault<'
 }
 
 /// What words ask for, where they need no table: loads, of one task at most several; objectives of
-/// tasks to which requests come; a key with values; a window; seeds. The fault is that of the
+/// tasks to which requests come; keys with values; a window; seeds. The fault is that of the
 /// first word.
 pub fn asked_of<'a>(alloc: Global, words: &SweepWords<'a>) -> Result<Asked<'a>, SweepFault<'a>>
     ensures { IfOk result (IsAsked words.now) }
@@ -188,7 +189,7 @@ pub fn asked_of<'a>(alloc: Global, words: &SweepWords<'a>) -> Result<Asked<'a>, 
     let slo = words.slo.as_slice();
     let names = words.load.names;
     let objectives = asked_objectives(alloc, slo, names, stepped.tasks.as_slice())?;
-    are_values(words.vary)?;
+    let variations = variations_of(alloc, words.vary.as_slice(), names)?;
     let (first, after) = asked_turns(words.from, words.to, words.load.timing.turns)?;
     let seeds = asked_seeds(words.seeds, words.load.seed)?;
     Ok(Asked {
@@ -196,7 +197,10 @@ pub fn asked_of<'a>(alloc: Global, words: &SweepWords<'a>) -> Result<Asked<'a>, 
         objectives,
         tasks: stepped.tasks,
         place: stepped.place,
+        measure: stepped.measure,
+        offered: words.load.offered.clone()?,
         timing: words.load.timing,
+        variations,
         first,
         after,
         seeds,
@@ -221,6 +225,16 @@ impl<'a> Asked<'a> {
         }
     }
 
+    /// The greatest of the loads; 0 where there is none.
+    pub fn greatest(&self) -> u64
+        ensures { result ≡ greatest_of self.now }
+    {
+        match self.loads.as_slice().last() {
+            Some(load) => *load,
+            None => 0,
+        }
+    }
+
     /// What comes to each task where the swept one has this load.
     pub fn at(&self, alloc: Global, load: u64) -> Result<Vec<TaskLoad>, AllocError>
         ensures { IfOk result (λ tasks. AreLoadedWith self.now load tasks.items) }
@@ -230,6 +244,7 @@ impl<'a> Asked<'a> {
             let of_task = &self.tasks[place];
             tasks.push(TaskLoad {
                 task: of_task.task,
+                measure: of_task.measure,
                 load: if place == self.place {
                     load
                 } else {
@@ -237,6 +252,7 @@ impl<'a> Asked<'a> {
                 },
                 service: of_task.service.clone()?,
                 pattern: of_task.pattern,
+                misses: of_task.misses,
             })?;
         }
         Ok(tasks)

@@ -5,9 +5,14 @@ pub mod Shorter
 pub mod Tables
 pub mod Columns
 pub mod Variations
+pub mod VariedOrNot
+pub mod Product
+pub mod Keys
 pub mod Lines
 pub mod ReadBack
+pub mod OneKey
 pub mod OwnValue
+pub mod Standing
 pub mod Unvaried
 pub mod OneTable
 pub mod Verdicts

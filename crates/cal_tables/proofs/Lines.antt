@@ -8,28 +8,29 @@ use Rattle.cal_machine.specs.Table.{Table}
 use Rattle.cal_machine.specs.declared.task.Task.{Task}
 use Rattle.cal_trace.specs.Rows.Text.{numbered}
 use Rattle.cal_tables.specs.TableText.{Line, field_key, line_text, task_lines, tasks_lines, lines_of, text_of_lines}
-use Rattle.cal_tables.specs.Varied.{with_value, varied_lines, has_key}
+use Rattle.cal_tables.specs.Settings.{KeyValue}
+use Rattle.cal_tables.specs.Varied.{with_values, varied_lines, has_key}
 use Rattle.cal_tables.specs.Writing.{key_line, task_text, is_field, is_place, any_below}
 
-text_of_varied : (key value : List ℕ) (xs ys : List Line) → text_of_lines (map (with_value key value) (xs ++ ys)) ≡ text_of_lines (map (with_value key value) xs) ++ text_of_lines (map (with_value key value) ys)
-text_of_varied key value xs ys =
-    ap text_of_lines (map-append (with_value key value) xs ys) ∙ ap concat (map-append line_text (map (with_value key value) xs) (map (with_value key value) ys))
-    ∙ concat-append (map line_text (map (with_value key value) xs)) (map line_text (map (with_value key value) ys))
+text_of_varied : (setting : List KeyValue) (xs ys : List Line) → text_of_lines (map (with_values setting) (xs ++ ys)) ≡ text_of_lines (map (with_values setting) xs) ++ text_of_lines (map (with_values setting) ys)
+text_of_varied setting xs ys =
+    ap text_of_lines (map-append (with_values setting) xs ys) ∙ ap concat (map-append line_text (map (with_values setting) xs) (map (with_values setting) ys))
+    ∙ concat-append (map line_text (map (with_values setting) xs)) (map line_text (map (with_values setting) ys))
 
-tasks_by_lines : (key value : List ℕ) (n : ℕ) (tasks : List Task) → concat (numbered (task_text key value) n tasks) ≡ text_of_lines (map (with_value key value) (tasks_lines n tasks))
-tasks_by_lines key value n [] = refl
-tasks_by_lines key value n (task ∷ tasks) =
-    ap (λ l. task_text key value n task ++ l) (tasks_by_lines key value (n + 1) tasks) ∙ sym (text_of_varied key value (task_lines n task) (tasks_lines (n + 1) tasks))
+tasks_by_lines : (setting : List KeyValue) (n : ℕ) (tasks : List Task) → concat (numbered (task_text setting) n tasks) ≡ text_of_lines (map (with_values setting) (tasks_lines n tasks))
+tasks_by_lines setting n [] = refl
+tasks_by_lines setting n (task ∷ tasks) =
+    ap (λ l. task_text setting n task ++ l) (tasks_by_lines setting (n + 1) tasks) ∙ sym (text_of_varied setting (task_lines n task) (tasks_lines (n + 1) tasks))
 
 -- a whole table
-pub by_lines : (key value : List ℕ) (table : Table) →
-    concat (key_line key value (codes "bandwidth_limit") (codes "bandwidth_limit") (decimal table.bandwidth_limit)
-    ∷ key_line key value (codes "cores") (codes "cores") (decimal table.cores) ∷ concat (numbered (task_text key value) 0 table.tasks) ∷ [])
-    ≡ text_of_lines (varied_lines key value table)
-by_lines key value table =
-    let limit : List ℕ = key_line key value (codes "bandwidth_limit") (codes "bandwidth_limit") (decimal table.bandwidth_limit) in
-    let cores : List ℕ = key_line key value (codes "cores") (codes "cores") (decimal table.cores) in
-    ap (λ l. limit ++ (cores ++ l)) (append-nil (concat (numbered (task_text key value) 0 table.tasks)) ∙ tasks_by_lines key value 0 table.tasks)
+pub by_lines : (setting : List KeyValue) (table : Table) →
+    concat (key_line setting (codes "bandwidth_limit") (codes "bandwidth_limit") (decimal table.bandwidth_limit)
+    ∷ key_line setting (codes "cores") (codes "cores") (decimal table.cores) ∷ concat (numbered (task_text setting) 0 table.tasks) ∷ [])
+    ≡ text_of_lines (varied_lines setting table)
+by_lines setting table =
+    let limit : List ℕ = key_line setting (codes "bandwidth_limit") (codes "bandwidth_limit") (decimal table.bandwidth_limit) in
+    let cores : List ℕ = key_line setting (codes "cores") (codes "cores") (decimal table.cores) in
+    ap (λ l. limit ++ (cores ++ l)) (append-nil (concat (numbered (task_text setting) 0 table.tasks)) ∙ tasks_by_lines setting 0 table.tasks)
 
 -- the key is one of the fields of so many tasks, from this one on
 abbrev any_from : (ℕ → Bool) → ℕ → ℕ → Bool

@@ -7,8 +7,10 @@ use Rattle.cal_machine.specs.Table.{Table, IsTable}
 use Rattle.cal_machine.specs.Reading.{table_in}
 use Rattle.cal_machine.specs.declared.fault.ConfigFault.TheVariants.{UnknownKey}
 use Rattle.cal_tables.specs.TableText.{Line, lines_of, text_of_lines}
-use Rattle.cal_tables.specs.Varied.{with_value, has_key, varied, varied_lines}
-use Rattle.cal_tables.specs.Laws.{IsOwnValue}
+use Rattle.cal_tables.specs.Settings.{KeyValue}
+use Rattle.cal_tables.specs.Varied.{has_keys, varied, varied_lines}
+use Rattle.cal_tables.specs.Laws.{IsOwnValue, alone, with_value}
+use Rattle.cal_tables.proofs.OneKey.{varied_alone}
 use Rattle.cal_tables.proofs.ReadBack.{text_read}
 
 chosen : (b : Bool) (value own : List ℕ) → (b ≡ true → own ≡ value) → cond b value own ≡ own
@@ -26,10 +28,13 @@ same_lines key value (line ∷ lines) own =
     ap (λ (l : Line). l ∷ map (with_value key value) lines) (same_line key value line (own line (0, omega arith, refl)))
     ∙ ap (λ (ls : List Line). line ∷ ls) (same_lines key value lines (λ other at. own other (suc at.0, (let lt = at.1 in omega (arith, lt)), at.2)))
 
-pub differs : (table other : Table) (key value : List ℕ) → IsTable other → has_key key table ≡ true → lines_of other ≡ varied_lines key value table → varied table key value ≡ Ok other
-differs table other key value ok has same =
-    ap (λ (b : Bool). cond b (table_in (text_of_lines (varied_lines key value table))) (Err UnknownKey)) has
+pub differs : (table other : Table) (setting : List KeyValue) → IsTable other → has_keys setting table ≡ true → lines_of other ≡ varied_lines setting table → varied table setting ≡ Ok other
+differs table other setting ok has same =
+    ap (λ (b : Bool). cond b (table_in (text_of_lines (varied_lines setting table))) (Err UnknownKey)) has
     ∙ ap (λ ls. table_in (text_of_lines ls)) (sym same) ∙ text_read other ok
 
-pub own : (table : Table) (key value : List ℕ) → IsTable table → IsOwnValue table key value → varied table key value ≡ Ok table
-own table key value ok is = differs table table key value ok is.has (sym (same_lines key value (lines_of table) is.own))
+pub own : (table : Table) (key value : List ℕ) → IsTable table → IsOwnValue table key value → varied table (alone key value) ≡ Ok table
+own table key value ok is =
+    varied_alone table key value
+    ∙ ap (λ (b : Bool). cond b (table_in (text_of_lines (map (with_value key value) (lines_of table)))) (Err UnknownKey)) is.has
+    ∙ ap (λ ls. table_in (text_of_lines ls)) (same_lines key value (lines_of table) is.own) ∙ text_read table ok

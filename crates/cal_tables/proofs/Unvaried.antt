@@ -1,14 +1,12 @@
--- The text of a table in which nothing is varied: no line has the empty place.
-use Rattle.std.proofs.Common.{◌≡◌, ◌+◌, ◌++◌, ◌∷◌, [], ℕ, List, codes, map, refl, ap}
+-- The text of a table in which nothing is varied.
+use Rattle.std.proofs.Common.{◌≡◌, ◌∷◌, [], List, map, refl, ap}
 use Rattle.cal_machine.specs.Table.{Table}
-use Rattle.cal_machine.specs.declared.task.Task.{Task}
-use Rattle.cal_tables.specs.TableText.{Line, lines_of, task_lines, tasks_lines, top_line}
-use Rattle.cal_tables.specs.Varied.{varied_lines, with_value}
+use Rattle.cal_tables.specs.TableText.{Line, lines_of}
+use Rattle.cal_tables.specs.Varied.{varied_lines, with_values}
 
-tasks_unvaried : (value : List ℕ) (n : ℕ) (tasks : List Task) → map (with_value [] value) (tasks_lines n tasks) ≡ tasks_lines n tasks
-tasks_unvaried value n [] = refl
-tasks_unvaried value n (task ∷ tasks) = ap (λ (lines : List Line). task_lines n task ++ lines) (tasks_unvaried value (n + 1) tasks)
+as_they_are : (lines : List Line) → map (with_values []) lines ≡ lines
+as_they_are [] = refl
+as_they_are (line ∷ lines) = ap (λ (others : List Line). line ∷ others) (as_they_are lines)
 
-pub unvaried : (table : Table) (value : List ℕ) → varied_lines [] value table ≡ lines_of table
-unvaried table value =
-    ap (λ (lines : List Line). top_line (codes "bandwidth_limit") table.bandwidth_limit ∷ top_line (codes "cores") table.cores ∷ lines) (tasks_unvaried value 0 table.tasks)
+pub unvaried : (table : Table) → varied_lines [] table ≡ lines_of table
+unvaried table = as_they_are (lines_of table)

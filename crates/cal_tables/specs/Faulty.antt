@@ -6,6 +6,7 @@ use Rattle.cal_input.specs.declared.fault.RunFault.TheVariants as faults
 use Rattle.cal_machine.specs.Reading.{table_in}
 use Rattle.cal_machine.specs.Table.{Table}
 use Rattle.cal_machine.specs.declared.fault.ConfigFault.{ConfigFault}
+use Rattle.cal_tables.specs.Settings.{KeyValue}
 use Rattle.cal_tables.specs.Varied.{varied, AreVaried}
 use Rattle.cal_tables.specs.declared.comparing.fault.ComparisonFault.{ComparisonFault}
 use Rattle.cal_tables.specs.declared.comparing.fault.ComparisonFault.TheVariants as comparison
@@ -31,15 +32,15 @@ pub record IsFirstFaulty (input : List ℕ) (place : ℕ) (fault : ConfigFault) 
   pub next : input_parts rest ≡ Some (front, back)
   pub faulty : table_in front ≡ Err fault
 
--- of these values that at this place, from 0, is the first which at the key makes the table faulty,
--- and this is the fault
-pub record IsFirstFaultyValue (table : Table) (key : List ℕ) (values : List (List ℕ)) (place : ℕ)
+-- of these settings that at this place, from 0, is the first which makes the table faulty, and this
+-- is the fault
+pub record IsFirstFaultySetting (table : Table) (settings : List (List KeyValue)) (place : ℕ)
     (fault : ConfigFault) : Type 0 where
   pub before : List Table
-  pub made : AreVaried table key (take place values) before
-  pub value : List ℕ
-  pub at : slice_get values place ≡ Some value
-  pub faulty : varied table key value ≡ Err fault
+  pub made : AreVaried table (take place settings) before
+  pub setting : List KeyValue
+  pub at : slice_get settings place ≡ Some setting
+  pub faulty : varied table setting ≡ Err fault
 
 -- memory was refused, to one table or at all, or a table is faulty, and Is holds of its number and
 -- its fault

@@ -5,6 +5,7 @@ pub mod Asked
 pub mod Moved
 pub mod Compared
 pub mod TableText
+pub mod Settings
 pub mod Varied
 pub mod Faulty
 pub mod Writing

@@ -5,24 +5,30 @@ use Rattle.std.specs.List.{concat}
 use Rattle.cal_machine.specs.Table.{Table}
 use Rattle.cal_machine.specs.declared.task.Task.{Task}
 use Rattle.cal_tables.specs.TableText.{field_key, kind_text, line_of, line_text}
-use Rattle.cal_tables.specs.Varied.{with_value}
+use Rattle.cal_tables.specs.Settings.{KeyValue, setting_at, varyings_of}
+use Rattle.cal_tables.specs.Varied.{with_values}
+use Rattle.cal_tables.specs.declared.comparing.varying.Setting.{Setting}
 
--- the line at this place, with the value, where the place is the key, else with what is there
-abbrev pub key_line : List ℕ → List ℕ → List ℕ → List ℕ → List ℕ → List ℕ
-key_line key value place name own = line_text (with_value key value (line_of place [] name own))
+-- the keys and the values of a setting
+unfoldable pub values_in : Setting → List KeyValue
+values_in setting = setting_at (varyings_of setting.variations.now) setting.place
 
--- the line of a field of task t, with the value where its place is the key, else with its own
-abbrev pub varied_line : List ℕ → List ℕ → ℕ → List ℕ → List ℕ → List ℕ
-varied_line key value t name own = key_line key value (field_key t name) name own
+-- the line at this place, with the setting's value, where the place is a key, else with what is there
+abbrev pub key_line : List KeyValue → List ℕ → List ℕ → List ℕ → List ℕ
+key_line setting place name own = line_text (with_values setting (line_of place [] name own))
+
+-- the line of a field of task t, with the setting's value where its place is a key, else with its own
+abbrev pub varied_line : List KeyValue → ℕ → List ℕ → List ℕ → List ℕ
+varied_line setting t name own = key_line setting (field_key t name) name own
 
 -- task t of a table
-abbrev pub task_text : List ℕ → List ℕ → ℕ → Task → List ℕ
-task_text key value t task = concat (codes "\n[[task]]\n"
-    ∷ varied_line key value t (codes "delay") (decimal task.delay)
-    ∷ varied_line key value t (codes "guaranteed") (decimal task.guaranteed)
-    ∷ varied_line key value t (codes "kind") (kind_text task.kind)
-    ∷ varied_line key value t (codes "limit") (decimal task.limit)
-    ∷ varied_line key value t (codes "request") (decimal task.request) ∷ [])
+abbrev pub task_text : List KeyValue → ℕ → Task → List ℕ
+task_text setting t task = concat (codes "\n[[task]]\n"
+    ∷ varied_line setting t (codes "delay") (decimal task.delay)
+    ∷ varied_line setting t (codes "guaranteed") (decimal task.guaranteed)
+    ∷ varied_line setting t (codes "kind") (kind_text task.kind)
+    ∷ varied_line setting t (codes "limit") (decimal task.limit)
+    ∷ varied_line setting t (codes "request") (decimal task.request) ∷ [])
 
 -- the key is one of task t
 abbrev pub is_field : List ℕ → ℕ → Bool

@@ -5,12 +5,14 @@ pub mod fault;
 pub mod input_text;
 pub mod moving;
 pub mod runs;
+pub mod settings;
 pub mod sheet;
 pub mod tables;
 pub mod varying;
 
-ghost use Rattle.std.specs.Prelude.{◌≡◌, ◌≢◌, IfErr, IfOk, map};
+ghost use Rattle.std.specs.Prelude.{◌≡◌, ◌≢◌, IfErr, IfOk};
 ghost use Rattle.cal_tables.specs.Compared.{AreEachOf, IsComparison};
+ghost use Rattle.cal_tables.specs.Settings.{varyings_of};
 ghost use Rattle.cal_tables.specs.Varied.{IsComparisonBy, IsComparisonOf, IsVariation, terms_by};
 
 use crate::comparing::fault::ComparisonFault;
@@ -75,52 +77,53 @@ pub fn compared(
 }
 
 /// A key of a table, and values for it.
-#[derive(Clone, Copy)]
-pub struct Variation<'a> {
+#[derive(Debug, Drop)]
+pub struct Variation {
     /// The key: `cores`, `bandwidth_limit`, or of task 1 as `task.1.delay`.
-    pub key: &'a str,
+    pub key: String,
+    /// What the key is called where it is shown.
+    pub shown: String,
     /// The values, each as a table has it.
-    pub values: &'a [&'a str],
+    pub values: Vec<String>,
 }
 
-/// The tables that the one of an input gives with each of these values at this key, and the numbers
-/// of each one's run on these terms on the input's arrivals, in the order of the values. The
-/// arrivals, and when their requests came, are given for the input's table; each gets them as
-/// `moved_arrivals` says, and then they are paced.
+/// The tables that the one of an input gives with each setting that these variations make, and the
+/// numbers of each one's run on these terms on the input's arrivals, in the order of the settings:
+/// the first key changes slowest. The arrivals, and when their requests came, are given for the
+/// input's table; each gets them as `moved_arrivals` says, and then they are paced.
 ///
-/// The faults are those of the word `lockstep`, in its order; then that of the first value that
+/// The faults are those of the word `lockstep`, in its order; then that of the first setting that
 /// makes the table faulty (a key that it has not is unknown), then that of the file of when requests
-/// came, then that of the first value which makes a table that the arrivals do not fit, or whose
+/// came, then that of the first setting which makes a table that the arrivals do not fit, or whose
 /// arrivals are refused for the plan. `Memory` may come at any place.
 pub fn compared_values(
     alloc: Global,
     terms: RunTerms<'_>,
     input: &[u8],
-    variation: Variation<'_>,
+    variations: &[Variation],
 ) -> Result<Comparison, ComparisonFault>
     ensures { IfOk result (λ comparison. IsVariation terms.entry input.now
-        variation.entry.key.now
-        (map (λ value. value.now) variation.entry.values.now)
-        comparison.tables.items comparison.runs.items) }
+        (varyings_of variations.now) comparison.tables.items comparison.runs.items) }
 {
-    let from = varied_given(alloc, input, variation)?;
+    let from = varied_given(alloc, input, variations)?;
     comparison_on(alloc, terms, from)
 }
 
-/// The runs of an input on these terms: of its tables, or of those that its table gives with some
-/// values. The faults are those of `compared`, or of `compared_values`.
+/// The runs of an input on these terms: of its tables, or, where there are variations, of those that
+/// its table gives with their settings. The faults are those of `compared`, or of `compared_values`.
 pub fn comparison_of(
     alloc: Global,
     terms: RunTerms<'_>,
     input: &[u8],
-    variation: Option<Variation<'_>>,
+    variations: &[Variation],
 ) -> Result<Comparison, ComparisonFault>
-    ensures { IfOk result (λ comparison. IsComparisonOf terms.entry input.now variation.entry
+    ensures { IfOk result (λ comparison. IsComparisonOf terms.entry input.now variations.now
         comparison.tables.items comparison.runs.items) }
 {
-    match variation {
-        Some(variation) => compared_values(alloc, terms, input, variation),
-        None => compared(alloc, terms, input),
+    if variations.is_empty() {
+        compared(alloc, terms, input)
+    } else {
+        compared_values(alloc, terms, input, variations)
     }
 }
 
@@ -129,8 +132,8 @@ pub fn comparison_of(
 pub struct ComparedInput<'a> {
     /// The bytes of the input.
     pub bytes: &'a [u8],
-    /// What varies its one table; without it the tables are those of the input.
-    pub variation: Option<Variation<'a>>,
+    /// What varies its one table; without any the tables are those of the input.
+    pub variations: &'a [Variation],
     /// By which policies each table has a run.
     pub policies: &'a [Policy],
     /// By which plan all runs go; without it they are in lockstep.
@@ -165,7 +168,7 @@ pub fn comparisons_of(
     for place in 0..input.policies.len() {
         let policy = policy_at(input.policies, place);
         let terms = terms_by(input, policy);
-        let runs = comparison_of(alloc, terms, input.bytes, input.variation)?;
+        let runs = comparison_of(alloc, terms, input.bytes, input.variations)?;
         comparisons.push(runs)?;
     }
     Ok(comparisons)
@@ -181,7 +184,7 @@ fn compared_text(
     let shown = ShownComparison {
         runs: runs.as_slice(),
         policies: input.policies,
-        variation: input.variation,
+        variations: input.variations,
         style,
     };
     let sheet = shown.sheet(alloc)?;
@@ -189,7 +192,7 @@ fn compared_text(
 }
 
 /// Makes a whole run of each table of an input by each policy on one thread, and writes the numbers
-/// side by side in this style: in columns that line up, or as CSV. With a variation the input has one
+/// side by side in this style: in columns that line up, or as CSV. With variations the input has one
 /// table, and the runs are those of the tables that it gives. Nothing is written before the runs were
 /// made and the text is in memory.
 pub fn compare<W: Write>(
@@ -210,7 +213,7 @@ pub fn compare<W: Write>(
 }
 
 /// Writes of an input of `compare` that of `measure` for one of its tables, the first being 0: the
-/// table and the arrivals that it gets. With a variation it is one of those that the input's table
+/// table and the arrivals that it gets. With variations it is one of those that the input's table
 /// gives. Which policies there are is not asked. Nothing is written before the whole text is in memory.
 ///
 /// The faults are those of `compare` up to the arrivals, then `NoTable`, then that of the table
@@ -225,7 +228,7 @@ pub fn write_input<W: Write>(
     ensures untouched { IfErr result (λ fault.
         fault ≢ ComparisonFault.Run RunFault.Write → writer.new ≡ writer.old) }
 {
-    let text = input_text(alloc, input.bytes, input.variation, place)?;
+    let text = input_text(alloc, input.bytes, input.variations, place)?;
     match writer.write_all(text.as_slice()) {
         Ok(()) => Ok(()),
         Err(_) => Err(ComparisonFault::from(RunFault::Write)),

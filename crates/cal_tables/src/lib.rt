@@ -27,6 +27,7 @@ pub use asking::{Asked, read_asked};
 pub use comparing::fault::{ComparisonFault, Misfit, Reason};
 pub use comparing::moving::moved_arrivals;
 pub use comparing::runs::{policy_at, table_at};
+pub use comparing::settings::{settings_in, value_in};
 pub use comparing::tables::read_tables;
 pub use comparing::varying::varied_tables;
 pub use comparing::{
@@ -39,8 +40,8 @@ pub use figures::{Figure, Rank, Unit, count, number, share, time_in};
 pub use joining::{front_of_table, table_part};
 pub use labels::{Labels, letters};
 pub use laws::{
-    own_value_gives_the_table, same_limits_move_nothing, table_text_is_read_back,
-    varied_differs_at_its_key,
+    one_key_is_varied, own_value_gives_the_table, same_limits_move_nothing,
+    settings_stand_at_their_keys, table_text_is_read_back, varied_differs_at_its_keys,
 };
 pub use measuring::{MeasuredInput, RunNumbers, counted_run, measure, measured_run};
 pub use planned::{PlannedFault, collected_by, counted_by, planned_for};

@@ -8,4 +8,3 @@ pub mod log_words;
 pub mod plan_words;
 pub mod policy_words;
 pub mod sweep_words;
-pub mod variation;

@@ -3,4 +3,5 @@
 pub mod beside;
 pub mod failure;
 pub mod noted;
+pub mod progress;
 pub mod sources;

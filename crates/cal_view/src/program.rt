@@ -23,16 +23,19 @@ use crate::jobs::sweeping::Sweeping;
 use crate::jobs::table_names::table_names;
 use crate::jobs::telling::tell;
 use crate::jobs::timing::answer_timeline;
-use crate::refusing::{end_refusal, refuse_two_standards, refused_input};
+use crate::refusing::{end_refusal, refuse_two_standards, refuse_word, refused_input};
 use cal_came::{CameFile, CountAsked};
 use cal_engine::{refuse_words, words_after_first};
 use cal_input::{RunFault, read_input};
-use cal_tables::Labels;
+use cal_load::LoadFault;
+use cal_sweep::variations_of;
+use cal_tables::{Labels, Variation};
 use cal_why::RefusedInput;
 use std::alloc::Global;
-use std::io::{BufWriter, Read, Write};
+use std::io::{BufWriter, Eprint, IsTerminal, Read, Write};
 use std::rt::Files;
 use std::thread::Threads;
+use std::time::Clock;
 
 /// Runs the program on its name and the words after it and on an input, and answers its exit
 /// status: 0 is done (help too), 1 is an illegal history explained or an objective missed, 2 is bad
@@ -41,15 +44,13 @@ use std::thread::Threads;
 /// The input is what the reader gives, or the files that the words name. The answer goes to
 /// `output`, or to a file where the words name one, and help to `output`; what is wrong with the
 /// words (`clap`'s text) or the one line of a fault goes to `errors`. If the reader of the answer
-/// has gone, there is no line.
-pub fn run_program<H: Files + Threads + Sync, R: Read + Drop, W: Write, E: Write>(
-    rt: &H,
-    alloc: Global,
-    named: &[String],
-    reader: R,
-    output: &mut W,
-    errors: &mut E,
-) -> u8 {
+/// has gone, there is no line. Where `errors` is a terminal, a long job shows there how far it is.
+pub fn run_program<
+    H: Files + Threads + Clock + Eprint + Sync,
+    R: Read + Drop,
+    W: Write,
+    E: Write + IsTerminal,
+>(rt: &H, alloc: Global, named: &[String], reader: R, output: &mut W, errors: &mut E) -> u8 {
     let given = match words_after_first(alloc, named) {
         Ok(given) => given,
         Err(_) => return Failure::from(RunFault::Memory).end(errors),
@@ -70,7 +71,12 @@ pub fn run_program<H: Files + Threads + Sync, R: Read + Drop, W: Write, E: Write
 }
 
 /// Runs the program on what its words ask for and on an input, and answers its exit status.
-fn run_asked<H: Files + Threads + Sync, R: Read + Drop, W: Write, E: Write>(
+fn run_asked<
+    H: Files + Threads + Clock + Eprint + Sync,
+    R: Read + Drop,
+    W: Write,
+    E: Write + IsTerminal,
+>(
     rt: &H,
     alloc: Global,
     request: &Request<'_>,
@@ -78,7 +84,13 @@ fn run_asked<H: Files + Threads + Sync, R: Read + Drop, W: Write, E: Write>(
     output: &mut Noted<W>,
     errors: &mut E,
 ) -> u8 {
-    let run = ProgramRun { rt, alloc, request };
+    let is_shown = errors.is_terminal() && !request.quiet;
+    let run = ProgramRun {
+        rt,
+        alloc,
+        request,
+        is_shown,
+    };
     match run.answer(reader, output, errors) {
         Ok(status) => status,
         Err(failure) => failure.end(errors),
@@ -106,9 +118,11 @@ struct ProgramRun<'h, 'a, H> {
     alloc: Global,
     /// What the words ask for.
     request: &'a Request<'a>,
+    /// Whether a long job shows how far it is.
+    is_shown: bool,
 }
 
-impl<'h, 'a, H: Files + Threads + Sync> ProgramRun<'h, 'a, H> {
+impl<'h, 'a, H: Files + Threads + Clock + Eprint + Sync> ProgramRun<'h, 'a, H> {
     /// Does what the words ask for on the reader or on the files that they name, and answers the
     /// exit status where there is no fault.
     fn answer<R: Read + Drop, W: Write, E: Write>(
@@ -262,6 +276,7 @@ impl<'h, 'a, H: Files + Threads + Sync> ProgramRun<'h, 'a, H> {
                     words: asked,
                     policies: request.policies.as_slice(),
                     labels,
+                    is_shown: self.is_shown,
                 };
                 sweeping.answer(self.rt, reader, output, errors)
             }
@@ -277,12 +292,14 @@ impl<'h, 'a, H: Files + Threads + Sync> ProgramRun<'h, 'a, H> {
         }
     }
 
-    /// What a job of an input is done on, where the file of when its requests came has these bytes.
+    /// What a job of an input is done on, where the file of when its requests came has these bytes,
+    /// and these keys of its table are varied.
     fn job_input<'i>(
         &'i self,
         read: RefusedInput<'i>,
         came: &'i [u8],
         labels: Labels<'i>,
+        variations: &'i [Variation],
     ) -> JobInput<'i> {
         let CountWords {
             came: named,
@@ -299,6 +316,7 @@ impl<'h, 'a, H: Files + Threads + Sync> ProgramRun<'h, 'a, H> {
         JobInput {
             alloc: self.alloc,
             read,
+            variations,
             policies: self.request.policies.as_slice(),
             plan: self.request.plan,
             came,
@@ -314,20 +332,26 @@ impl<'h, 'a, H: Files + Threads + Sync> ProgramRun<'h, 'a, H> {
     /// Reads an input to its end, and does this with it. Of an input that is refused it says why.
     fn look<R: Read + Drop, W: Write, E: Write>(
         &self,
-        job: InputJob<'_>,
+        job: InputJob,
         labels: Labels<'_>,
         mut reader: R,
         output: &mut W,
         errors: &mut E,
     ) -> Result<u8, RunFault> {
         let alloc = self.alloc;
+        let request = self.request;
+        let variations = match variations_of(alloc, request.vary.as_slice(), request.labels.names) {
+            Ok(variations) => variations,
+            Err(LoadFault::Word(fault)) => return Ok(refuse_word(&fault, errors)),
+            Err(LoadFault::Memory) => return Err(RunFault::Memory),
+        };
         let bytes = read_input(alloc, &mut reader)?;
         let came = match self.read_came() {
             Ok(came) => came,
             Err(failure) => return Ok(failure.end(errors)),
         };
         let read = refused_input(job, self.request, bytes.as_slice());
-        let input = self.job_input(read, came.as_slice(), labels);
+        let input = self.job_input(read, came.as_slice(), labels, variations.as_slice());
         match answer_read(job, &input, output, errors) {
             Ok(status) => Ok(status),
             Err(fault) => end_refusal(alloc, read, fault, errors),
@@ -338,7 +362,7 @@ impl<'h, 'a, H: Files + Threads + Sync> ProgramRun<'h, 'a, H> {
 /// Does a job on an input, and answers the exit status where there is no fault: 2 where there are
 /// more or fewer names than tasks.
 fn answer_read<W: Write, E: Write>(
-    job: InputJob<'_>,
+    job: InputJob,
     input: &JobInput<'_>,
     output: &mut W,
     errors: &mut E,
@@ -353,7 +377,7 @@ fn answer_read<W: Write, E: Write>(
     match job {
         InputJob::Check => return answer_check(alloc, bytes, output),
         InputJob::Explain { asked } => return answer_explain(input, asked, output, errors),
-        InputJob::Compare { asked } => return answer_compare(input, asked, output, errors),
+        InputJob::Compare { asked } => return answer_compare(input, asked.form, output, errors),
         InputJob::Measure { form } => return answer_measure(input, form, output, errors),
         InputJob::Timeline => return answer_timeline(input, output, errors),
         InputJob::Facts { facts } => return tell(input, facts, output, errors),

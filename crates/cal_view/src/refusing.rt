@@ -33,7 +33,7 @@ pub fn end_refusal<E: Write>(
 
 /// The input of a request for this job, for where it is refused.
 pub fn refused_input<'a>(
-    job: InputJob<'_>,
+    job: InputJob,
     request: &'a Request<'a>,
     input: &'a [u8],
 ) -> RefusedInput<'a> {
@@ -112,7 +112,7 @@ pub fn refuse_word<E: Write>(fault: &WordFault<'_>, errors: &mut E) -> u8
 
 /// The traces that a job reads: where a run alone is asked for, by a plan or to count its requests,
 /// arrivals.
-fn traces_of(job: InputJob<'_>, alone: bool) -> &'static [TraceKind] {
+fn traces_of(job: InputJob, alone: bool) -> &'static [TraceKind] {
     if alone {
         return &[TraceKind::Arrivals];
     }
@@ -133,9 +133,9 @@ fn traces_of(job: InputJob<'_>, alone: bool) -> &'static [TraceKind] {
 
 /// How many tables come before the trace that a job reads, or more where it is after the last
 /// separator.
-fn tables_of(job: InputJob<'_>) -> usize {
+fn tables_of(job: InputJob) -> usize {
     match job {
-        InputJob::Compare { asked } if asked.vary.is_none() => usize::MAX,
+        InputJob::Compare { asked } if !asked.is_varied => usize::MAX,
         _ => 1,
     }
 }

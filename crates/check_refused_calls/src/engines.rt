@@ -90,7 +90,7 @@ pub fn compared(rt: &HostRuntime, given: &TableAndTrace) -> Tried<()> {
     begin(rt)?;
     let input = ComparedInput {
         bytes: given.text,
-        variation: None,
+        variations: &[],
         policies: [Policy::Caladan].as_slice(),
         plan: None,
         counting: CountAsked::NONE,

@@ -6,22 +6,14 @@ ghost use Rattle.cal_load.specs.Services.{IsWork};
 ghost use Rattle.cal_load.specs.declared.made.TheConstants.{MOST_REQUESTS};
 ghost use Rattle.cal_trace.specs.History.Ranges.{Each};
 
+use crate::drawing::next_thread;
 use crate::log::LogRow;
 use crate::making::{Coming, Slot};
-use rand::RngExt;
 use rand_xoshiro::Xoshiro256PlusPlus;
 use std::alloc::{AllocError, Global};
 
-/// One of so many threads, by chance.
-fn next_thread(rng: &mut Xoshiro256PlusPlus, threads: usize) -> usize
-    requires { 0 < threads }
-    ensures { result < threads }
-{
-    rng.random_range(0..threads as u64) as usize
-}
-
 /// The request of a log, as it comes to a thread.
-fn slot_of(row: LogRow) -> Slot
+pub(crate) fn slot_of(row: LogRow) -> Slot
     ensures { result ≡ slot_of row }
 {
     Slot {

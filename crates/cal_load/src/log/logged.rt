@@ -63,7 +63,7 @@ fn all_of_log(
         let mut rng = generator(SEED, task);
         let coming = come_of(alloc, &mut rng, rows, task, threads, turns)?;
         let queues = coming.queues.as_slice();
-        put_queues(&mut gathered.requests, first, queues)?;
+        put_queues(&mut gathered.requests, first, queues, 0)?;
         put_turns(&mut gathered.came_to, queues)?;
         gathered.counts.push(count_in(task, &coming))?;
     }

@@ -26,17 +26,18 @@ fn input_of(alloc: Global, table: &Config, arrivals: &Arrivals) -> Result<Vec<u8
     Ok(text)
 }
 
-/// The tables of an input, or those that its table gives with some values, and the arrivals.
+/// The tables of an input, or those that its table gives with some settings, and the arrivals.
 fn from_input(
     alloc: Global,
     input: &[u8],
-    variation: Option<Variation<'_>>,
+    variations: &[Variation],
 ) -> Result<GivenTables, ComparisonFault>
     ensures fits { IfOk result (λ from. FitsTable from.given from.arrivals) }
 {
-    match variation {
-        Some(variation) => varied_given(alloc, input, variation),
-        None => given_tables(alloc, input),
+    if variations.is_empty() {
+        given_tables(alloc, input)
+    } else {
+        varied_given(alloc, input, variations)
     }
 }
 
@@ -45,12 +46,12 @@ fn from_input(
 pub fn input_text(
     alloc: Global,
     input: &[u8],
-    variation: Option<Variation<'_>>,
+    variations: &[Variation],
     place: usize,
 ) -> Result<Vec<u8>, ComparisonFault>
     ensures { IfOk result (λ text. IsInputText text.items) }
 {
-    let from = from_input(alloc, input, variation)?;
+    let from = from_input(alloc, input, variations)?;
     let tables = from.tables.as_slice();
     let Some(table) = tables.get(place) else {
         let tables = tables.len();

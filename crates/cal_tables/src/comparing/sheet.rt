@@ -2,6 +2,7 @@
 //! column but the first what it has more or less than the first.
 
 use crate::comparing::changes::{Change, changes_of};
+use crate::comparing::settings::value_in;
 use crate::comparing::{Comparison, Variation};
 use crate::core_rows::{
     CORE_LINES, CoreLine, MACHINE_LINES, MachineLine, core_figure, core_label, core_unit,
@@ -106,6 +107,25 @@ fn label_of_task(
     format!(in alloc; "{} {line}", name.as_str())
 }
 
+/// The keys and the values of the setting that makes a table, as `cores=4 task.0.limit=2`.
+fn setting_text(
+    alloc: Global,
+    variations: &[Variation],
+    table: usize,
+) -> Result<String, AllocError> {
+    let mut text = String::new(alloc);
+    for variation in variations {
+        if !text.is_empty() {
+            text.push_str(" ")?;
+        }
+        let value = value_in(variations, table, variation.key.as_str()).unwrap_or("");
+        text.push_str(variation.shown.as_str())?;
+        text.push_str("=")?;
+        text.push_str(value)?;
+    }
+    Ok(text)
+}
+
 /// A change as it is written.
 fn change_cell(alloc: Global, change: Change, unit: Unit) -> Result<String, AllocError> {
     let (sign, by) = match change {
@@ -126,7 +146,7 @@ pub struct ShownComparison<'a> {
     /// The policies.
     pub policies: &'a [Policy],
     /// What made the tables, where they are not those of the input.
-    pub variation: Option<Variation<'a>>,
+    pub variations: &'a [Variation],
     /// How they are written.
     pub style: NumberStyle<'a>,
 }
@@ -152,13 +172,21 @@ impl ShownComparison<'_> {
         row.figure_in(self.runs.get(policy)?, table)
     }
 
-    /// What a table is called: by its value, or by its name, or else by its number.
+    /// What a table is called: by its value, by each key and its value where several keys are varied,
+    /// by its name, or else by its number.
     fn table_name(self, alloc: Global, table: usize) -> Result<String, AllocError> {
-        if let Some(variation) = self.variation {
-            if let Some(value) = variation.values.get(table) {
-                return String::from_str(alloc, value);
+        match self.variations {
+            [] => self.given_name(alloc, table),
+            [only] => {
+                let value = value_in(self.variations, table, only.key.as_str());
+                String::from_str(alloc, value.unwrap_or(""))
             }
+            _ => setting_text(alloc, self.variations, table),
         }
+    }
+
+    /// What a table that is given is called: by its name, or else by its number.
+    fn given_name(self, alloc: Global, table: usize) -> Result<String, AllocError> {
         match self.style.labels.tables.get(table) {
             Some(name) => String::from_str(alloc, name.as_str()),
             None => format!(in alloc; "table {table}"),
@@ -179,9 +207,9 @@ impl ShownComparison<'_> {
 
     /// What stands over the rows' names.
     fn corner(self, alloc: Global) -> Result<String, AllocError> {
-        match self.variation {
-            Some(variation) => String::from_str(alloc, variation.key),
-            None => String::from_str(alloc, "measure"),
+        match self.variations {
+            [only] => String::from_str(alloc, only.shown.as_str()),
+            _ => String::from_str(alloc, "measure"),
         }
     }
 

@@ -1,35 +1,37 @@
-//! The tables that one gives with each of some values at one of its keys.
+//! The tables that one gives with each setting of some of its keys.
 
 ghost use Rattle.std.specs.Prelude.{◌≡◌, ◌++◌, bytes_eq, codes, decimal, Err, IfErr, IfOk, OnOk, map};
-ghost use Rattle.std.specs.Prelude.{◌<◌, length, slice_get, string_bytes};
-ghost use Rattle.std.specs.List.{concat};
+ghost use Rattle.std.specs.Prelude.{◌<◌, length, string_bytes};
+ghost use Rattle.std.specs.List.{concat, list_all};
 ghost use Rattle.cal_input.specs.Answers.{ConfigDecided};
 ghost use Rattle.cal_trace.specs.Rows.Text.{numbered};
-ghost use Rattle.cal_tables.specs.Faulty.{IsFirstFaultyValue, SaysWhichTable};
+ghost use Rattle.cal_tables.specs.Faulty.{IsFirstFaultySetting, SaysWhichTable};
+ghost use Rattle.cal_tables.specs.Settings.{settings_of, varyings_of};
 ghost use Rattle.cal_tables.specs.TableText.{field_key, kind_text, lines_of, text_of_lines};
 ghost use Rattle.cal_tables.specs.Varied.{AreVaried, AreVariedWith, has_key, varied};
 ghost use Rattle.cal_tables.specs.Varied.{varied_lines};
 ghost use Rattle.cal_tables.specs.Writing.{any_below, is_field, is_place, key_line};
-ghost use Rattle.cal_tables.specs.Writing.{task_text, varied_line};
+ghost use Rattle.cal_tables.specs.Writing.{task_text, values_in, varied_line};
 ghost use Rattle.cal_trace.specs.Arrivals.FitsTable.{FitsTable};
 
 use crate::comparing::Variation;
 use crate::comparing::fault::{ComparisonFault, Reason, fault_of};
+use crate::comparing::settings::{settings_in, value_in};
 use crate::comparing::tables::GivenTables;
 use cal_input::{RunFault, run_input};
 use cal_machine::{Config, ConfigFault, Kind, Task};
 use std::alloc::{AllocError, Global};
 use std::fmt::Write;
 
-/// A key of a table, and the value that stands there where the table is written.
+/// A setting of some keys of a table, where the table is written.
 #[derive(Clone, Copy)]
 struct Setting<'a> {
     /// What the texts of the lines take memory from.
     alloc: Global,
-    /// The key.
-    key: &'a str,
-    /// The value.
-    value: &'a str,
+    /// The keys with their values.
+    variations: &'a [Variation],
+    /// Which of the settings that these make it is, from 0.
+    place: usize,
 }
 
 /// The key of a field of a task.
@@ -50,7 +52,7 @@ fn kind_text(kind: Kind) -> &'static str
 }
 
 impl Setting<'_> {
-    /// Puts the line of a table at a place: the value, where the place is the key.
+    /// Puts the line of a table at a place: the setting's value, where the place is a key of it.
     fn put_line(
         self,
         text: &mut String,
@@ -59,9 +61,12 @@ impl Setting<'_> {
         own: &str,
     ) -> Result<(), AllocError>
         ensures { OnOk result (string_bytes text.new ≡ string_bytes text.old
-            ++ key_line self.entry.key.now self.entry.value.now place.now name.now own.now) }
+            ++ key_line (values_in self.entry) place.now name.now own.now) }
     {
-        let stands = if place == self.key { self.value } else { own };
+        let stands = match value_in(self.variations, self.place, place) {
+            Some(value) => value,
+            None => own,
+        };
         writeln!(text, "{name} = {stands}")
     }
 
@@ -74,7 +79,7 @@ impl Setting<'_> {
         own: u64,
     ) -> Result<(), AllocError>
         ensures { OnOk result (string_bytes text.new ≡ string_bytes text.old
-            ++ varied_line self.entry.key.now self.entry.value.now task name.now (decimal own)) }
+            ++ varied_line (values_in self.entry) task name.now (decimal own)) }
     {
         let place = field_key(self.alloc, task, name)?;
         let own = format!(in self.alloc; "{own}")?;
@@ -84,7 +89,7 @@ impl Setting<'_> {
     /// Puts the line of the kind of a task.
     fn put_kind(self, text: &mut String, task: usize, kind: Kind) -> Result<(), AllocError>
         ensures { OnOk result (string_bytes text.new ≡ string_bytes text.old
-            ++ varied_line self.entry.key.now self.entry.value.now task (codes "kind")
+            ++ varied_line (values_in self.entry) task (codes "kind")
             (kind_text kind)) }
     {
         let place = field_key(self.alloc, task, "kind")?;
@@ -94,7 +99,7 @@ impl Setting<'_> {
     /// Puts the line of a number of the top table.
     fn put_top(self, text: &mut String, name: &str, own: u64) -> Result<(), AllocError>
         ensures { OnOk result (string_bytes text.new ≡ string_bytes text.old
-            ++ key_line self.entry.key.now self.entry.value.now name.now name.now
+            ++ key_line (values_in self.entry) name.now name.now
             (decimal own)) }
     {
         let own = format!(in self.alloc; "{own}")?;
@@ -104,7 +109,7 @@ impl Setting<'_> {
     /// Puts the lines of a task.
     fn put_task(self, text: &mut String, number: usize, task: Task) -> Result<(), AllocError>
         ensures { OnOk result (string_bytes text.new ≡ string_bytes text.old
-            ++ task_text self.entry.key.now self.entry.value.now number task) }
+            ++ task_text (values_in self.entry) number task) }
     {
         text.push_str("\n[[task]]\n")?;
         self.put_number(text, number, "delay", task.delay)?;
@@ -118,7 +123,7 @@ impl Setting<'_> {
     /// Puts the lines of the tasks of a table.
     fn put_tasks(self, text: &mut String, table: &Config) -> Result<(), AllocError>
         ensures { OnOk result (string_bytes text.new ≡ string_bytes text.old
-            ++ concat (numbered (task_text self.entry.key.now self.entry.value.now) 0
+            ++ concat (numbered (task_text (values_in self.entry)) 0
             table.now.tasks)) }
     {
         for number in 0..table.tasks() {
@@ -128,11 +133,11 @@ impl Setting<'_> {
     }
 }
 
-/// The table as a text, in which the value stands at the key.
+/// The table as a text, in which each value of the setting stands at its key.
 fn varied_text(table: &Config, setting: Setting<'_>) -> Result<String, AllocError>
     ensures { IfOk result (λ text. string_bytes text
         ≡ text_of_lines
-        (varied_lines setting.entry.key.now setting.entry.value.now table.now)) }
+        (varied_lines (values_in setting.entry) table.now)) }
 {
     let mut text = String::new(setting.alloc);
     let limit = table.bandwidth_limit();
@@ -147,9 +152,12 @@ fn varied_text(table: &Config, setting: Setting<'_>) -> Result<String, AllocErro
 pub fn table_text(alloc: Global, table: &Config) -> Result<String, AllocError>
     ensures { IfOk result (λ text. string_bytes text ≡ text_of_lines (lines_of table.now)) }
 {
-    // No place is empty, so each has its own value.
-    let (key, value) = ("", "");
-    varied_text(table, Setting { alloc, key, value })
+    let setting = Setting {
+        alloc,
+        variations: &[],
+        place: 0,
+    };
+    varied_text(table, setting)
 }
 
 /// Whether a key is that of a field of this name of a task.
@@ -200,86 +208,93 @@ fn has_key(alloc: Global, key: &str, table: &Config) -> Result<bool, AllocError>
     is_place(alloc, key, table)
 }
 
-/// The table with this value at this key. The fault is that of the table; a key that it has not is
-/// unknown.
-fn varied(table: &Config, setting: Setting<'_>) -> Result<Config, ConfigFault>
-    ensures made { IfOk result (λ made.
-        varied table.now setting.entry.key.now setting.entry.value.now ≡ Ok made) }
-    ensures fault { IfErr result (λ fault. ConfigDecided fault
-        (varied table.now setting.entry.key.now setting.entry.value.now ≡ Err fault)) }
+/// Whether a table has the key of each of these variations.
+fn has_keys(alloc: Global, variations: &[Variation], table: &Config) -> Result<bool, AllocError>
+    ensures { IfOk result (λ has. has ≡ list_all
+        (λ variation. has_key (string_bytes variation.key) table.now) variations.now) }
 {
-    if !has_key(setting.alloc, setting.key, table)? {
+    for variation in variations {
+        if !has_key(alloc, variation.key.as_str(), table)? {
+            return Ok(false);
+        }
+    }
+    Ok(true)
+}
+
+/// The table with the values of this setting. The fault is that of the table; a key that it has not
+/// is unknown.
+fn varied(table: &Config, setting: Setting<'_>) -> Result<Config, ConfigFault>
+    requires { setting.place < length (settings_of (varyings_of setting.variations.now)) }
+    ensures made { IfOk result (λ made. varied table.now (values_in setting.entry) ≡ Ok made) }
+    ensures fault { IfErr result (λ fault. ConfigDecided fault
+        (varied table.now (values_in setting.entry) ≡ Err fault)) }
+{
+    if !has_keys(setting.alloc, setting.variations, table)? {
         return Err(ConfigFault::UnknownKey);
     }
     let text = varied_text(table, setting)?;
     Config::read(setting.alloc, text.as_bytes())
 }
 
-/// The value at a place.
-fn value_at<'a>(values: &[&'a str], place: usize) -> &'a str
-    requires { place < length values.now }
-    ensures { slice_get (map (λ value. value.now) values.now) place ≡ Some result.now }
-{
-    values[place]
-}
-
-/// The table with this value at this key; a fault is that of the value at this place.
-fn placed_table(
-    table: &Config,
-    setting: Setting<'_>,
-    place: usize,
-) -> Result<Config, ComparisonFault>
-    ensures made { IfOk result (λ made.
-        varied table.now setting.entry.key.now setting.entry.value.now ≡ Ok made) }
-    ensures fault { IfErr result (SaysWhichTable (λ at fault. (at ≡ place)
-        × (varied table.now setting.entry.key.now setting.entry.value.now ≡ Err fault))) }
+/// The table with the values of this setting; a fault is that of the setting's place.
+fn placed_table(table: &Config, setting: Setting<'_>) -> Result<Config, ComparisonFault>
+    requires { setting.place < length (settings_of (varyings_of setting.variations.now)) }
+    ensures made { IfOk result (λ made. varied table.now (values_in setting.entry) ≡ Ok made) }
+    ensures fault { IfErr result (SaysWhichTable (λ at fault. (at ≡ setting.entry.place)
+        × (varied table.now (values_in setting.entry) ≡ Err fault))) }
 {
     match varied(table, setting) {
         Ok(made) => Ok(made),
-        Err(fault) => Err(fault_of(place, Reason::Run(RunFault::Config(fault)))),
+        Err(fault) => Err(fault_of(setting.place, Reason::Run(RunFault::Config(fault)))),
     }
 }
 
-/// The tables that one gives with each of these values at this key, in the order of the values. The
-/// fault is that of the first value that makes the table faulty. `Memory` may come at any place.
+/// The tables that one gives with each setting that these variations make, of which the first changes
+/// slowest. Of a key that is given twice the first values stand. The fault is that of the first setting
+/// that makes the table faulty. `Memory` may come at any place.
 pub fn varied_tables(
     alloc: Global,
     table: &Config,
-    key: &str,
-    values: &[&str],
+    variations: &[Variation],
 ) -> Result<Vec<Config>, ComparisonFault>
     ensures tables { IfOk result (λ tables.
-        AreVaried table.now key.now (map (λ value. value.now) values.now) tables.items) }
+        AreVaried table.now (settings_of (varyings_of variations.now)) tables.items) }
     ensures fault { IfErr result (SaysWhichTable
-        (IsFirstFaultyValue table.now key.now (map (λ value. value.now) values.now))) }
+        (IsFirstFaultySetting table.now (settings_of (varyings_of variations.now)))) }
 {
+    // As many as cannot be counted have no room.
+    let Some(many) = settings_in(variations) else {
+        return Err(ComparisonFault::Run(RunFault::Memory));
+    };
     let mut tables = Vec::new(alloc);
-    for place in 0..values.len() {
-        let value = value_at(values, place);
-        let setting = Setting { alloc, key, value };
-        let made = placed_table(table, setting, place)?;
+    for place in 0..many {
+        let setting = Setting {
+            alloc,
+            variations,
+            place,
+        };
+        let made = placed_table(table, setting)?;
         tables.push(made)?;
     }
     Ok(tables)
 }
 
-/// The tables that the one of an input gives with each of these values at this key, in the order of
-/// the values, and the input's arrivals, which are given for its table.
+/// The tables that the one of an input gives with each setting that these variations make, and the
+/// input's arrivals, which are given for its table.
 ///
-/// The faults are those of the word `lockstep`, in its order; then that of the first value that
+/// The faults are those of the word `lockstep`, in its order; then that of the first setting that
 /// makes the table faulty. `Memory` may come at any place.
 pub fn varied_given(
     alloc: Global,
     input: &[u8],
-    variation: Variation<'_>,
+    variations: &[Variation],
 ) -> Result<GivenTables, ComparisonFault>
-    ensures with { IfOk result (λ from. AreVariedWith input.now variation.entry.key.now
-        (map (λ value. value.now) variation.entry.values.now)
+    ensures with { IfOk result (λ from. AreVariedWith input.now (varyings_of variations.now)
         from.tables.items from.given from.arrivals) }
     ensures fits { IfOk result (λ from. FitsTable from.given from.arrivals) }
 {
     let (given, arrivals) = run_input(alloc, input)?;
-    let tables = varied_tables(alloc, &given, variation.key, variation.values)?;
+    let tables = varied_tables(alloc, &given, variations)?;
     Ok(GivenTables {
         tables,
         given,

@@ -41,7 +41,8 @@ pub fn arrival_word<'a>(alloc: Global) -> Result<Command<'a>, AllocError> {
         .after_long_help(help_texts::ARRIVALS)
         .arg(input_word(alloc))?
         .arg(task_word(alloc).required_unless_present("log")?)?
-        .arg(own_load_word(alloc)?)?;
+        .arg(own_load_word(alloc)?)?
+        .arg(offered_word(alloc))?;
     let command = with_run_words(alloc, command)?;
     with_log_words(alloc, command)?
         .arg(came_word(alloc))?
@@ -53,8 +54,8 @@ pub fn arrival_word<'a>(alloc: Global) -> Result<Command<'a>, AllocError> {
 fn own_load_word<'a>(alloc: Global) -> Result<Arg<'a>, AllocError> {
     load_word(alloc)
         .help("The work that comes, over its turns, such as 0.7")
-        .required(false)
-        .required_unless_present("log")
+        .required_unless_present("log")?
+        .required_unless_present("offered")
 }
 
 /// The options of requests and of a run, after those of tasks and loads.
@@ -62,6 +63,7 @@ pub fn with_run_words<'a>(alloc: Global, command: Command<'a>) -> Result<Command
     command
         .arg(service_word(alloc))?
         .arg(pattern_word(alloc))?
+        .arg(misses_word(alloc))?
         .arg(turns_word(alloc))?
         .arg(ticks_word(alloc))?
         .arg(seed_word(alloc))
@@ -82,7 +84,12 @@ pub fn task_word<'a>(alloc: Global) -> Arg<'a> {
 
 /// Their loads.
 pub fn load_word<'a>(alloc: Global) -> Arg<'a> {
-    some_words(alloc, "load", "LOAD").required(true)
+    some_words(alloc, "load", "LOAD")
+}
+
+/// Their loads in cores.
+pub fn offered_word<'a>(alloc: Global) -> Arg<'a> {
+    some_words(alloc, "offered", "CORES").help("The same in cores, whatever its limit, such as 1.5")
 }
 
 fn service_word<'a>(alloc: Global) -> Arg<'a> {
@@ -95,6 +102,13 @@ fn pattern_word<'a>(alloc: Global) -> Arg<'a> {
     some_words(alloc, "pattern", "PATTERN")
         .default_value("poisson")
         .help("poisson, even or bursts:N")
+}
+
+fn misses_word<'a>(alloc: Global) -> Arg<'a> {
+    some_words(alloc, "misses", "N")
+        .default_value("0")
+        .help("Cache misses that a turn of a request adds")
+        .hide_short_help(true)
 }
 
 fn turns_word<'a>(alloc: Global) -> Arg<'a> {
@@ -141,8 +155,10 @@ pub fn load_words<'a>(
         tasks: all_words(alloc, matches, "task")?,
         names: matches.get_str("names"),
         loads: all_words(alloc, matches, "load")?,
+        offered: all_words(alloc, matches, "offered")?,
         services: all_words(alloc, matches, "service")?,
         patterns: all_words(alloc, matches, "pattern")?,
+        misses: all_words(alloc, matches, "misses")?,
         timing: Timing {
             turns: number_of(matches, "turns"),
             ticks: number_of(matches, "ticks"),

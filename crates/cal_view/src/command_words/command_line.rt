@@ -1,6 +1,6 @@
 //! What the words of a command line ask for.
 
-use crate::command_words::arrival_words::{ArrivalWords, arrival_word, arrival_words};
+use crate::command_words::arrival_words::{ArrivalWords, arrival_word, arrival_words, some_words};
 use crate::command_words::count_words::{CountWords, count_words, own_came_word, with_count_words};
 use crate::command_words::help_texts;
 use crate::command_words::plan_words::{plan_asked, with_plan_words};
@@ -26,7 +26,7 @@ pub enum Job<'a> {
     /// Read an input to its end, and do this with it.
     OfInput {
         /// What is done with it.
-        asked: InputJob<'a>,
+        asked: InputJob,
     },
     /// Make arrivals for a task table.
     Arrivals {
@@ -44,7 +44,7 @@ pub enum Job<'a> {
 
 /// What is done with an input that was read to its end.
 #[derive(Clone, Copy, Debug, PartialEq, Eq)]
-pub enum InputJob<'a> {
+pub enum InputJob {
     /// Write the history that signals lead to, with the task table in front or without it.
     History {
         /// What goes in front.
@@ -65,7 +65,7 @@ pub enum InputJob<'a> {
     /// Make runs of several tables on the same arrivals, and write their numbers side by side.
     Compare {
         /// Which tables, and what is written of the runs.
-        asked: CompareWords<'a>,
+        asked: CompareWords,
     },
     /// Explain a pass of a history or of signals, or the first illegal one.
     Explain {
@@ -78,10 +78,9 @@ pub enum InputJob<'a> {
 
 /// What the words after `compare` ask for.
 #[derive(Clone, Copy, Debug, PartialEq, Eq)]
-pub struct CompareWords<'a> {
-    /// The key of a table and the values that make several tables of it, as `KEY=V1,V2`; without
-    /// it the input has the tables.
-    pub vary: Option<&'a str>,
+pub struct CompareWords {
+    /// Whether keys of one table are varied; else the input has the tables.
+    pub is_varied: bool,
     /// What is written of the runs.
     pub form: Form,
 }
@@ -108,12 +107,16 @@ pub struct Request<'a> {
     pub counting: CountWords<'a>,
     /// What tasks and clock ticks are to be called.
     pub labels: LabelWords<'a>,
+    /// Keys of the table that `compare` varies, each with its values, as `KEY=V1,V2`.
+    pub vary: Vec<&'a str>,
     /// The files of task tables that stand in front of the input.
     pub tables: Vec<&'a str>,
     /// The file of the input, or of what comes after the tables; without it the standard input.
     pub input: Option<&'a str>,
     /// The file that the answer goes to; without it the standard output.
     pub output: Option<&'a str>,
+    /// Whether it is not to be shown how far the job is.
+    pub quiet: bool,
 }
 
 /// What the words after the program's name ask for; no words are `Job::Help`.
@@ -389,7 +392,7 @@ pub fn csv_word<'a>(alloc: Global) -> Arg<'a> {
 /// A key of the table, and its values.
 pub fn vary_word<'a>(alloc: Global) -> Arg<'a> {
     let help = "Vary one table by these values at a key";
-    value_word(alloc, "vary", "KEY=V1,V2,..", help)
+    some_words(alloc, "vary", "KEY=V1,V2,..").help(help)
 }
 
 /// What a parsed command line asks for.
@@ -406,6 +409,11 @@ fn request_of<'a>(alloc: Global, matches: &ArgMatches<'a>) -> Result<Request<'a>
         Some(_) => all_words(alloc, own, "tables")?,
         None => Vec::new(alloc),
     };
+    let vary = if name == "compare" {
+        all_words(alloc, own, "vary")?
+    } else {
+        Vec::new(alloc)
+    };
     Ok(Request {
         job,
         policies: policies_asked(alloc, own)?,
@@ -415,9 +423,11 @@ fn request_of<'a>(alloc: Global, matches: &ArgMatches<'a>) -> Result<Request<'a>
             names: own.get_str("names"),
             tick: own.get_str("tick"),
         },
+        vary,
         tables,
         input: file_named(arrivals.or(own.get_str("tables")).or(own.get_str("input"))),
         output: file_named(own.get_str("output")),
+        quiet: name == "sweep" && own.get_flag("quiet"),
     })
 }
 
@@ -438,9 +448,11 @@ impl<'a> Request<'a> {
                 names: None,
                 tick: None,
             },
+            vary: Vec::new(alloc),
             tables: Vec::new(alloc),
             input: None,
             output: None,
+            quiet: false,
         }
     }
 }
@@ -461,7 +473,7 @@ fn job_of<'a>(alloc: Global, name: &str, own: &ArgMatches<'a>) -> Result<Job<'a>
 }
 
 /// What a word and its options ask for that is done with an input which is read to its end.
-fn input_job<'a>(name: &str, own: &ArgMatches<'a>) -> Result<InputJob<'a>, Mistake> {
+fn input_job(name: &str, own: &ArgMatches<'_>) -> Result<InputJob, Mistake> {
     let job = if name == "history" {
         let front = front_of(own.get_flag("table"));
         InputJob::History { front }
@@ -493,7 +505,7 @@ fn check_files(own: &ArgMatches<'_>) -> Result<(), Mistake> {
         Err(Mistake::NoArrivals)
     } else if has_arrivals && count == 0 {
         Err(Mistake::NoTable)
-    } else if count > 1 && own.get_str("vary").is_some() {
+    } else if count > 1 && own.get_strs("vary").is_some() {
         Err(Mistake::TwoTables)
     } else {
         Ok(())
@@ -518,16 +530,19 @@ pub fn all_words<'a>(
 }
 
 /// What the options of `compare` ask for.
-fn comparison_of<'a>(matches: &ArgMatches<'a>) -> Result<CompareWords<'a>, Mistake> {
-    let vary = matches.get_str("vary");
+fn comparison_of(matches: &ArgMatches<'_>) -> Result<CompareWords, Mistake> {
     let form = match number(matches, "write-input") {
         Some(table) => Form::Input(table),
         None => Form::Numbers(number_form_of(matches.get_flag("csv"))),
     };
-    match vary {
-        Some(vary) if !vary.contains('=') => Err(Mistake::NoValues),
-        _ => Ok(CompareWords { vary, form }),
+    let vary = matches.get_strs("vary").unwrap_or(&[]);
+    if vary.iter().any(|word| !word.contains('=')) {
+        return Err(Mistake::NoValues);
     }
+    Ok(CompareWords {
+        is_varied: !vary.is_empty(),
+        form,
+    })
 }
 
 /// What the options of `explain` ask for.

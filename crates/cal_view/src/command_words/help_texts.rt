@@ -294,8 +294,10 @@ columns, each after as many of its folders as tell it apart.
 With --vary the input is that of `measure`, or one table with --arrivals, and
 there is a column for each value: the table with that value at the key. Keys are
 cores, bandwidth_limit, and of task 1 task.1.kind, task.1.guaranteed,
-task.1.limit, task.1.delay and task.1.request. Write a value as in a table. To
-keep the given table among the columns, name its own value, best as the first.
+task.1.limit, task.1.delay and task.1.request; of --names a name may stand for a
+task, as in --vary memcached.limit=2,4. Write a value as in a table. To keep the
+given table among the columns, name its own value, best as the first. Several
+--vary make all combinations, at most 1000; the first key changes slowest.
 With several policies each table has a column for each of them.
 The arrivals are for the first table, or for the one that is varied. In each
 other table a request stays with its task, on the thread of the same number
@@ -306,7 +308,7 @@ With --pace, --beside, --memory or --figure the runs are like a machine:
 docs/VIEWER.md, \"Runs like a machine\".
 Exit status: 0 done, 2 rejected input, 3 memory or output was refused. A table
 that is refused, or that the arrivals do not fit, is named by its number, from
-0, or by its value.",
+0, or by its values.",
     "caladan_view compare",
     "\
 cores = 2
@@ -441,13 +443,14 @@ Output: arrivals (CSV), which `measure`, `compare` and
 `caladan_sim lockstep` read after the table; with --table an input of these.
 Pass p has the clock p times the ticks, from p = 1, with a bandwidth figure of
 0, and turn p comes half a turn later.
-A task's load is the work asked for, over the turns times its limit. Requests
-come each at a random time (poisson), as far apart as can be (even), or N at
-once (bursts:N), each to a random thread of the task. A thread gets at most one
-request before a turn: a second one comes before its next free turn. With
-several tasks give --load, --service and --pattern once, or once for each
---task, in the same order. The arrivals of a task depend on its number, its
-limit, its own options, the turns and the seed.
+A task's load is the work asked for, over the turns times its limit; with
+--offered in its place it is in cores, over the turns alone, and no more than
+the limit. Requests come each at a random time (poisson), as far apart as can be
+(even), or N at once (bursts:N), each to a random thread of the task. A thread
+gets at most one request before a turn: a second one comes before its next free
+turn. With several tasks give --load or --offered, --service, --pattern and
+--misses once, or once for each --task, in the same order. The arrivals of a
+task depend on its number, its limit, its own options, the turns and the seed.
 With --log the requests are those of a file: CSV with a header that names the
 columns time and service, in the unit of --unit, rows in order of time, and
 maybe task, a number or one of --names; else all are of --task, or of task 0. A
@@ -494,10 +497,12 @@ held. Each run is on the arrivals that `arrivals` makes with these options. Its
 numbers are those of `measure`, but that responses count from when requests
 came, also where these come at a later turn, and are of those that came in the
 turns of a window. One task has the loads; each other --task has one.
-With --vary there is a row for each value, as in `compare`, on arrivals made for
-that table; with several policies a row for each. --seeds N runs each load with
-N seeds: for each row there are three, the least, the median and the greatest of
-each column by itself.
+With --vary there is a row for each value, or for each combination of several
+--vary, as in `compare`, on arrivals made for that table; with --offered on the
+same requests for all, drawn for the greatest limit, each at its thread modulo
+the table's, and later if its turn is taken. With several policies there is a
+row for each. --seeds N runs each load with N seeds: for each row there are
+three, the least, the median and the greatest of each column by itself.
 --slo is an objective for a task: p50, p90, p99, p99.9 or max, in ticks. It is
 undecided where the request at its rank is pending for less, and missed where
 some that came before the end of the window are left out; of several seeds one
@@ -506,8 +511,9 @@ has rows. Of --names a name may stand for a task, as in --slo memcached.p99=65.
 --cheapest lists below the table, for each load, what keeps every objective:
 first what leaves the greatest share to best effort, of several seeds in the
 median.
-With --pace or --beside the runs are like a machine: docs/VIEWER.md, \"Runs like
-a machine\". Requests have no misses, so --memory and --figure shown are refused.
+With --pace, --beside, --memory or --figure the runs are like a machine:
+docs/VIEWER.md, \"Runs like a machine\". --memory and --figure shown need requests
+with misses, which --misses gives.
 Exit status: 0 done, 1 a run of the last load misses an objective, or leaves it
 undecided, 2 rejected input or a bad option, which is named, 3 memory or output
 was refused.",

@@ -34,8 +34,10 @@ fn log_word<'a>(alloc: Global) -> Result<Arg<'a>, AllocError> {
         .requires_arg("unit")?
         .requires_arg("turn")?
         .conflicts_with("load")?
+        .conflicts_with("offered")?
         .conflicts_with("service")?
         .conflicts_with("pattern")?
+        .conflicts_with("misses")?
         .conflicts_with("seed")
 }
 

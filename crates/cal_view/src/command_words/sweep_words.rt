@@ -1,7 +1,7 @@
 //! The words after `sweep`.
 
 use crate::command_words::arrival_words::{
-    load_word, load_words, some_words, task_word, with_run_words,
+    load_word, load_words, offered_word, some_words, task_word, with_run_words,
 };
 use crate::command_words::command_line::{
     all_words, csv_word, flag_word, input_word, names_word, number_form_of, output_word, tick_word,
@@ -21,7 +21,8 @@ pub fn sweep_word<'a>(alloc: Global) -> Result<Command<'a>, AllocError> {
         .after_long_help(help_texts::SWEEP)
         .arg(input_word(alloc))?
         .arg(task_word(alloc).default_value("0"))?
-        .arg(load_word(alloc).help("Rising loads, such as 0.1,0.3,..,0.9"))?;
+        .arg(own_load_word(alloc)?)?
+        .arg(offered_word(alloc))?;
     let command = with_run_words(alloc, command)?.arg(policies_word(alloc))?;
     with_more_plan_words(alloc, command)?
         .arg(vary_word(alloc))?
@@ -31,10 +32,17 @@ pub fn sweep_word<'a>(alloc: Global) -> Result<Command<'a>, AllocError> {
         .arg(seeds_word(alloc))?
         .arg(cheapest_word(alloc)?)?
         .arg(jobs_word(alloc))?
+        .arg(quiet_word(alloc))?
         .arg(csv_word(alloc))?
         .arg(names_word(alloc))?
         .arg(tick_word(alloc))?
         .arg(output_word(alloc))
+}
+
+fn own_load_word<'a>(alloc: Global) -> Result<Arg<'a>, AllocError> {
+    load_word(alloc)
+        .help("Rising loads, such as 0.1,0.3,..,0.9")
+        .required_unless_present("offered")
 }
 
 fn slo_word<'a>(alloc: Global) -> Arg<'a> {
@@ -72,6 +80,13 @@ fn jobs_word<'a>(alloc: Global) -> Arg<'a> {
         .hide_short_help(true)
 }
 
+fn quiet_word<'a>(alloc: Global) -> Arg<'a> {
+    let help = "Do not show on a terminal how many loads are done";
+    flag_word(alloc, "quiet", help)
+        .short('q')
+        .hide_short_help(true)
+}
+
 /// What the words of a parsed command line ask for. Fails only when out of memory.
 pub fn sweep_words<'a>(
     alloc: Global,
@@ -79,7 +94,7 @@ pub fn sweep_words<'a>(
 ) -> Result<SweepWords<'a>, AllocError> {
     Ok(SweepWords {
         load: load_words(alloc, matches)?,
-        vary: matches.get_str("vary"),
+        vary: all_words(alloc, matches, "vary")?,
         slo: all_words(alloc, matches, "slo")?,
         from: matches.get_str("from"),
         to: matches.get_str("to"),

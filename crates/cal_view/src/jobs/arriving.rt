@@ -16,7 +16,8 @@ use crate::jobs::arriving::unmade::Unmade;
 use crate::refusing::refuse_word;
 use cal_input::{INPUT_LIMIT, RunFault, read_input};
 use cal_load::{
-    ArrivalPlan, LoadFault, Made, TaskLoad, are_known, asked_loads, made_arrivals, word_at,
+    ArrivalPlan, LoadFault, Made, TaskLoad, are_held, are_known, asked_loads, made_arrivals,
+    word_at,
 };
 use cal_machine::Config;
 use cal_tables::table_part;
@@ -24,6 +25,7 @@ use cal_trace::{Arrivals, write_arrivals};
 use std::alloc::{AllocError, Global};
 use std::io::{Read, Write};
 use std::rt::Files;
+use std::slice;
 
 /// Arrivals that words ask for.
 #[derive(Clone, Copy)]
@@ -137,12 +139,13 @@ impl<'a> Arriving<'a> {
         let words = &self.asked.load;
         self.are_counted(config)?;
         are_known(config, loads, words.tasks.as_slice())?;
+        are_held(slice::from_ref(config), loads, words.offered.as_slice())?;
         let plan = ArrivalPlan {
             loads,
             timing: words.timing,
             seed: words.seed,
         };
-        let word = word_at(words.loads.as_slice(), 0);
+        let word = word_at(words.loads_in(plan.measure()), 0);
         Ok(made_arrivals(self.alloc, config, &plan, word)?)
     }
 

@@ -1,31 +1,28 @@
 //! The runs of an input compared.
 
-use crate::command_words::command_line::{CompareWords, Form};
-use crate::command_words::variation::{values_of, variation_of};
+use crate::command_words::command_line::Form;
 use crate::fault::RefusedRuns;
 use crate::jobs::input::JobInput;
 use cal_input::RunFault;
-use cal_tables::{ComparedInput, ComparisonFault, NumberStyle, Variation, compare, write_input};
+use cal_tables::{ComparedInput, ComparisonFault, NumberStyle, compare, write_input};
 use std::io::Write;
 
-/// Compares the runs of an input by its policies, of its tables or, with a key and values, of those
-/// that its table gives with each of them, and answers the exit status: its faults name the table or the value
-/// that has them, and why.
-pub fn answer_compare<'a, W: Write, E: Write>(
-    input: &JobInput<'a>,
-    asked: CompareWords<'a>,
+/// Compares the runs of an input by its policies, of its tables or, where keys are varied, of those that
+/// its table gives with each setting of these, and answers the exit status: its faults name the table or
+/// the setting that has them, and why.
+pub fn answer_compare<W: Write, E: Write>(
+    input: &JobInput<'_>,
+    form: Form,
     output: &mut W,
     errors: &mut E,
 ) -> Result<u8, RunFault> {
-    let values = values_of(input.alloc, asked.vary)?;
-    let variation = variation_of(asked.vary, values.as_slice());
-    match write_comparison(&*input, variation, asked.form, output) {
+    match write_comparison(input, form, output) {
         Ok(()) => Ok(0),
         Err(fault) => {
             let runs = RefusedRuns {
                 read: input.read,
                 came: input.came,
-                variation,
+                variations: input.variations,
             };
             runs.end(input.alloc, &fault, errors)
         }
@@ -33,9 +30,8 @@ pub fn answer_compare<'a, W: Write, E: Write>(
 }
 
 /// Compares the runs of an input, and writes their numbers or the input of one of them.
-fn write_comparison<'a, W: Write>(
-    input: &JobInput<'a>,
-    variation: Option<Variation<'a>>,
+fn write_comparison<W: Write>(
+    input: &JobInput<'_>,
     form: Form,
     output: &mut W,
 ) -> Result<(), ComparisonFault> {
@@ -43,7 +39,7 @@ fn write_comparison<'a, W: Write>(
     let bytes = input.bytes();
     let compared = ComparedInput {
         bytes,
-        variation,
+        variations: input.variations,
         policies: input.policies,
         plan: input.plan,
         counting: input.counting,

@@ -4,7 +4,7 @@ use crate::jobs::counting::CameText;
 use cal_came::CountAsked;
 use cal_paced::Plan;
 use cal_policy::Policy;
-use cal_tables::{Labels, MeasuredInput};
+use cal_tables::{Labels, MeasuredInput, Variation};
 use cal_why::RefusedInput;
 use std::alloc::Global;
 
@@ -16,6 +16,8 @@ pub struct JobInput<'a> {
     pub alloc: Global,
     /// The input, as it is told of where it is refused.
     pub read: RefusedInput<'a>,
+    /// The keys of its table that are varied, each with its values.
+    pub variations: &'a [Variation],
     /// The policies.
     pub policies: &'a [Policy],
     /// The plan of its runs; without it they are in lockstep.

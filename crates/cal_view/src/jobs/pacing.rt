@@ -1,13 +1,12 @@
 //! What the program says of a run by a plan.
 
 ghost use Rattle.std.specs.Prelude.{◌≡◌};
-ghost use Rattle.cal_paced.specs.Planned.{have_misses};
 
 use crate::jobs::input::JobInput;
 use cal_input::RunFault;
-use cal_paced::PaceFault;
+use cal_paced::{PaceFault, have_misses};
 use cal_tables::{ComparisonFault, PlannedFault, read_tables};
-use cal_trace::{Arrival, FaultKind, read_arrivals};
+use cal_trace::{FaultKind, read_arrivals};
 use std::alloc::Global;
 use std::io::Write;
 
@@ -76,16 +75,4 @@ fn has_no_misses(alloc: Global, input: &[u8]) -> Result<bool, RunFault> {
         Err(fault) if fault.kind == FaultKind::Memory => Err(RunFault::Memory),
         Err(_) => Ok(false),
     }
-}
-
-/// Whether some request has misses.
-fn have_misses(requests: &[Arrival]) -> bool
-    ensures { result ≡ have_misses requests.now }
-{
-    for arrival in requests {
-        if arrival.request.misses != 0 {
-            return true;
-        }
-    }
-    false
 }

@@ -1,17 +1,20 @@
 //! The runs of a table at one load after the other.
 
-use crate::command_words::variation::{values_of, variation_of};
+use crate::edge::progress::Progress;
 use crate::fault::RefusedRuns;
 use crate::jobs::naming::refuse_other_count;
-use crate::jobs::pacing::refuse_no_misses;
+use crate::jobs::pacing::{refuse_no_misses, refuse_plan};
 use crate::refusing::{refuse_word, table_alone};
 use cal_input::{RunFault, read_input};
+use cal_load::TaskLoad;
+use cal_paced::{Figure, PaceFault};
 use cal_policy::Policy;
-use cal_sweep::{SweepFault, SweepJob, SweepNames, SweepWords, answer_sweep, asked_of};
+use cal_sweep::{Asked, SweepFault, SweepJob, SweepNames, SweepWords, answer_sweep, asked_of};
 use cal_tables::{Labels, Variation};
 use std::alloc::Global;
-use std::io::{Read, Write};
+use std::io::{Eprint, Read, Write};
 use std::thread::Threads;
+use std::time::Clock;
 
 /// A sweep that words ask for.
 #[derive(Clone, Copy)]
@@ -24,12 +27,14 @@ pub struct Sweeping<'a> {
     pub policies: &'a [Policy],
     /// What tasks and clock ticks are called.
     pub labels: Labels<'a>,
+    /// Whether it is shown how far it is.
+    pub is_shown: bool,
 }
 
 impl Sweeping<'_> {
     /// Makes the runs of an input, and answers the exit status: 1 where the last load misses the
     /// objective, 2 where a word is refused, of which one line then says why.
-    pub fn answer<H: Threads + Sync, R: Read + Drop, W: Write, E: Write>(
+    pub fn answer<H: Clock + Eprint + Threads + Sync, R: Read + Drop, W: Write, E: Write>(
         &self,
         rt: &H,
         mut reader: R,
@@ -39,36 +44,42 @@ impl Sweeping<'_> {
         // Words that need no table are refused before anything is read.
         let asked = match asked_of(self.alloc, self.words) {
             Ok(asked) => asked,
-            Err(fault) => return self.refuse(b"", None, fault, errors),
+            Err(fault) => return self.refuse(b"", &[], fault, errors),
         };
-        if self.bounds_misses() {
-            return Ok(refuse_no_misses(errors));
+        if have_no_misses(asked.tasks.as_slice()) {
+            if let Some(status) = self.refuse_without_misses(errors) {
+                return Ok(status);
+            }
         }
         let input = read_input(self.alloc, &mut reader)?;
         let input = input.as_slice();
-        let values = values_of(self.alloc, self.words.vary)?;
-        let variation = variation_of(self.words.vary, values.as_slice());
+        let variations = asked.variations.as_slice();
         let job = SweepJob {
             alloc: self.alloc,
             input,
             asked: &asked,
             names: SweepNames {
-                variation,
+                variations,
                 policies: self.policies,
                 labels: self.labels,
             },
         };
-        match answer_sweep(rt, &job, output, errors) {
+        let progress = Progress::new(rt, self.points(&asked), self.is_shown);
+        match answer_sweep(rt, &progress, &job, output, errors) {
             Ok(ended) => Ok(ended.status),
-            Err(fault) => self.refuse(input, variation, fault, errors),
+            Err(fault) => self.refuse(input, variations, fault, errors),
         }
     }
 
-    /// Whether the plan says what misses memory bears. Requests that are made have none.
-    fn bounds_misses(&self) -> bool {
-        match self.words.plan {
-            Some(plan) => plan.memory.is_some(),
-            None => false,
+    /// Says that the plan needs requests with misses, where it does, and answers the exit status, 2.
+    fn refuse_without_misses<E: Write>(&self, errors: &mut E) -> Option<u8> {
+        let plan = self.words.plan?;
+        if plan.memory.is_some() {
+            Some(refuse_no_misses(errors))
+        } else if plan.figure == Figure::Shown {
+            Some(refuse_plan(PaceFault::NoMisses, errors))
+        } else {
+            None
         }
     }
 
@@ -77,7 +88,7 @@ impl Sweeping<'_> {
     fn refuse<'x, E: Write>(
         &self,
         input: &'x [u8],
-        variation: Option<Variation<'x>>,
+        variations: &'x [Variation],
         fault: SweepFault<'_>,
         errors: &mut E,
     ) -> Result<u8, RunFault> {
@@ -89,10 +100,21 @@ impl Sweeping<'_> {
                 RefusedRuns {
                     read,
                     came: None,
-                    variation,
+                    variations,
                 }
                 .end(self.alloc, &fault, errors)
             }
         }
     }
+
+    /// How many loads with their seeds there are, of all policies.
+    fn points(&self, asked: &Asked<'_>) -> u64 {
+        let of_policy = (asked.loads.len() as u64).saturating_mul(asked.seeds);
+        of_policy.saturating_mul(self.policies.len() as u64)
+    }
+}
+
+/// Whether no request of these loads has misses.
+fn have_no_misses(loads: &[TaskLoad]) -> bool {
+    loads.iter().all(|load| load.misses == 0)
 }

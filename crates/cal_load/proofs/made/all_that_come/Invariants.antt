@@ -1,5 +1,9 @@
+use Rattle.cal_load.specs.Drawn.{AreDealtOf}
 use Rattle.cal_load.specs.Made.{AreGathered}
 use Rattle.cal_load.proofs.made.all_that_come.Given as goal
 
 abbrev pub invariant-loop-task : goal.invariant-loop-task
-invariant-loop-task l = AreGathered l.config l.plan.loads.now l.turns l.task l.gathered
+invariant-loop-task l = record {
+  gathered : AreGathered l.config l.plan.loads.now l.turns l.task l.gathered;
+  dealt : AreDealtOf l.config l.plan.loads.now l.drawn l.turns l.task l.gathered;
+}

@@ -12,7 +12,7 @@ use Rattle.cal_load.proofs.requests.put_queue.Goals as goal
 pub loop-place-init : goal.loop-place-init
 loop-place-init c = record {
   built = λ threads turns b below queue. b;
-  own = record { own = []; more = sym (append-nil c.args.requests.now.items); each = each_none (λ a. (c.args.thread ≤ a.thread) × (a.thread < c.args.thread + 1)) };
+  own = record { own = []; more = sym (append-nil c.args.requests.now.items); each = each_none (λ a. (c.args.thread ≤ a.thread) × (a.thread < c.args.thread + 1)); missed = each_none (λ a. a.request.misses ≡ c.args.misses) };
   many = omega arith;
   told = λ k. none_yet k c.args.thread c.args.requests.now.items;
 }
@@ -38,13 +38,14 @@ loop-place-preserved c =
     let more : new ≡ old ++ arrival ∷ [] = c.in_ok-push.ensures.items in
     let of_thread = ap (λ (a : Arrival). a.thread) c.arrival_of.ensures.is in
     let id = ap (λ (a : Arrival). a.request.id) c.arrival_of.ensures.is in
+    let missed = ap (λ (a : Arrival). a.request.misses) c.arrival_of.ensures.is in
     let count = c.len.ensures in
     record {
       built = λ threads turns b below queue.
           put_more threads turns thread i slots c.as_slice-slots.result.now _ old new arrival same lt below queue.each queue.rising of_thread
-          (ap (λ (a : Arrival). a.turn) c.arrival_of.ensures.is) (ap (λ (a : Arrival). a.request.work) c.arrival_of.ensures.is) (ap (λ (a : Arrival). a.request.misses) c.arrival_of.ensures.is)
+          (ap (λ (a : Arrival). a.turn) c.arrival_of.ensures.is) (ap (λ (a : Arrival). a.request.work) c.arrival_of.ensures.is) (let few = c.arrival_of.ensures.few in omega (arith, missed, few))
           (omega (arith, id, count)) (let word = c.arrival_of.ensures.word in omega (arith, id, word)) more (c.loop-place.invariant.built threads turns b below queue);
-      own = more_push thread (thread + 1) c.args.requests.now.items old new arrival c.loop-place.invariant.own more (omega (arith, of_thread)) (omega (arith, of_thread));
+      own = more_push thread (thread + 1) c.args.misses c.args.requests.now.items old new arrival c.loop-place.invariant.own more (omega (arith, of_thread)) (omega (arith, of_thread)) missed;
       told = λ k.
           on_more k thread i slots c.as_slice-slots.result.now _ c.args.requests.now.items old new arrival same lt of_thread (ap (λ (a : Arrival). a.turn) c.arrival_of.ensures.is)
           (ap (λ (a : Arrival). a.request.work) c.arrival_of.ensures.is) more (c.loop-place.invariant.told k);

@@ -11,7 +11,7 @@ abbrev pub invariant-loop-place : goal.invariant-loop-place
 invariant-loop-place l = record {
   built : (threads turns : ℕ) → AreBuilt threads turns l.thread l.initial.requests.items → l.thread < threads → IsQueue turns l.queue
       → AreBuiltTo threads turns l.thread (end_of (take l.place l.queue.slots.items)) l.requests.items;
-  own : HasMoreFor l.thread (l.thread + 1) l.initial.requests.items l.requests.items;
+  own : HasMoreFor l.thread (l.thread + 1) l.misses l.initial.requests.items l.requests.items;
   many : length l.requests.items ≡ length l.initial.requests.items + l.place;
   told : (k : ℕ) → all_on k l.requests.items ≡ all_on k l.initial.requests.items ++ taken_of k l.thread (take l.place l.queue.slots.items);
 }

@@ -23,8 +23,8 @@ loop-place-preserved c =
           let of = subst (λ (q : Queue). IsQueue turns q) (sym is) (All-get_or (IsQueue turns) queues i queue lt all) in
           subst (λ (n : ℕ). AreBuilt threads turns n new) next
           (c.in_ok-put_queue.ensures.put threads turns (c.loop-place.invariant.built threads turns b below all) (omega (arith, lt, below)) of);
-      own = more_on first (first + i) (first + (i + 1)) c.args.requests.now.items c.loop-place.requests.items new c.loop-place.invariant.own
-          (subst (λ (n : ℕ). HasMoreFor (first + i) n c.loop-place.requests.items new) next c.in_ok-put_queue.ensures.own) (omega arith) (omega arith);
+      own = more_on first (first + i) (first + (i + 1)) c.args.misses c.args.requests.now.items c.loop-place.requests.items new c.loop-place.invariant.own
+          (subst (λ (n : ℕ). HasMoreFor (first + i) n c.args.misses c.loop-place.requests.items new) next c.in_ok-put_queue.ensures.own) (omega arith) (omega arith);
       told = on_next first i queues queue c.args.requests.now.items c.loop-place.requests.items new lt is c.in_ok-put_queue.ensures.told c.loop-place.invariant.told c.loop-place.invariant.others;
       others = none_next first i queue c.args.requests.now.items c.loop-place.requests.items new c.in_ok-put_queue.ensures.told c.loop-place.invariant.others;
       many =

@@ -9,7 +9,7 @@ abbrev pub invariant-loop-place : goal.invariant-loop-place
 invariant-loop-place l = record {
   built : (threads turns : ℕ) → AreBuilt threads turns l.first l.initial.requests.items → l.first + length l.queues ≤ threads → All (IsQueue turns) l.queues
       → AreBuilt threads turns (l.first + l.place) l.requests.items;
-  own : HasMoreFor l.first (l.first + l.place) l.initial.requests.items l.requests.items;
+  own : HasMoreFor l.first (l.first + l.place) l.misses l.initial.requests.items l.requests.items;
   many : length l.requests.items ≡ length l.initial.requests.items + slots_in (take l.place l.queues);
   told : (j : ℕ) (queue : Queue) → j < l.place → slice_get l.queues j ≡ Some queue
       → all_on (l.first + j) l.requests.items ≡ all_on (l.first + j) l.initial.requests.items ++ map taken_by queue.slots.items;

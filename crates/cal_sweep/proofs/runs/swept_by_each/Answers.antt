@@ -1,6 +1,7 @@
 use Rattle.std.proofs.Common.{◌≡◌, ◌++◌, ◌∷◌, [], List, length, length-append, ap, sym, subst, arith}
 use Rattle.cal_policy.specs.declared.policy.Policy.{Policy}
-use Rattle.cal_sweep.specs.Sweeps.{IsSweep, varying_of}
+use Rattle.cal_sweep.specs.Sweeps.{IsSweep}
+use Rattle.cal_tables.specs.Settings.{varyings_of}
 use Rattle.cal_sweep.specs.declared.runs.Sweep.{Sweep}
 use Rattle.cal_tables.proofs.Columns.{EachIsOf, one_more}
 use Rattle.cal_sweep.proofs.runs.swept_by_each.Goals as goal
@@ -12,7 +13,7 @@ loop-place-preserved g c =
     let i = c.loop-place.place in
     let before : List Sweep = c.loop-place.sweeps.items in
     let now : Sweep = c.in_ok-sweep.sweep in
-    let Is : Policy → Sweep → Type 0 = λ policy sweep. IsSweep job.input.now (varying_of job.names.variation) policy job.asked.now sweep.tables.items sweep.loads.items in
+    let Is : Policy → Sweep → Type 0 = λ policy sweep. IsSweep job.input.now (varyings_of job.names.variations.now) policy job.asked.now sweep.tables.items sweep.loads.items in
     let more : c.push.new.self.items ≡ before ++ now ∷ [] = c.in_ok-push.ensures.items in
     let many : length before ≡ i = c.loop-place.invariant.many in
     record {

@@ -18,5 +18,7 @@ loop-place-preserved c =
     ] in
     record {
       same = rw c.in_ok-push.ensures.items (one_same_more (λ (of_task : TaskLoad). of_task.task) xs c.loop-place.tasks.items i one _ lt is refl c.loop-place.invariant.same);
+      measures = rw c.in_ok-push.ensures.items (one_same_more (λ (of_task : TaskLoad). of_task.measure) xs c.loop-place.tasks.items i one _ lt is refl c.loop-place.invariant.measures);
+      misses = rw c.in_ok-push.ensures.items (one_same_more (λ (of_task : TaskLoad). of_task.misses) xs c.loop-place.tasks.items i one _ lt is refl c.loop-place.invariant.misses);
       loads = rw c.in_ok-push.ensures.items (one_number_more (λ (of_task : TaskLoad). of_task.load) xs c.loop-place.tasks.items i one _ lt is (load_at c.args.self.now.place c.args.load) said c.loop-place.invariant.loads);
     }

@@ -1,12 +1,12 @@
 use Rattle.std.proofs.Common.{◌++◌, ℕ, List, codes, decimal, string_bytes, ap, ◌∙◌}
 use Rattle.cal_tables.specs.TableText.{kind_text}
-use Rattle.cal_tables.specs.Writing.{varied_line}
+use Rattle.cal_tables.specs.Writing.{values_in, varied_line}
 use Rattle.cal_tables.proofs.Joined.{six}
 use Rattle.cal_tables.proofs.comparing.varying.Setting.put_task.Goals as goal
 
 pub returns : goal.returns
 returns c =
-    let line : List ℕ → List ℕ → List ℕ = λ name own. varied_line c.args.self.key.now c.args.self.value.now c.args.number name own in
+    let line : List ℕ → List ℕ → List ℕ = λ name own. varied_line (values_in c.args.self) c.args.number name own in
     let delay : List ℕ = line (codes "delay") (decimal c.args.task.delay) in
     let guaranteed : List ℕ = line (codes "guaranteed") (decimal c.args.task.guaranteed) in
     let kind : List ℕ = line (codes "kind") (kind_text c.args.task.kind) in

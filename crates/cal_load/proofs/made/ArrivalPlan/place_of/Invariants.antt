@@ -1,0 +1,7 @@
+use Rattle.std.proofs.Common.{◌≢◌, take}
+use Rattle.cal_trace.specs.History.Ranges.{Each}
+use Rattle.cal_load.proofs.made.ArrivalPlan.place_of.Given as goal
+
+-- none of those that were passed
+abbrev pub invariant-loop-place : goal.invariant-loop-place
+invariant-loop-place l = Each (λ load. load.task ≢ l.task) (take l.place l.self.loads.now)
