@@ -2,8 +2,10 @@
 use Rattle.std.specs.Prelude.{◌≡◌, ℕ, List, [], ◌∷◌, length, false, Option, Some, None, Ok}
 use Rattle.std.specs.Prelude.{slice_get}
 use Rattle.cal_came.specs.Asked.{is_asked, IsCountedAs}
+use Rattle.cal_came.specs.Counting.{as_given}
 use Rattle.cal_came.specs.declared.asked.CountAsked.{CountAsked}
 use Rattle.cal_came.specs.declared.asked.CountedRequests.{CountedRequests}
+use Rattle.cal_came.specs.declared.counted.Counted.{Counted}
 use Rattle.cal_input.specs.Input.{input_parts}
 use Rattle.cal_machine.specs.Reading.{table_in}
 use Rattle.cal_machine.specs.Table.{Table}
@@ -12,7 +14,7 @@ use Rattle.cal_trace.specs.Arrivals.{arrivals_of}
 use Rattle.cal_trace.specs.Rows.{rows_of}
 use Rattle.cal_trace.specs.declared.arrivals.Arrivals.{Arrivals}
 use Rattle.cal_tables.specs.Moved.{AreMoved}
-use Rattle.cal_tables.specs.Planned.{IsCountedBy, IsMeasuredBy}
+use Rattle.cal_tables.specs.Planned.{IsCountedBy}
 use Rattle.cal_tables.specs.declared.comparing.RunTerms.{RunTerms}
 use Rattle.cal_tables.specs.declared.measuring.RunNumbers.{RunNumbers}
 
@@ -62,13 +64,15 @@ abbrev pub AreCountedFor : CountAsked → Table → Arrivals → Option CountedR
 AreCountedFor asked table arrivals None = is_asked asked ≡ false
 AreCountedFor asked table arrivals (Some told) = IsCountedAs asked table arrivals told
 
--- these are the numbers of a run on these terms, whose requests count so or, where nothing is told of
--- that, each from the clock of its turn
-abbrev pub IsToldBy : RunTerms → Option CountedRequests → Table → Arrivals → RunNumbers → Type 0
-IsToldBy terms None table arrivals numbers =
-    IsMeasuredBy terms.plan terms.policy table arrivals numbers
-IsToldBy terms (Some told) table arrivals numbers =
-    IsCountedBy terms.plan terms.policy table arrivals told.counted numbers
+-- from when they count: as is asked for, or each from the clock of the turn that it was given for
+abbrev pub counted_of : Arrivals → Option CountedRequests → Counted
+counted_of arrivals None = as_given arrivals
+counted_of arrivals (Some told) = told.counted
+
+-- these are the numbers of a run on these terms, whose requests count so
+abbrev pub IsToldBy : RunTerms → Counted → Table → Arrivals → RunNumbers → Type 0
+IsToldBy terms counted table arrivals numbers =
+    IsCountedBy terms.plan terms.policy table arrivals counted numbers
 
 -- the numbers of each table's run on these terms on arrivals that were given for one of them, as the
 -- table gets them
@@ -76,7 +80,7 @@ pub record AreRunsOn (terms : RunTerms) (given : Table) (arrivals : Arrivals)
     (tables : List Table) (runs : List RunNumbers) : Type 0 where
   pub told : Option CountedRequests
   pub counted : AreCountedFor terms.counting given arrivals told
-  pub are : AreOfTables (IsToldBy terms told) given arrivals tables runs
+  pub are : AreOfTables (IsToldBy terms (counted_of arrivals told)) given arrivals tables runs
 
 -- the tables of an input, and the numbers of each one's run on these terms on the input's arrivals, as
 -- the table gets them

@@ -2,16 +2,18 @@
 use Rattle.std.specs.Prelude.{◌≡◌, ◌≢◌, ℕ, true, All, AllPairs, List, [], ◌∷◌, map, Ok, Err, Result}
 use Rattle.std.specs.Prelude.{bytes_eq, if◌then◌else◌}
 use Rattle.std.specs.List.{AllZip, Contains}
+use Rattle.std.specs.List.Sorted.{IsPermutation}
 use Rattle.cal_machine.specs.Reading.{table_in}
 use Rattle.cal_machine.specs.Table.{Table, IsTable}
 use Rattle.cal_machine.specs.declared.task.Task.{Task}
-use Rattle.cal_tables.specs.Moved.{AreMoved}
+use Rattle.cal_tables.specs.Moved.{AreMoved, each_moved}
 use Rattle.cal_tables.specs.TableText.{Line, lines_of, text_of_lines}
 use Rattle.cal_machine.specs.declared.fault.ConfigFault.{ConfigFault}
 use Rattle.cal_machine.specs.declared.fault.ConfigFault.TheVariants.{UnknownKey}
 use Rattle.cal_tables.specs.Settings.{KeyValue, Varying, settings_of, with_key}
 use Rattle.cal_tables.specs.Varied.{has_key, has_keys, varied, varied_lines, with_values}
-use Rattle.cal_trace.specs.Arrivals.FitsTable.{FitsTable}
+use Rattle.cal_trace.specs.Arrivals.FitsTable.{EachLater, FitsTable}
+use Rattle.cal_trace.specs.declared.arrivals.Arrival.{Arrival}
 use Rattle.cal_trace.specs.declared.arrivals.Arrivals.{Arrivals}
 
 -- a table's text is read as that table
@@ -92,3 +94,14 @@ abbrev pub SameLimitsMoveNothing : Type 0
 SameLimitsMoveNothing = (given table : Table) (arrivals moved : Arrivals) →
     limits_of given.tasks ≡ limits_of table.tasks → FitsTable given arrivals →
     AreMoved given table arrivals moved → moved ≡ arrivals
+
+-- two requests are not for one thread before one turn
+abbrev pub AreNotAtOnce : Arrival → Arrival → Type 0
+AreNotAtOnce one other = one.thread ≡ other.thread → one.turn ≡ other.turn → ⊥
+
+-- where no two requests are for one thread before one turn each stays before its own
+abbrev pub NoneWaitsWhereNoneMeet : Type 0
+NoneWaitsWhereNoneMeet = (given table : Table) (arrivals moved : Arrivals) →
+    FitsTable given arrivals → EachLater AreNotAtOnce (each_moved given table arrivals) →
+    AreMoved given table arrivals moved →
+    IsPermutation (each_moved given table arrivals) moved.requests

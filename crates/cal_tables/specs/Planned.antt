@@ -1,6 +1,5 @@
 -- Runs by a plan, measured, and why there are none.
 use Rattle.std.specs.Prelude.{◌≡◌, ⊤, List, Option, Some, None, Result, Ok, Err}
-use Rattle.cal_came.specs.Counting.{as_given}
 use Rattle.cal_came.specs.declared.counted.Counted.{Counted}
 use Rattle.cal_input.specs.Answers.{Decided, Failed}
 use Rattle.cal_input.specs.declared.fault.RunFault.TheVariants.{Memory, Write}
@@ -42,11 +41,6 @@ IsCountedBy None policy table arrivals counted numbers =
     IsCountedRun policy table arrivals counted numbers
 IsCountedBy (Some plan) policy table arrivals counted numbers =
     IsCountedPaced plan policy table arrivals counted numbers
-
--- and where each request counts from the clock of its turn
-abbrev pub IsMeasuredBy : Option Plan → Policy → Table → Arrivals → RunNumbers → Type 0
-IsMeasuredBy plan policy table arrivals numbers =
-    IsCountedBy plan policy table arrivals (as_given arrivals) numbers
 
 -- what a run on these arrivals is given: by a plan, paced arrivals; in lockstep, the same
 abbrev pub ArePlannedBy : Option Plan → Arrivals → Arrivals → Type 0

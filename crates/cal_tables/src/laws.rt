@@ -1,7 +1,8 @@
 //! Laws of variations and of the arrivals that tables get, each the contract of a function that
 //! does nothing.
 
-ghost use Rattle.cal_tables.specs.Laws.{OneKeyIsVaried, OwnValueGivesTheTable};
+ghost use Rattle.cal_tables.specs.Laws.{NoneWaitsWhereNoneMeet, OneKeyIsVaried};
+ghost use Rattle.cal_tables.specs.Laws.{OwnValueGivesTheTable};
 ghost use Rattle.cal_tables.specs.Laws.{SameLimitsMoveNothing, SettingsStandAtTheirKeys};
 ghost use Rattle.cal_tables.specs.Laws.{TableTextIsReadBack, VariedDiffersAtItsKeys};
 
@@ -36,4 +37,10 @@ pub fn settings_stand_at_their_keys()
 /// A table whose tasks have the limits of those that arrivals were given for gets them as they are.
 pub fn same_limits_move_nothing()
     ensures { SameLimitsMoveNothing }
+{}
+
+/// Where no two requests are for one thread of the table before one turn each comes before the turn that
+/// it was given for.
+pub fn none_waits_where_none_meet()
+    ensures { NoneWaitsWhereNoneMeet }
 {}

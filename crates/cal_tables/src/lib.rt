@@ -40,8 +40,9 @@ pub use figures::{Figure, Rank, Unit, count, number, share, time_in};
 pub use joining::{front_of_table, table_part};
 pub use labels::{Labels, letters};
 pub use laws::{
-    one_key_is_varied, own_value_gives_the_table, same_limits_move_nothing,
-    settings_stand_at_their_keys, table_text_is_read_back, varied_differs_at_its_keys,
+    none_waits_where_none_meet, one_key_is_varied, own_value_gives_the_table,
+    same_limits_move_nothing, settings_stand_at_their_keys, table_text_is_read_back,
+    varied_differs_at_its_keys,
 };
 pub use measuring::{MeasuredInput, RunNumbers, counted_run, measure, measured_run};
 pub use planned::{PlannedFault, collected_by, counted_by, planned_for};

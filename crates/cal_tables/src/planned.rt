@@ -8,11 +8,11 @@ ghost use Rattle.cal_machine.specs.Table.{Table};
 ghost use Rattle.cal_machine.specs.TableTasks.{threads_of_table};
 ghost use Rattle.cal_tables.specs.Planned.{AreGivenBy, ArePlannedBy, IsCollectedBy};
 ghost use Rattle.cal_tables.specs.Planned.{IsFaultBy, IsFaultOfPlan};
-ghost use Rattle.cal_tables.specs.Planned.{IsCountedBy, IsCountedPaced, IsMeasuredBy};
+ghost use Rattle.cal_tables.specs.Planned.{IsCountedBy, IsCountedPaced};
 
 use crate::collecting::OpenNumbers;
 use crate::measuring::{RunNumbers, counted_run, numbers_of_run};
-use cal_came::{Counted, counted_as_given};
+use cal_came::Counted;
 use cal_input::RunFault;
 use cal_kthread::RequestList;
 use cal_machine::{Config, Listed};
@@ -175,20 +175,4 @@ pub fn counted_by(
         Some(plan) => counted_paced(alloc, config, policy, &plan, arrivals, counted),
         None => Ok(counted_run(alloc, config, policy, &arrivals, counted)?),
     }
-}
-
-/// The same of all requests, each from the clock of its turn.
-pub(crate) fn measured_by(
-    alloc: Global,
-    config: &Config,
-    policy: Policy,
-    plan: Option<Plan>,
-    arrivals: Arrivals,
-) -> Result<RunNumbers, PlannedFault>
-    requires fits { FitsTable config.now arrivals }
-    ensures numbers { IfOk result (IsMeasuredBy plan policy config.now arrivals) }
-    ensures fault { IfErr result (IsFaultBy plan arrivals) }
-{
-    let counted = counted_as_given(alloc, &arrivals)?;
-    counted_by(alloc, config, policy, plan, arrivals, &counted)
 }

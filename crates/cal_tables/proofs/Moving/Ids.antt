@@ -1,4 +1,4 @@
--- Each id stands once among requests, in whichever order they are.
+-- Requests that differ by a number of theirs, as their ids do, in whichever order they are.
 use Rattle.std.proofs.Common.{◌≡◌, ◌==◌, ◌<◌, ◌≤◌, ◌+◌, ◌∙◌, ◌⊎◌, inl, inr, ℕ, zero, suc, Bool, true, false, cond, List, [], ◌∷◌, length, map, Some, slice_get, get_or, refl, sym, ap, arith, subst}
 use Rattle.std.specs.List.{sum_by}
 use Rattle.std.specs.List.Sorted.{IsPermutation}
@@ -10,65 +10,74 @@ use Rattle.cal_machine.proofs.Last.{some_same}
 use Rattle.cal_trace.specs.Arrivals.FitsTable.{EachLater, HaveTwoIds}
 use Rattle.cal_trace.specs.declared.arrivals.Arrival.{Arrival}
 
--- 1 for a request of this id
-abbrev one_of : ℕ → Arrival → ℕ
-one_of id arrival = cond (arrival.request.id == id) 1 0
+-- two requests differ by this number
+abbrev pub Differ : (Arrival → ℕ) → Arrival → Arrival → Type 0
+Differ n a b = n a ≡ n b → ⊥
 
--- how many requests have this id
-abbrev with_id : ℕ → List Arrival → ℕ
-with_id id xs = sum_by (one_of id) xs
+module _ (n : Arrival → ℕ) where
+  -- 1 for a request with this number
+  abbrev one_of : ℕ → Arrival → ℕ
+  one_of m arrival = cond (n arrival == m) 1 0
 
-is_one : (id : ℕ) (x : Arrival) → x.request.id ≡ id → one_of id x ≡ 1
-is_one id x e = ap (λ (b : Bool). cond b 1 0) (eq-eqb x.request.id id e)
+  -- how many requests have it
+  abbrev with_it : ℕ → List Arrival → ℕ
+  with_it m xs = sum_by (one_of m) xs
 
-is_none : (id : ℕ) (x : Arrival) → (x.request.id ≡ id → ⊥) → one_of id x ≡ 0
-is_none id x ne = ap (λ (b : Bool). cond b 1 0) (ne_eqb x.request.id id ne)
+  is_one : (m : ℕ) (x : Arrival) → n x ≡ m → one_of m x ≡ 1
+  is_one m x e = ap (λ (b : Bool). cond b 1 0) (eq-eqb (n x) m e)
 
-none_with : (id : ℕ) (xs : List Arrival) → ((k : ℕ) (x : Arrival) → slice_get xs k ≡ Some x → x.request.id ≡ id → ⊥) → with_id id xs ≡ 0
-none_with id [] h = refl
-none_with id (x ∷ xs) h =
-    let first : one_of id x ≡ 0 = is_none id x (h 0 x refl) in
-    let others = none_with id xs (λ k y e. h (suc k) y e) in
-    omega (arith, sum_by-cons (one_of id) x xs, first, others)
+  is_none : (m : ℕ) (x : Arrival) → (n x ≡ m → ⊥) → one_of m x ≡ 0
+  is_none m x ne = ap (λ (b : Bool). cond b 1 0) (ne_eqb (n x) m ne)
 
-at_most_one : (id : ℕ) (xs : List Arrival) → EachLater HaveTwoIds xs → with_id id xs ≤ 1
-at_most_one id [] h = omega arith
-at_most_one id (x ∷ xs) h = go (at_most_one id xs (record { at = λ i j y z lt e f. h.at (suc i) (suc j) y z (omega (arith, lt)) e f })) (cases_eq x.request.id id)
-  where
-    go : with_id id xs ≤ 1 → (x.request.id ≡ id) ⊎ (x.request.id ≡ id → ⊥) → with_id id (x ∷ xs) ≤ 1
-    go few (inl e) =
-        let first : one_of id x ≡ 1 = is_one id x e in
-        let others : with_id id xs ≡ 0 = none_with id xs (λ k y f same. h.at 0 (suc k) x y (omega arith) refl f (e ∙ sym same)) in
-        omega (arith, sum_by-cons (one_of id) x xs, first, others)
-    go few (inr ne) =
-        let first : one_of id x ≡ 0 = is_none id x ne in
-        omega (arith, sum_by-cons (one_of id) x xs, first, few)
+  none_with : (m : ℕ) (xs : List Arrival) → ((k : ℕ) (x : Arrival) → slice_get xs k ≡ Some x → n x ≡ m → ⊥) → with_it m xs ≡ 0
+  none_with m [] h = refl
+  none_with m (x ∷ xs) h =
+      let first : one_of m x ≡ 0 = is_none m x (h 0 x refl) in
+      let others = none_with m xs (λ k y e. h (suc k) y e) in
+      omega (arith, sum_by-cons (one_of m) x xs, first, others)
 
-some_with : (id : ℕ) (xs : List Arrival) (j : ℕ) (y : Arrival) → slice_get xs j ≡ Some y → y.request.id ≡ id → 1 ≤ with_id id xs
-some_with id xs j y e same =
-    let there : get_or xs j y ≡ y = get_or_from_slice_get xs j y y e in
-    let one : one_of id (get_or xs j y) ≡ 1 = ap (one_of id) there ∙ is_one id y same in
-    omega (arith, one, get_or-le-sum_by (one_of id) xs j y (slice_get_within xs j y e))
+  at_most_one : (m : ℕ) (xs : List Arrival) → EachLater (Differ n) xs → with_it m xs ≤ 1
+  at_most_one m [] h = omega arith
+  at_most_one m (x ∷ xs) h = go (at_most_one m xs (record { at = λ i j y z lt e f. h.at (suc i) (suc j) y z (omega (arith, lt)) e f })) (cases_eq (n x) m)
+    where
+      go : with_it m xs ≤ 1 → (n x ≡ m) ⊎ (n x ≡ m → ⊥) → with_it m (x ∷ xs) ≤ 1
+      go few (inl e) =
+          let first : one_of m x ≡ 1 = is_one m x e in
+          let others : with_it m xs ≡ 0 = none_with m xs (λ k y f same. h.at 0 (suc k) x y (omega arith) refl f (e ∙ sym same)) in
+          omega (arith, sum_by-cons (one_of m) x xs, first, others)
+      go few (inr ne) =
+          let first : one_of m x ≡ 0 = is_none m x ne in
+          omega (arith, sum_by-cons (one_of m) x xs, first, few)
 
-two_with : (id : ℕ) (xs : List Arrival) (i j : ℕ) (x y : Arrival) → i < j → slice_get xs i ≡ Some x → slice_get xs j ≡ Some y
-    → x.request.id ≡ id → y.request.id ≡ id → 2 ≤ with_id id xs
-two_with id [] i j x y lt e f one other = absurd (cc)
-two_with id (z ∷ xs) i zero x y lt e f one other = absurd (omega (arith, lt))
-two_with id (z ∷ xs) zero (suc j) x y lt e f one other =
-    let first : one_of id z ≡ 1 = is_one id z (ap (λ (a : Arrival). a.request.id) (some_same z x e) ∙ one) in
-    let others = some_with id xs j y f other in
-    omega (arith, sum_by-cons (one_of id) z xs, first, others)
-two_with id (z ∷ xs) (suc i) (suc j) x y lt e f one other =
-    let others = two_with id xs i j x y (omega (arith, lt)) e f one other in
-    omega (arith, sum_by-cons (one_of id) z xs, others)
+  some_with : (m : ℕ) (xs : List Arrival) (j : ℕ) (y : Arrival) → slice_get xs j ≡ Some y → n y ≡ m → 1 ≤ with_it m xs
+  some_with m xs j y e same =
+      let there : get_or xs j y ≡ y = get_or_from_slice_get xs j y y e in
+      let one : one_of m (get_or xs j y) ≡ 1 = ap (one_of m) there ∙ is_one m y same in
+      omega (arith, one, get_or-le-sum_by (one_of m) xs j y (slice_get_within xs j y e))
 
--- in another order
-pub ids_reordered : (xs ys : List Arrival) → IsPermutation xs ys → EachLater HaveTwoIds xs → EachLater HaveTwoIds ys
-ids_reordered xs ys order once = record {
-  at = λ i j x y lt e f same.
-      let two = two_with y.request.id ys i j x y lt e f same refl in
-      absurd (omega (arith, two, sum_by-IsPermutation (one_of y.request.id) xs ys order, at_most_one y.request.id xs once));
-}
+  two_with : (m : ℕ) (xs : List Arrival) (i j : ℕ) (x y : Arrival) → i < j → slice_get xs i ≡ Some x → slice_get xs j ≡ Some y
+      → n x ≡ m → n y ≡ m → 2 ≤ with_it m xs
+  two_with m [] i j x y lt e f one other = absurd (cc)
+  two_with m (z ∷ xs) i zero x y lt e f one other = absurd (omega (arith, lt))
+  two_with m (z ∷ xs) zero (suc j) x y lt e f one other =
+      let first : one_of m z ≡ 1 = is_one m z (ap n (some_same z x e) ∙ one) in
+      let others = some_with m xs j y f other in
+      omega (arith, sum_by-cons (one_of m) z xs, first, others)
+  two_with m (z ∷ xs) (suc i) (suc j) x y lt e f one other =
+      let others = two_with m xs i j x y (omega (arith, lt)) e f one other in
+      omega (arith, sum_by-cons (one_of m) z xs, others)
+
+  -- in another order
+  pub differ_reordered : (xs ys : List Arrival) → IsPermutation xs ys → EachLater (Differ n) xs → EachLater (Differ n) ys
+  differ_reordered xs ys order once = record {
+    at = λ i j x y lt e f same.
+        let two = two_with (n y) ys i j x y lt e f same refl in
+        absurd (omega (arith, two, sum_by-IsPermutation (one_of (n y)) xs ys order, at_most_one (n y) xs once));
+  }
+
+-- the ids of requests
+abbrev pub id_of : Arrival → ℕ
+id_of arrival = arrival.request.id
 
 -- what is at a place of a map
 pub unmapped : {X Y : Type 0} (f : X → Y) (xs : List X) (i : ℕ) (y : Y) → slice_get (map f xs) i ≡ Some y → (x : X) × (slice_get xs i ≡ Some x) × (f x ≡ y)

@@ -1,5 +1,5 @@
 -- Requests that move fit where they come to.
-use Rattle.std.proofs.Common.{◌≡◌, ◌<◌, ◌≤◌, ◌+◌, ◌-◌, ◌%◌, ◌^◌, ℕ, List, All, length, map, Some, slice_get, get_or, refl, sym, arith, subst}
+use Rattle.std.proofs.Common.{◌≡◌, ◌<◌, ◌≤◌, ◌+◌, ◌-◌, ◌%◌, ◌^◌, ℕ, List, All, length, map, Some, slice_get, get_or, refl, sym, ap, arith, subst, ◌∙◌}
 use Rattle.std.proofs.Math.Nat.{mod-lt}
 use Rattle.std.specs.List.Sorted.{IsPermutation}
 use Rattle.std.proofs.lemmas.List.Elements.{All-get_or}
@@ -15,8 +15,8 @@ use Rattle.cal_trace.specs.History.Ranges.{Each}
 use Rattle.cal_trace.specs.declared.arrivals.reading.TheConstants.{MOST_TURNS}
 use Rattle.cal_trace.specs.declared.arrivals.Arrival.{Arrival}
 use Rattle.cal_trace.specs.declared.arrivals.Arrivals.{Arrivals}
-use Rattle.cal_tables.specs.Moved.{AreMoved, HasItsTask, moved_to, each_moved, place_of, thread_for}
-use Rattle.cal_tables.proofs.Moving.Ids.{ids_mapped, ids_reordered, unmapped}
+use Rattle.cal_tables.specs.Moved.{AreMoved, AreSettled, HasItsTask, IsSettledIn, moved_to, each_moved, place_of, thread_for}
+use Rattle.cal_tables.proofs.Moving.Ids.{Differ, differ_reordered, id_of, ids_mapped, unmapped}
 
 -- a thread that something comes to is one of the tasks
 pub thread_within : (given tasks : List Task) (k : ℕ) → All IsTask tasks → task_of given k < length tasks → thread_for given tasks k < threads_in tasks
@@ -50,33 +50,68 @@ moved_fit given table turns xs is tasks fit = record {
       });
 }
 
--- the turns of requests that move
-pub turns_fit : (given table : Table) (arrivals : Arrivals) → FitsTable given arrivals → Each (λ (arrival : Arrival). arrival.turn < 2 ^ 64) (each_moved given table arrivals)
+-- requests that move are before turns that there are
+pub turns_fit : (given table : Table) (arrivals : Arrivals) → FitsTable given arrivals
+    → Each (λ (arrival : Arrival). arrival.turn < length arrivals.turns) (each_moved given table arrivals)
 turns_fit given table arrivals fits = record {
   at = λ k y e.
       let p = unmapped (moved_to given table) arrivals.requests k y e in
-      let below = (fits.each.at k p.0 p.1).turn in
-      let few = fits.few_turns in
-      subst (λ (arrival : Arrival). arrival.turn < 2 ^ 64) p.2 (omega (arith, below, few));
+      subst (λ (arrival : Arrival). arrival.turn < length arrivals.turns) p.2 ((fits.each.at k p.0 p.1).turn);
 }
 
 -- the ids of requests that move
-pub once_moved : (given table : Table) (arrivals : Arrivals) → FitsTable given arrivals → EachLater HaveTwoIds (each_moved given table arrivals)
+once_moved : (given table : Table) (arrivals : Arrivals) → FitsTable given arrivals → EachLater (Differ id_of) (each_moved given table arrivals)
 once_moved given table arrivals fits = ids_mapped (moved_to given table) arrivals.requests (λ x. refl) fits.once
+
+-- a request that is settled is one of those in order, before another turn
+module _ (ordered settled : List Arrival) (are : AreSettled ordered settled) (all : length settled ≡ length ordered) where
+  source : (k : ℕ) (x : Arrival) → slice_get settled k ≡ Some x → (y : Arrival) × (slice_get ordered k ≡ Some y) × IsSettledIn settled y x
+  source k x e =
+      let y = get_or ordered k x in
+      let at : slice_get ordered k ≡ Some y = let within = slice_get_within settled k x e in slice_get-get_or ordered k x (omega (arith, within, all)) in
+      (y, at, are.each k y x at e)
+
+  same_ids : EachLater (Differ id_of) ordered → EachLater (Differ id_of) settled
+  same_ids once = record {
+    at = λ i j x y lt e f same.
+        let p = source i x e in
+        let q = source j y f in
+        let one : id_of x ≡ id_of p.0 = ap id_of p.2.same in
+        let other : id_of y ≡ id_of q.0 = ap id_of q.2.same in
+        once.at i j p.0 q.0 lt p.1 q.1 (sym one ∙ same ∙ other);
+  }
+
+  settled_fit : (threads turns : ℕ) → Each (IsArrival threads turns) ordered → Each (λ (arrival : Arrival). arrival.turn < turns) settled
+      → Each (IsArrival threads turns) settled
+  settled_fit threads turns fit within = record {
+    at = λ k x e.
+        let p = source k x e in
+        let was = fit.at k p.0 p.1 in
+        subst (IsArrival threads turns) (sym p.2.same) (record {
+          thread = was.thread;
+          turn = within.at k x e;
+          some_work = was.some_work;
+          most_work = was.most_work;
+          misses = was.misses;
+        });
+  }
 
 -- what a table gets fits it
 pub moved_fits : (given table : Table) (arrivals moved : Arrivals) → IsTable table → FitsTable given arrivals → AreMoved given table arrivals moved → FitsTable table moved
 moved_fits given table arrivals moved is fits are =
     let same = are.turns in
+    let order : IsPermutation (each_moved given table arrivals) are.ordered = are.in_order.same in
+    let turns = length arrivals.turns in
     record {
       few_passes = subst (λ ps. length ps ≤ MOST_PASSES) (sym are.passes) fits.few_passes;
       few_turns = subst (λ ts. length ts ≤ MOST_TURNS) (sym same) fits.few_turns;
       clocks = subst (λ ts. Each (λ now. 1 ≤ now) ts) (sym same) fits.clocks;
       never_fall = subst (λ ts. EachLater (λ now later. now ≤ later) ts) (sym same) fits.never_fall;
       each = subst (λ ts. Each (IsArrival (threads_in table.tasks) (length ts)) moved.requests) (sym same)
-          (each_reordered (IsArrival (threads_in table.tasks) (length arrivals.turns)) (each_moved given table arrivals) moved.requests are.requests
-          (moved_fit given table (length arrivals.turns) arrivals.requests is are.tasks fits.each));
-      rising = are.rising;
-      once = ids_reordered (each_moved given table arrivals) moved.requests are.requests
-          (once_moved given table arrivals fits);
+          (settled_fit are.ordered moved.requests are.settled are.all (threads_in table.tasks) turns
+          (each_reordered (IsArrival (threads_in table.tasks) turns) (each_moved given table arrivals) are.ordered order
+          (moved_fit given table turns arrivals.requests is are.tasks fits.each)) are.within);
+      rising = are.settled.rising;
+      once = same_ids are.ordered moved.requests are.settled are.all
+          (differ_reordered id_of (each_moved given table arrivals) are.ordered order (once_moved given table arrivals fits));
     }

@@ -1,11 +1,10 @@
 -- A table with the same limits gets what was given.
-use Rattle.std.proofs.Common.{◌≡◌, ◌<◌, ◌≤◌, ◌+◌, ◌-◌, ◌%◌, ◌∙◌, ◌⊎◌, inl, inr, ℕ, zero, suc, List, [], ◌∷◌, length, map, take, Some, slice_get, get_or, refl, sym, ap, arith, subst}
+use Rattle.std.proofs.Common.{◌≡◌, ◌<◌, ◌≤◌, ◌+◌, ◌-◌, ◌%◌, ◌^◌, ◌∙◌, ℕ, zero, suc, List, [], ◌∷◌, length, map, take, Some, slice_get, get_or, refl, sym, ap, arith, subst}
 use Rattle.std.proofs.Math.ListN.{get_or-map}
 use Rattle.std.proofs.Math.Nat.{mod-eq_of_lt}
 use Rattle.std.proofs.lemmas.List.Sorted.{Contains-permutation, IsPermutation-sym}
 use Rattle.std.proofs.lemmas.List.Sums.{sum-map}
-use Rattle.std.proofs.lemmas.Option.{slice_get_within, slice_get-get_or, get_or_from_slice_get}
-use Rattle.std.specs.List.{Contains, sum, take-map}
+use Rattle.std.specs.List.{sum, take-map}
 use Rattle.std.specs.List.Sorted.{IsPermutation}
 use Rattle.cal_machine.proofs.Last.{some_same}
 use Rattle.cal_machine.proofs.ThreadNumbers.{task_in}
@@ -17,23 +16,13 @@ use Rattle.cal_trace.specs.Arrivals.FitsTable.{ComesBefore, EachLater, FitsTable
 use Rattle.cal_trace.specs.History.Ranges.{Each}
 use Rattle.cal_trace.specs.declared.arrivals.Arrival.{Arrival}
 use Rattle.cal_trace.specs.declared.arrivals.Arrivals.{Arrivals}
-use Rattle.cal_tables.specs.Laws.{SameLimitsMoveNothing, limits_of}
-use Rattle.cal_tables.specs.Moved.{AreMoved, each_moved, moved_to, thread_for}
-use Rattle.cal_tables.proofs.Moving.Order.{before_before}
-
-never_itself : (a : Arrival) → ComesBefore a a → ⊥
-never_itself a (inl lt) = omega (arith, lt)
-never_itself a (inr same) = let lt = same.1 in omega (arith, lt)
-
--- a list has this member
-abbrev In : List Arrival → Arrival → Type 0
-In xs x = (k : ℕ) × (slice_get xs k ≡ Some x)
-
-in_contains : (xs : List Arrival) (x : Arrival) → In xs x → Contains xs x
-in_contains xs x h = (h.0, slice_get_within xs h.0 x h.1, get_or_from_slice_get xs h.0 x x h.1)
-
-contains_in : (xs : List Arrival) (x : Arrival) → Contains xs x → In xs x
-contains_in xs x h = (h.0, slice_get-get_or xs h.0 x h.1 ∙ ap Some h.2)
+use Rattle.cal_tables.specs.Laws.{NoneWaitsWhereNoneMeet, SameLimitsMoveNothing, limits_of}
+use Rattle.cal_tables.specs.Moved.{AreMoved, each_moved, moved_to, order_of, thread_for}
+use Rattle.cal_tables.proofs.Moving.Ids.{Differ, differ_reordered}
+use Rattle.cal_tables.proofs.Moving.Members.{contains_in, In, in_contains}
+use Rattle.cal_tables.proofs.Moving.Order.{AreBelow, before_before, never_itself, rising, rising_apart}
+use Rattle.cal_tables.proofs.Moving.Places.{each_reordered, turns_fit}
+use Rattle.cal_tables.proofs.Moving.Stays.{all_stay}
 
 -- the first of two lists with the same members is the same
 first_same : (x y : Arrival) (xs ys : List Arrival) → EachLater ComesBefore (x ∷ xs) → EachLater ComesBefore (y ∷ ys) → In (y ∷ ys) x → In (x ∷ xs) y → x ≡ y
@@ -89,11 +78,41 @@ none_moved given table turns (x ∷ xs) same fit =
     ap (λ y. y ∷ map (moved_to given table) xs) first
     ∙ ap (λ l. x ∷ l) (none_moved given table turns xs same (each_other (IsArrival (threads_in given.tasks) turns) x xs fit))
 
+-- turns that there are are in their range
+below_all : (given table : Table) (arrivals : Arrivals) → FitsTable given arrivals → AreBelow (each_moved given table arrivals)
+below_all given table arrivals fits = record {
+  at = λ k x e. let below = (turns_fit given table arrivals fits).at k x e in let few = fits.few_turns in omega (arith, below, few);
+}
+
+-- requests that do not meet stay before their turns
+none_wait : (given table : Table) (arrivals moved : Arrivals) → FitsTable given arrivals → EachLater (Differ order_of) (each_moved given table arrivals)
+    → AreMoved given table arrivals moved → EachLater ComesBefore moved.requests × IsPermutation (each_moved given table arrivals) moved.requests
+none_wait given table arrivals moved fits apart are =
+    let xs = each_moved given table arrivals in
+    let order : IsPermutation xs are.ordered = are.in_order.same in
+    let below : AreBelow are.ordered = each_reordered (λ (one : Arrival). one.turn < 2 ^ 64) xs are.ordered order (below_all given table arrivals fits) in
+    let up : EachLater ComesBefore are.ordered = rising are.ordered are.in_order.up (differ_reordered order_of xs are.ordered order apart) below in
+    (are.settled.rising, subst (λ l. IsPermutation xs l) (sym (all_stay are.ordered moved.requests are.settled are.all up)) order)
+
+pub none_waits : NoneWaitsWhereNoneMeet
+none_waits given table arrivals moved fits apart are =
+    let below = below_all given table arrivals fits in
+    let differ : EachLater (Differ order_of) (each_moved given table arrivals) = record {
+      at = λ i j x y lt e f same.
+          let one = below.at i x e in
+          let other = below.at j y f in
+          let thread : x.thread ≡ y.thread = omega (arith, same, one, other) in
+          apart.at i j x y lt e f thread (omega (arith, same, thread));
+    } in
+    (none_wait given table arrivals moved fits differ are).1
+
 pub moves_nothing : SameLimitsMoveNothing
 moves_nothing given table arrivals moved same fits are =
-    let order : IsPermutation arrivals.requests moved.requests =
-    subst (λ l. IsPermutation l moved.requests) (none_moved given table (length arrivals.turns) arrivals.requests same fits.each) are.requests in
-    let requests : moved.requests ≡ arrivals.requests = same_order moved.requests arrivals.requests are.rising fits.rising
+    let stay : each_moved given table arrivals ≡ arrivals.requests = none_moved given table (length arrivals.turns) arrivals.requests same fits.each in
+    let up : EachLater ComesBefore (each_moved given table arrivals) = subst (λ l. EachLater ComesBefore l) (sym stay) fits.rising in
+    let all = none_wait given table arrivals moved fits (rising_apart (each_moved given table arrivals) up (below_all given table arrivals fits)) are in
+    let order : IsPermutation arrivals.requests moved.requests = subst (λ l. IsPermutation l moved.requests) stay all.1 in
+    let requests : moved.requests ≡ arrivals.requests = same_order moved.requests arrivals.requests all.0 fits.rising
     (λ x h. contains_in arrivals.requests x (Contains-permutation moved.requests arrivals.requests x (IsPermutation-sym arrivals.requests moved.requests order) (in_contains moved.requests x h)))
     (λ x h. contains_in moved.requests x (Contains-permutation arrivals.requests moved.requests x order (in_contains arrivals.requests x h))) in
     ap (λ ps. record moved { passes = ps }) are.passes

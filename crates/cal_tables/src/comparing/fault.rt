@@ -20,16 +20,12 @@ pub enum Misfit {
         /// The id of the request.
         request: u64,
     },
-    /// Two requests would come to one thread before the same turn.
-    TwoAtOnce {
+    /// Requests before it take all turns of its thread from its own on.
+    NoTurn {
         /// The number of the thread in the table.
         thread: u8,
-        /// The number of the turn.
-        turn: u64,
-        /// The id of one request.
-        first: u64,
-        /// The id of the other.
-        second: u64,
+        /// The id of the request.
+        request: u64,
     },
 }
 
@@ -59,17 +55,9 @@ impl fmt::Display for Reason {
             Reason::Misfit(Misfit::NoTask { task, request }) => {
                 write!(f, "has no task {task} for request {request}")
             }
-            Reason::Misfit(
-                Misfit::TwoAtOnce {
-                    thread,
-                    turn,
-                    first,
-                    second,
-                },
-            ) => write!(
-                f,
-                "gives thread {thread} requests {first} and {second} before turn {turn}"
-            ),
+            Reason::Misfit(Misfit::NoTurn { thread, request }) => {
+                write!(f, "has no free turn on thread {thread} for request {request}")
+            }
             Reason::Pace(fault) => write!(f, "has no run by the plan: {fault}"),
             Reason::Count(fault) => write!(f, "{fault}"),
             Reason::NoTable { tables } => write!(f, "is not there: there are {tables}, from 0"),

@@ -1,17 +1,17 @@
 //! Arrivals that were given for one table, as another gets them.
 
-ghost use Rattle.std.specs.Prelude.{◌≡◌, ◌≢◌, ◌↔◌, ◌<◌, ◌≤◌, ◌+◌, ◌-◌, ◌*◌, ◌^◌, ℕ, None, Some};
+ghost use Rattle.std.specs.Prelude.{◌≡◌, ◌↔◌, ◌<◌, ◌≤◌, ◌+◌, ◌++◌, ◌∷◌, [], ◌^◌, ℕ, None, Some};
 ghost use Rattle.std.specs.Prelude.{IfErr, IfOk, IfSome, IsTrue, length, map, slice_get};
-ghost use Rattle.std.specs.List.Sorted.{IsNonDecreasingBy, IsPermutation};
+ghost use Rattle.std.specs.List.Sorted.{IsNonDecreasingBy};
 ghost use Rattle.cal_machine.specs.Tasks.{task_of, threads_in};
-ghost use Rattle.cal_tables.specs.Moved.{AreMoved, HasItsTask, IsMeeting, IsMisfit, IsReason};
-ghost use Rattle.cal_tables.specs.Moved.{IsWithout, moved_to, order_of, thread_for};
-ghost use Rattle.cal_trace.specs.Arrivals.FitsTable.{ComesBefore, EachLater, FitsTable};
-ghost use Rattle.cal_trace.specs.Arrivals.FitsTable.{HaveTwoIds};
-ghost use Rattle.cal_trace.specs.declared.arrivals.Arrival.{Arrival};
+ghost use Rattle.cal_tables.specs.Moved.{AreInOrder, AreMoved, AreSettled, HasItsTask, IsLate};
+ghost use Rattle.cal_tables.specs.Moved.{IsMisfit, IsReason, IsWithout, moved_to, order_of};
+ghost use Rattle.cal_tables.specs.Moved.{thread_for};
+ghost use Rattle.cal_trace.specs.Arrivals.FitsTable.{ComesBefore, FitsTable};
 ghost use Rattle.cal_trace.specs.History.Ranges.{Each};
 
 use crate::comparing::fault::{Misfit, Reason};
+use cal_input::RunFault;
 use cal_machine::{Config, Listed};
 use cal_trace::{Arrival, Arrivals};
 use std::alloc::Global;
@@ -96,19 +96,6 @@ fn comes_before(first: &Arrival, second: &Arrival) -> bool
     first.thread < second.thread || (first.thread == second.thread && first.turn < second.turn)
 }
 
-/// That two requests come to one thread before the same turn.
-fn meeting(first: &Arrival, second: &Arrival) -> Misfit
-    ensures { result ≡ Misfit.TwoAtOnce second.now.thread second.now.turn
-        first.now.request.id second.now.request.id }
-{
-    Misfit::TwoAtOnce {
-        thread: second.thread,
-        turn: second.turn,
-        first: first.request.id,
-        second: second.request.id,
-    }
-}
-
 /// The request at a place.
 fn request_at(requests: &[Arrival], place: usize) -> &Arrival
     requires { place < length requests.now }
@@ -117,45 +104,80 @@ fn request_at(requests: &[Arrival], place: usize) -> &Arrival
     &requests[place]
 }
 
-/// The first two of these requests that come to one thread before the same turn, if there are such.
-fn first_meeting(requests: &[Arrival]) -> Option<Misfit>
-    requires up { IsNonDecreasingBy order_of requests.now }
-    requires once { EachLater HaveTwoIds requests.now }
-    requires turns { Each (λ arrival. arrival.turn < 2 ^ 64) requests.now }
-    ensures none { result ≡ None → EachLater ComesBefore requests.now }
-    ensures why { IfSome result (IsMeeting requests.now) }
-{
-    for place in 1..requests.len() {
-        let first = request_at(requests, place - 1);
-        let second = request_at(requests, place);
-        if !comes_before(first, second) {
-            return Some(meeting(first, second));
-        }
-    }
-    None
-}
-
-/// Requests in their order: by threads, and those of one thread by turns.
+/// Requests in their order: by threads, and those of one thread by turns; those that are for one thread
+/// before one turn stay as they were.
 fn in_order(mut requests: Vec<Arrival>) -> Result<Vec<Arrival>, Reason>
-    requires once { EachLater HaveTwoIds requests.items }
-    requires turns { Each (λ arrival. arrival.turn < 2 ^ 64) requests.items }
-    ensures same { IfOk result (λ sorted. IsPermutation requests.items sorted.items) }
-    ensures rising { IfOk result (λ sorted. EachLater ComesBefore sorted.items) }
-    ensures why { IfErr result (IsReason (IsMeeting requests.items)) }
+    ensures ordered { IfOk result (λ ordered. AreInOrder requests.items ordered.items) }
+    ensures memory { IfErr result (λ reason. reason ≡ Reason.Run RunFault.Memory) }
 {
     requests.sort_by_key(order_of)?;
-    match first_meeting(requests.as_slice()) {
-        None => Ok(requests),
-        Some(misfit) => Err(Reason::Misfit(misfit)),
+    Ok(requests)
+}
+
+/// The next of some requests that are in their order, after those that are settled: before its turn, or
+/// where the last of them has that turn or a later one of its thread, before the next.
+fn settled_next(
+    ordered: &[Arrival],
+    settled: &[Arrival],
+    turns: usize,
+) -> Result<Arrival, Misfit>
+    requires up { IsNonDecreasingBy order_of ordered.now }
+    requires within { Each (λ arrival. arrival.turn < turns) ordered.now }
+    requires are { AreSettled ordered.now settled.now }
+    requires before { Each (λ arrival. arrival.turn < turns) settled.now }
+    requires next { length settled.now < length ordered.now }
+    ensures settled { IfOk result (λ stands. AreSettled ordered.now (settled.now ++ stands ∷ [])) }
+    ensures within { IfOk result (λ stands. stands.turn < turns) }
+    ensures late { IfErr result (IsLate turns ordered.now) }
+{
+    let arrival = request_at(ordered, settled.len());
+    if settled.is_empty() {
+        return Ok(*arrival);
     }
+    let last = request_at(settled, settled.len() - 1);
+    if comes_before(last, arrival) {
+        return Ok(*arrival);
+    }
+    let turn = last.turn + 1;
+    if turn >= turns as u64 {
+        return Err(Misfit::NoTurn {
+            thread: arrival.thread,
+            request: arrival.request.id,
+        });
+    }
+    Ok(Arrival {
+        thread: arrival.thread,
+        turn,
+        request: arrival.request,
+    })
+}
+
+/// Requests that are in their order, each before its turn or, where that is taken, before the first
+/// after it that is free.
+fn settled(alloc: Global, ordered: &[Arrival], turns: usize) -> Result<Vec<Arrival>, Reason>
+    requires up { IsNonDecreasingBy order_of ordered.now }
+    requires within { Each (λ arrival. arrival.turn < turns) ordered.now }
+    ensures settled { IfOk result (λ settled. AreSettled ordered.now settled.items) }
+    ensures all { IfOk result (λ settled. length settled.items ≡ length ordered.now) }
+    ensures within { IfOk result (λ settled. Each (λ arrival. arrival.turn < turns) settled.items) }
+    ensures why { IfErr result (IsReason (IsLate turns ordered.now)) }
+{
+    let mut settled = Vec::new(alloc);
+    for _ in 0..ordered.len() {
+        let stands = settled_next(ordered, settled.as_slice(), turns)?;
+        settled.push(stands)?;
+    }
+    Ok(settled)
 }
 
 /// The arrivals that were given for one table, as another gets them: each request for the same
 /// task, and for the same one of its threads, or where the table has fewer, for the one of that
-/// number modulo the task's limit. Passes and turns stay as they are.
+/// number modulo the task's limit. It comes before its turn or, where one before it takes that, before
+/// the first after it that is free: of two for one thread before one turn that one goes first whose
+/// thread was the lower. Passes and turns stay as they are.
 ///
-/// The reason is that of the first request whose task the table has not; else that of two requests
-/// that would come to one thread before the same turn. `Memory` may come at any place.
+/// The reason is that of the first request whose task the table has not; else that of the first, by
+/// thread and turn, for which no turn is left. `Memory` may come at any place.
 pub fn moved_arrivals(
     alloc: Global,
     given: &Config,
@@ -169,7 +191,8 @@ pub fn moved_arrivals(
 {
     table.limits();
     let moved = each_moved(alloc, given, table, arrivals.requests.as_slice())?;
-    let requests = in_order(moved)?;
+    let ordered = in_order(moved)?;
+    let requests = settled(alloc, ordered.as_slice(), arrivals.turns.as_slice().len())?;
     let passes = Vec::from_slice(alloc, arrivals.passes.as_slice())?;
     let turns = Vec::from_slice(alloc, arrivals.turns.as_slice())?;
     Ok(Arrivals {

@@ -1,8 +1,9 @@
 //! The runs of several tables on the same arrivals, side by side.
 
-ghost use Rattle.std.specs.Prelude.{◌≡◌, ◌<◌, length, slice_get, IfErr, IfOk};
-ghost use Rattle.cal_tables.specs.Compared.{AreCountedFor, AreOfTables, AreRunsOn, IsOfMoved, IsToldBy};
-ghost use Rattle.cal_tables.specs.Planned.{IsFaultBy};
+ghost use Rattle.std.specs.Prelude.{◌≡◌, ◌<◌, length, slice_get, IfOk};
+ghost use Rattle.cal_came.specs.Counting.{as_given};
+ghost use Rattle.cal_tables.specs.Compared.{AreCountedFor, AreOfTables, AreRunsOn, counted_of};
+ghost use Rattle.cal_tables.specs.Compared.{IsOfMoved, IsToldBy};
 ghost use Rattle.cal_trace.specs.Arrivals.FitsTable.{FitsTable};
 
 use crate::comparing::fault::{ComparisonFault, Reason, fault_of};
@@ -10,21 +11,35 @@ use crate::comparing::moving::moved_arrivals;
 use crate::comparing::tables::GivenTables;
 use crate::comparing::{Comparison, RunTerms};
 use crate::measuring::RunNumbers;
-use crate::planned::{PlannedFault, counted_by, measured_by};
-use cal_came::{CountAsked, CountedRequests, counted_requests, is_asked};
+use crate::planned::counted_by;
+use cal_came::{CountAsked, Counted, CountedRequests, counted_as_given, counted_requests, is_asked};
 use cal_machine::Config;
 use cal_policy::Policy;
 use cal_trace::Arrivals;
 use std::alloc::Global;
 
-/// Tables, and from when the requests count of the arrivals that they are to get, where that is asked
-/// for.
+/// Tables, and from when the requests count of the arrivals that they are to get.
 #[derive(Drop)]
 pub struct CountedTables {
     /// The tables, and the arrivals.
     pub from: GivenTables,
-    /// From when their requests count.
+    /// From when their requests count, where that is asked for.
     pub told: Option<CountedRequests>,
+    /// From when they count without that: each from the clock of the turn that it is given for.
+    pub as_given: Counted,
+}
+
+impl CountedTables {
+    /// From when their requests count.
+    fn counted(&self) -> &Counted
+        requires { self.now.as_given ≡ as_given self.now.from.arrivals }
+        ensures { result.now ≡ counted_of self.now.from.arrivals self.now.told }
+    {
+        match &self.told {
+            Some(told) => &told.counted,
+            None => &self.as_given,
+        }
+    }
 }
 
 /// From when requests count of arrivals for these tables, as it is asked for. The fault is that of the
@@ -37,60 +52,51 @@ fn counted_tables(
     ensures same { IfOk result (λ counted. counted.from ≡ from) }
     ensures counted { IfOk result (λ counted.
         AreCountedFor counting.entry from.given from.arrivals counted.told) }
+    ensures given { IfOk result (λ counted. counted.as_given ≡ as_given from.arrivals) }
 {
+    let as_given = counted_as_given(alloc, &from.arrivals)?;
     if !is_asked(counting) {
-        return Ok(CountedTables { from, told: None });
+        return Ok(CountedTables {
+            from,
+            told: None,
+            as_given,
+        });
     }
     match counted_requests(alloc, &from.given, &from.arrivals, counting) {
         Ok(told) => Ok(CountedTables {
             from,
             told: Some(told),
+            as_given,
         }),
         Err(fault) => Err(fault_of(0, Reason::from(fault))),
     }
 }
 
-/// The numbers of a run on these terms on these arrivals, whose requests count so or, where nothing is
-/// told of that, each from the clock of its turn.
-fn numbers_on(
-    alloc: Global,
-    config: &Config,
-    terms: RunTerms<'_>,
-    arrivals: Arrivals,
-    told: &Option<CountedRequests>,
-) -> Result<RunNumbers, PlannedFault>
-    requires fits { FitsTable config.now arrivals }
-    ensures numbers { IfOk result (IsToldBy terms.entry told.now config.now arrivals) }
-    ensures fault { IfErr result (IsFaultBy terms.entry.plan arrivals) }
-{
-    match told {
-        Some(told) => counted_by(
-            alloc,
-            config,
-            terms.policy,
-            terms.plan,
-            arrivals,
-            &told.counted,
-        ),
-        None => measured_by(alloc, config, terms.policy, terms.plan, arrivals),
-    }
-}
-
 /// The numbers of a table's run on these terms on arrivals that were given for another, as the table
-/// gets them.
+/// gets them: a request that is moved to a later turn counts from when it would count without that.
 fn of_moved(
     alloc: Global,
     terms: RunTerms<'_>,
     counted: &CountedTables,
     table: &Config,
 ) -> Result<RunNumbers, Reason>
-    requires { FitsTable counted.now.from.given counted.now.from.arrivals }
-    ensures { IfOk result (IsOfMoved (IsToldBy terms.entry counted.now.told)
+    requires fits { FitsTable counted.now.from.given counted.now.from.arrivals }
+    requires given { counted.now.as_given ≡ as_given counted.now.from.arrivals }
+    ensures { IfOk result (IsOfMoved (IsToldBy terms.entry
+        (counted_of counted.now.from.arrivals counted.now.told))
         counted.now.from.given counted.now.from.arrivals table.now) }
 {
     let from = &counted.from;
     let moved = moved_arrivals(alloc, &from.given, table, &from.arrivals)?;
-    Ok(numbers_on(alloc, table, terms, moved, &counted.told)?)
+    let numbers = counted_by(
+        alloc,
+        table,
+        terms.policy,
+        terms.plan,
+        moved,
+        counted.counted(),
+    )?;
+    Ok(numbers)
 }
 
 /// The policy at a place.
@@ -118,8 +124,10 @@ fn of_placed(
     table: &Config,
     place: usize,
 ) -> Result<RunNumbers, ComparisonFault>
-    requires { FitsTable counted.now.from.given counted.now.from.arrivals }
-    ensures { IfOk result (IsOfMoved (IsToldBy terms.entry counted.now.told)
+    requires fits { FitsTable counted.now.from.given counted.now.from.arrivals }
+    requires given { counted.now.as_given ≡ as_given counted.now.from.arrivals }
+    ensures { IfOk result (IsOfMoved (IsToldBy terms.entry
+        (counted_of counted.now.from.arrivals counted.now.told))
         counted.now.from.given counted.now.from.arrivals table.now) }
 {
     match of_moved(alloc, terms, counted, table) {
@@ -135,8 +143,10 @@ fn runs_of(
     terms: RunTerms<'_>,
     counted: &CountedTables,
 ) -> Result<Vec<RunNumbers>, ComparisonFault>
-    requires { FitsTable counted.now.from.given counted.now.from.arrivals }
-    ensures { IfOk result (λ runs. AreOfTables (IsToldBy terms.entry counted.now.told)
+    requires fits { FitsTable counted.now.from.given counted.now.from.arrivals }
+    requires given { counted.now.as_given ≡ as_given counted.now.from.arrivals }
+    ensures { IfOk result (λ runs. AreOfTables (IsToldBy terms.entry
+        (counted_of counted.now.from.arrivals counted.now.told))
         counted.now.from.given counted.now.from.arrivals counted.now.from.tables.items
         runs.items) }
 {
@@ -165,7 +175,7 @@ pub fn comparison_on(
 {
     let counted = counted_tables(alloc, from, terms.counting)?;
     let runs = runs_of(alloc, terms, &counted)?;
-    let CountedTables { from, told } = counted;
+    let CountedTables { from, told, .. } = counted;
     let GivenTables { tables, given, .. } = from;
     Ok(Comparison {
         tables,

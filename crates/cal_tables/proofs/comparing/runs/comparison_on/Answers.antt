@@ -1,5 +1,5 @@
 use Rattle.std.proofs.Common.{subst}
-use Rattle.cal_tables.specs.Compared.{AreOfTables, IsToldBy}
+use Rattle.cal_tables.specs.Compared.{AreOfTables, counted_of, IsToldBy}
 use Rattle.cal_tables.specs.declared.comparing.tables.GivenTables.{GivenTables}
 use Rattle.cal_tables.proofs.comparing.runs.comparison_on.Goals as goal
 
@@ -9,6 +9,6 @@ returns-clause-runs c =
     record {
       told = counted.told;
       counted = c.in_ok-counted.ensures.counted;
-      are = subst (λ (from : GivenTables). AreOfTables (IsToldBy c.args.terms counted.told) from.given from.arrivals from.tables.items c.in_ok-runs.runs.items)
+      are = subst (λ (from : GivenTables). AreOfTables (IsToldBy c.args.terms (counted_of from.arrivals counted.told)) from.given from.arrivals from.tables.items c.in_ok-runs.runs.items)
           c.in_ok-counted.ensures.same c.in_ok-runs.ensures;
     }

@@ -1,12 +1,12 @@
 use Rattle.std.proofs.Common.{◌≡◌, ◌++◌, ◌∷◌, [], Some, slice_get, length, length-append, ap, sym, subst, arith}
-use Rattle.cal_tables.specs.Compared.{IsOfMoved, IsToldBy}
+use Rattle.cal_tables.specs.Compared.{counted_of, IsOfMoved, IsToldBy}
 use Rattle.cal_tables.proofs.Columns.{EachIsOf, one_more}
 use Rattle.cal_tables.proofs.comparing.runs.runs_of.Goals as goal
 
 pub loop-place-preserved : goal.loop-place-preserved
 loop-place-preserved c =
     let from = c.args.counted.now.from in
-    let told = c.args.counted.now.told in
+    let told = counted_of from.arrivals c.args.counted.now.told in
     let before = c.loop-place.runs.items in
     let now = c.in_ok-run.run' in
     let more : c.push.new.self.items ≡ before ++ now ∷ [] = c.in_ok-push.ensures.items in
