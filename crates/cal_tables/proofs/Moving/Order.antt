@@ -49,8 +49,8 @@ rising xs up apart below = record {
       let at_x : get_or xs i x ≡ x = get_or_from_slice_get xs i x x e in
       let at_y : get_or xs j x ≡ y = get_or_from_slice_get xs j y x f in
       let rise : order_of x ≤ order_of y =
-          subst (λ (b : Arrival). order_of x ≤ order_of b) at_y
-          (subst (λ (a : Arrival). order_of a ≤ order_of (get_or xs j x)) at_x (up i j x (omega (arith, lt)) (slice_get_within xs j y f))) in
+      subst (λ (b : Arrival). order_of x ≤ order_of b) at_y
+      (subst (λ (a : Arrival). order_of a ≤ order_of (get_or xs j x)) at_x (up i j x (omega (arith, lt)) (slice_get_within xs j y f))) in
       from_order x y rise (apart.at i j x y lt e f) (below.at i x e) (below.at j y f);
 }
 

@@ -56,7 +56,10 @@ impl fmt::Display for Reason {
                 write!(f, "has no task {task} for request {request}")
             }
             Reason::Misfit(Misfit::NoTurn { thread, request }) => {
-                write!(f, "has no free turn on thread {thread} for request {request}")
+                write!(
+                    f,
+                    "has no free turn on thread {thread} for request {request}"
+                )
             }
             Reason::Pace(fault) => write!(f, "has no run by the plan: {fault}"),
             Reason::Count(fault) => write!(f, "{fault}"),

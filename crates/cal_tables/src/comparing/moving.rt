@@ -116,11 +116,7 @@ fn in_order(mut requests: Vec<Arrival>) -> Result<Vec<Arrival>, Reason>
 
 /// The next of some requests that are in their order, after those that are settled: before its turn, or
 /// where the last of them has that turn or a later one of its thread, before the next.
-fn settled_next(
-    ordered: &[Arrival],
-    settled: &[Arrival],
-    turns: usize,
-) -> Result<Arrival, Misfit>
+fn settled_next(ordered: &[Arrival], settled: &[Arrival], turns: usize) -> Result<Arrival, Misfit>
     requires up { IsNonDecreasingBy order_of ordered.now }
     requires within { Each (λ arrival. arrival.turn < turns) ordered.now }
     requires are { AreSettled ordered.now settled.now }

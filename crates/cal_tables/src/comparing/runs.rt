@@ -12,7 +12,9 @@ use crate::comparing::tables::GivenTables;
 use crate::comparing::{Comparison, RunTerms};
 use crate::measuring::RunNumbers;
 use crate::planned::counted_by;
-use cal_came::{CountAsked, Counted, CountedRequests, counted_as_given, counted_requests, is_asked};
+use cal_came::{
+    CountAsked, Counted, CountedRequests, counted_as_given, counted_requests, is_asked,
+};
 use cal_machine::Config;
 use cal_policy::Policy;
 use cal_trace::Arrivals;

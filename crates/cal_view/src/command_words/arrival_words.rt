@@ -38,17 +38,23 @@ pub struct ArrivalWords<'a> {
 pub fn arrival_word<'a>(alloc: Global) -> Result<Command<'a>, AllocError> {
     let command = Command::new(alloc, "arrivals")
         .about("Make random arrivals of a given load, or arrivals of a log")
-        .after_long_help(help_texts::ARRIVALS)
-        .arg(input_word(alloc))?
-        .arg(task_word(alloc).required_unless_present("log")?)?
-        .arg(own_load_word(alloc)?)?
-        .arg(offered_word(alloc))?;
+        .after_long_help(help_texts::ARRIVALS);
+    let command = with_load_words(alloc, command)?;
     let command = with_run_words(alloc, command)?;
     with_log_words(alloc, command)?
         .arg(came_word(alloc))?
         .arg(table_word(alloc))?
         .arg(summary_word(alloc)?)?
         .arg(output_word(alloc))
+}
+
+/// The options of tasks and loads.
+fn with_load_words<'a>(alloc: Global, command: Command<'a>) -> Result<Command<'a>, AllocError> {
+    command
+        .arg(input_word(alloc))?
+        .arg(task_word(alloc).required_unless_present("log")?)?
+        .arg(own_load_word(alloc)?)?
+        .arg(offered_word(alloc))
 }
 
 fn own_load_word<'a>(alloc: Global) -> Result<Arg<'a>, AllocError> {

@@ -14,23 +14,44 @@ use cal_sweep::SweepWords;
 use clap::{Arg, ArgMatches, Command};
 use std::alloc::{AllocError, Global};
 
-/// The subcommand with its options.
+/// The subcommand with its options. It is built by parts, since the proof of one long chain takes far
+/// longer than those of its parts.
 pub fn sweep_word<'a>(alloc: Global) -> Result<Command<'a>, AllocError> {
     let command = Command::new(alloc, "sweep")
         .about("Run a table at rising loads")
-        .after_long_help(help_texts::SWEEP)
+        .after_long_help(help_texts::SWEEP);
+    let command = with_load_words(alloc, command)?;
+    let command = with_run_words(alloc, command)?.arg(policies_word(alloc))?;
+    let command = with_more_plan_words(alloc, command)?.arg(vary_word(alloc))?;
+    let command = with_objective_words(alloc, command)?;
+    with_form_words(alloc, command)
+}
+
+/// The options of tasks and loads.
+fn with_load_words<'a>(alloc: Global, command: Command<'a>) -> Result<Command<'a>, AllocError> {
+    command
         .arg(input_word(alloc))?
         .arg(task_word(alloc).default_value("0"))?
         .arg(own_load_word(alloc)?)?
-        .arg(offered_word(alloc))?;
-    let command = with_run_words(alloc, command)?.arg(policies_word(alloc))?;
-    with_more_plan_words(alloc, command)?
-        .arg(vary_word(alloc))?
+        .arg(offered_word(alloc))
+}
+
+/// The options of objectives, and of the requests and seeds that they are asked of.
+fn with_objective_words<'a>(
+    alloc: Global,
+    command: Command<'a>,
+) -> Result<Command<'a>, AllocError> {
+    command
         .arg(slo_word(alloc))?
         .arg(from_word(alloc))?
         .arg(to_word(alloc))?
         .arg(seeds_word(alloc))?
-        .arg(cheapest_word(alloc)?)?
+        .arg(cheapest_word(alloc)?)
+}
+
+/// The options of how it runs and of what it writes.
+fn with_form_words<'a>(alloc: Global, command: Command<'a>) -> Result<Command<'a>, AllocError> {
+    command
         .arg(jobs_word(alloc))?
         .arg(quiet_word(alloc))?
         .arg(csv_word(alloc))?

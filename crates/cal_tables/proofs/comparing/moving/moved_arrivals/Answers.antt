@@ -14,8 +14,8 @@ settled-requires-clause-within c =
     let order = rw is at c.in_ok-ordered.ensures.ordered.same in
     let turns = length c.args.arrivals.now.turns in
     let within : Each (λ (arrival : Arrival). arrival.turn < turns) c.in_ok-ordered.ordered.items =
-        each_reordered (λ (arrival : Arrival). arrival.turn < turns) (each_moved c.args.given.now c.args.table.now c.args.arrivals.now) c.in_ok-ordered.ordered.items order
-        (turns_fit c.args.given.now c.args.table.now c.args.arrivals.now c.requires) in
+    each_reordered (λ (arrival : Arrival). arrival.turn < turns) (each_moved c.args.given.now c.args.table.now c.args.arrivals.now) c.in_ok-ordered.ordered.items order
+    (turns_fit c.args.given.now c.args.table.now c.args.arrivals.now c.requires) in
     subst (λ (ts : List ℕ). Each (λ (arrival : Arrival). arrival.turn < length ts) c.as_slice-2.result.now) (sym c.as_slice-3.ensures)
     (subst (λ (l : List Arrival). Each (λ (arrival : Arrival). arrival.turn < turns) l) (sym c.as_slice-2.ensures.value) within)
 
