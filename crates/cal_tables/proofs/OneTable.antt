@@ -42,7 +42,7 @@ of_table_weaker P Q by (comparison.OfTable place (reasons.Run faults.Memory)) h 
 of_table_weaker P Q by (comparison.OfTable place (reasons.Run faults.Write)) h = absurd h
 of_table_weaker P Q by (comparison.OfTable place (reasons.Run faults.Spawn)) h = absurd h
 of_table_weaker P Q by (comparison.OfTable place (reasons.Run faults.Gate)) h = absurd h
-of_table_weaker P Q by (comparison.OfTable place (reasons.Misfit misfit)) h = absurd h
+of_table_weaker P Q by (comparison.OfTable place (reasons.NoTask task id)) h = absurd h
 of_table_weaker P Q by (comparison.OfTable place (reasons.Pace fault)) h = absurd h
 of_table_weaker P Q by (comparison.OfTable place (reasons.Count fault)) h = absurd h
 of_table_weaker P Q by (comparison.OfTable place (reasons.NoTable tables)) h = absurd h

@@ -13,10 +13,15 @@ use Rattle.cal_machine.specs.Tasks.{threads_in}
 use Rattle.cal_trace.specs.Arrivals.{arrivals_of}
 use Rattle.cal_trace.specs.Rows.{rows_of}
 use Rattle.cal_trace.specs.declared.arrivals.Arrivals.{Arrivals}
-use Rattle.cal_tables.specs.Moved.{AreMoved}
+use Rattle.cal_trace.specs.declared.comings.Coming.{Coming}
+use Rattle.cal_trace.specs.declared.comings.Comings.{Comings}
+use Rattle.cal_trace.specs.declared.comings.LeftOut.{LeftOut}
+use Rattle.cal_tables.specs.Crowding.{AreCrowded}
+use Rattle.cal_tables.specs.Moved.{AreMoved, comings_told}
 use Rattle.cal_tables.specs.Planned.{IsCountedBy}
+use Rattle.cal_tables.specs.declared.comparing.ComparedRun.{ComparedRun}
 use Rattle.cal_tables.specs.declared.comparing.RunTerms.{RunTerms}
-use Rattle.cal_tables.specs.declared.measuring.RunNumbers.{RunNumbers}
+use Rattle.cal_tables.specs.declared.comparing.moving.MovedArrivals.{MovedArrivals}
 
 -- the tables of an input, each ended by a separator line, and what stands after the last of these
 -- lines
@@ -46,18 +51,19 @@ pub record AreEachOf {X C : Type 0} (Is : X → C → Type 0) (things : List X)
   pub each : (i : ℕ) (thing : X) (item : C) →
       slice_get things i ≡ Some thing → slice_get items i ≡ Some item → Is thing item
 
--- it is so of a run of this table on arrivals that were given for another, as it gets them
-pub record IsOfMoved {R : Type 0} (Is : Table → Arrivals → R → Type 0) (given : Table)
-    (arrivals : Arrivals) (table : Table) (run : R) : Type 0 where
-  pub moved : Arrivals
-  pub gets : AreMoved given table arrivals moved
+-- it is so of a run of this table on arrivals that were given for another, and whose requests came to
+-- these turns, as it gets them
+pub record IsOfMoved {R : Type 0} (Is : Table → MovedArrivals → R → Type 0) (given : Table)
+    (arrivals : Arrivals) (comings : List Coming) (table : Table) (run : R) : Type 0 where
+  pub moved : MovedArrivals
+  pub gets : AreMoved given table arrivals comings moved
   pub is : Is table moved run
 
 -- as many runs as tables, each of the table at its place
-abbrev pub AreOfTables : {R : Type 0} → (Table → Arrivals → R → Type 0) → Table → Arrivals →
-    List Table → List R → Type 0
-AreOfTables Is given arrivals tables runs =
-    AreEachOf (λ table run. IsOfMoved Is given arrivals table run) tables runs
+abbrev pub AreOfTables : {R : Type 0} → (Table → MovedArrivals → R → Type 0) → Table → Arrivals →
+    List Coming → List Table → List R → Type 0
+AreOfTables Is given arrivals comings tables runs =
+    AreEachOf (λ table run. IsOfMoved Is given arrivals comings table run) tables runs
 
 -- from when the requests of these arrivals count, where that is asked for
 abbrev pub AreCountedFor : CountAsked → Table → Arrivals → Option CountedRequests → Type 0
@@ -69,23 +75,35 @@ abbrev pub counted_of : Arrivals → Option CountedRequests → Counted
 counted_of arrivals None = as_given arrivals
 counted_of arrivals (Some told) = told.counted
 
--- these are the numbers of a run on these terms, whose requests count so
-abbrev pub IsToldBy : RunTerms → Counted → Table → Arrivals → RunNumbers → Type 0
-IsToldBy terms counted table arrivals numbers =
-    IsCountedBy terms.plan terms.policy table arrivals counted numbers
+-- what a file says was left out before
+abbrev pub left_out_by : Option Comings → List LeftOut
+left_out_by None = []
+left_out_by (Some comings) = comings.left_out
 
--- the numbers of each table's run on these terms on arrivals that were given for one of them, as the
+abbrev pub left_out_told : Option CountedRequests → List LeftOut
+left_out_told None = []
+left_out_told (Some told) = left_out_by told.comings
+
+-- these are the numbers of a run on these terms, whose requests count so, and what is said of those
+-- that found their turns taken, where so many were left out before
+pub record IsToldBy (terms : RunTerms) (counted : Counted) (left_out : List LeftOut) (table : Table)
+    (moved : MovedArrivals) (run : ComparedRun) : Type 0 where
+  pub numbers : IsCountedBy terms.plan terms.policy table moved.arrivals counted run.numbers
+  pub crowded : AreCrowded table left_out moved.placed.items run.crowded.items
+
+-- what is said of each table's run on these terms on arrivals that were given for one of them, as the
 -- table gets them
 pub record AreRunsOn (terms : RunTerms) (given : Table) (arrivals : Arrivals)
-    (tables : List Table) (runs : List RunNumbers) : Type 0 where
+    (tables : List Table) (runs : List ComparedRun) : Type 0 where
   pub told : Option CountedRequests
   pub counted : AreCountedFor terms.counting given arrivals told
-  pub are : AreOfTables (IsToldBy terms (counted_of arrivals told)) given arrivals tables runs
+  pub are : AreOfTables (IsToldBy terms (counted_of arrivals told) (left_out_told told)) given
+      arrivals (comings_told arrivals told) tables runs
 
--- the tables of an input, and the numbers of each one's run on these terms on the input's arrivals, as
+-- the tables of an input, and what is said of each one's run on these terms on the input's arrivals, as
 -- the table gets them
 pub record IsComparison (terms : RunTerms) (input : List ℕ) (tables : List Table)
-    (runs : List RunNumbers) : Type 0 where
+    (runs : List ComparedRun) : Type 0 where
   pub given : Table
   pub arrivals : Arrivals
   pub with : AreTablesWith input tables given arrivals

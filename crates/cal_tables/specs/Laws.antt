@@ -6,15 +6,17 @@ use Rattle.std.specs.List.Sorted.{IsPermutation}
 use Rattle.cal_machine.specs.Reading.{table_in}
 use Rattle.cal_machine.specs.Table.{Table, IsTable}
 use Rattle.cal_machine.specs.declared.task.Task.{Task}
-use Rattle.cal_tables.specs.Moved.{AreMoved, each_moved}
+use Rattle.cal_tables.specs.Moved.{AreMoved, arrivals_in, each_moved}
 use Rattle.cal_tables.specs.TableText.{Line, lines_of, text_of_lines}
 use Rattle.cal_machine.specs.declared.fault.ConfigFault.{ConfigFault}
 use Rattle.cal_machine.specs.declared.fault.ConfigFault.TheVariants.{UnknownKey}
 use Rattle.cal_tables.specs.Settings.{KeyValue, Varying, settings_of, with_key}
+use Rattle.cal_tables.specs.declared.comparing.moving.MovedArrivals.{MovedArrivals}
 use Rattle.cal_tables.specs.Varied.{has_key, has_keys, varied, varied_lines, with_values}
 use Rattle.cal_trace.specs.Arrivals.FitsTable.{EachLater, FitsTable}
 use Rattle.cal_trace.specs.declared.arrivals.Arrival.{Arrival}
 use Rattle.cal_trace.specs.declared.arrivals.Arrivals.{Arrivals}
+use Rattle.cal_trace.specs.declared.comings.Coming.{Coming}
 
 -- a table's text is read as that table
 abbrev pub TableTextIsReadBack : Type 0
@@ -91,17 +93,20 @@ limits_of tasks = map (λ task. task.limit) tasks
 -- a table whose tasks have the limits of those that the arrivals were given for gets them as they
 -- are
 abbrev pub SameLimitsMoveNothing : Type 0
-SameLimitsMoveNothing = (given table : Table) (arrivals moved : Arrivals) →
-    limits_of given.tasks ≡ limits_of table.tasks → FitsTable given arrivals →
-    AreMoved given table arrivals moved → moved ≡ arrivals
+SameLimitsMoveNothing = (given table : Table) (arrivals : Arrivals) (comings : List Coming)
+    (moved : MovedArrivals) → limits_of given.tasks ≡ limits_of table.tasks →
+    FitsTable given arrivals → arrivals_in comings ≡ arrivals.requests →
+    AreMoved given table arrivals comings moved → moved.arrivals ≡ arrivals
 
 -- two requests are not for one thread before one turn
 abbrev pub AreNotAtOnce : Arrival → Arrival → Type 0
 AreNotAtOnce one other = one.thread ≡ other.thread → one.turn ≡ other.turn → ⊥
 
--- where no two requests are for one thread before one turn each stays before its own
+-- where no two requests are for one thread before one turn each stays before its own, and none is left
+-- out
 abbrev pub NoneWaitsWhereNoneMeet : Type 0
-NoneWaitsWhereNoneMeet = (given table : Table) (arrivals moved : Arrivals) →
-    FitsTable given arrivals → EachLater AreNotAtOnce (each_moved given table arrivals) →
-    AreMoved given table arrivals moved →
-    IsPermutation (each_moved given table arrivals) moved.requests
+NoneWaitsWhereNoneMeet = (given table : Table) (arrivals : Arrivals) (comings : List Coming)
+    (moved : MovedArrivals) → FitsTable given arrivals → arrivals_in comings ≡ arrivals.requests →
+    EachLater AreNotAtOnce (arrivals_in (each_moved given table comings)) →
+    AreMoved given table arrivals comings moved →
+    IsPermutation (arrivals_in (each_moved given table comings)) moved.arrivals.requests

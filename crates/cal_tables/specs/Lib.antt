@@ -3,6 +3,7 @@ pub mod Planned
 pub mod Recording
 pub mod Asked
 pub mod Moved
+pub mod Placing
 pub mod Compared
 pub mod TableText
 pub mod Settings

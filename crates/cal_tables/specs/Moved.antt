@@ -1,21 +1,41 @@
 -- Arrivals that were given for one table, as another table gets them.
-use Rattle.std.specs.Prelude.{◌≡◌, ◌<◌, ◌≤◌, ◌⊎◌, ℕ, ◌+◌, ◌-◌, ◌*◌, ◌%◌, ◌^◌, List, length, map}
-use Rattle.std.specs.Prelude.{Some, slice_get}
-use Rattle.std.specs.List.{Contains}
+use Rattle.std.specs.Prelude.{◌≡◌, ◌<◌, ◌≤◌, ℕ, ◌+◌, ◌-◌, ◌*◌, ◌%◌, ◌^◌, ◌++◌, List, [], ◌∷◌}
+use Rattle.std.specs.Prelude.{length, map, take, Option, Some, None, slice_get}
+use Rattle.std.specs.List.{Contains, flat_map}
 use Rattle.std.specs.List.Sorted.{IsNonDecreasingBy, IsPermutation, IsStableByKey}
 use Rattle.std.specs.Ordering.{nat_cmp}
+use Rattle.cal_came.specs.declared.asked.CountedRequests.{CountedRequests}
 use Rattle.cal_input.specs.declared.fault.RunFault.TheVariants.{Memory}
 use Rattle.cal_machine.specs.Table.{Table}
 use Rattle.cal_machine.specs.Tasks.{first_thread, task_at, task_of}
 use Rattle.cal_machine.specs.declared.task.Task.{Task}
-use Rattle.cal_tables.specs.declared.comparing.fault.Misfit.{Misfit}
-use Rattle.cal_tables.specs.declared.comparing.fault.Misfit.TheVariants as misfits
 use Rattle.cal_tables.specs.declared.comparing.fault.Reason.{Reason}
 use Rattle.cal_tables.specs.declared.comparing.fault.Reason.TheVariants as reasons
-use Rattle.cal_trace.specs.Arrivals.FitsTable.{ComesBefore, EachLater}
+use Rattle.cal_tables.specs.declared.comparing.moving.MovedArrivals.{MovedArrivals}
+use Rattle.cal_tables.specs.declared.comparing.placing.Placed.{Placed}
 use Rattle.cal_trace.specs.History.Ranges.{Each}
 use Rattle.cal_trace.specs.declared.arrivals.Arrival.{Arrival}
 use Rattle.cal_trace.specs.declared.arrivals.Arrivals.{Arrivals}
+use Rattle.cal_trace.specs.declared.comings.Coming.{Coming}
+use Rattle.cal_trace.specs.declared.comings.Comings.{Comings}
+
+-- the requests of comings
+abbrev pub arrivals_in : List Coming → List Arrival
+arrivals_in comings = map (λ coming. coming.arrival) comings
+
+-- each request came to the turn that it is given for
+abbrev pub own_coming : Arrival → Coming
+own_coming arrival = record { arrival = arrival; turn = arrival.turn }
+
+-- to which turns requests came: as a file says, or to those that they are given for
+abbrev pub comings_by : Arrivals → Option Comings → List Coming
+comings_by arrivals None = map own_coming arrivals.requests
+comings_by arrivals (Some comings) = comings.requests
+
+-- the same, where it may have been asked from when they count
+abbrev pub comings_told : Arrivals → Option CountedRequests → List Coming
+comings_told arrivals None = comings_by arrivals None
+comings_told arrivals (Some told) = comings_by arrivals told.comings
 
 -- which of its task's threads a thread is, from 0
 abbrev pub place_of : List Task → ℕ → ℕ
@@ -32,104 +52,95 @@ abbrev pub moved_to : Table → Table → Arrival → Arrival
 moved_to given table arrival =
     record arrival { thread = thread_for given.tasks table.tasks arrival.thread }
 
+abbrev pub coming_moved_to : Table → Table → Coming → Coming
+coming_moved_to given table coming =
+    record coming { arrival = moved_to given table coming.arrival }
+
+-- each of them, for the thread that gets it
+abbrev pub each_moved : Table → Table → List Coming → List Coming
+each_moved given table comings = map (coming_moved_to given table) comings
+
 -- where a request stands among others: by its thread, and then by its turn, which is below 2^64
-abbrev pub order_of : Arrival → ℕ
-order_of arrival = arrival.thread * 2 ^ 64 + arrival.turn
+abbrev pub order_of : Coming → ℕ
+order_of coming = coming.arrival.thread * 2 ^ 64 + coming.arrival.turn
 
 -- these are the requests in their order; those for one thread before one turn stay as they were
-pub record AreInOrder (requests ordered : List Arrival) : Type 0 where
+pub record AreInOrder (requests ordered : List Coming) : Type 0 where
   pub same : IsPermutation requests ordered
   pub up : IsNonDecreasingBy order_of ordered
   pub stable : IsStableByKey order_of nat_cmp requests ordered
 
--- one of these requests is for this thread before this turn
-pub record IsTaken (requests : List Arrival) (thread turn : ℕ) : Type 0 where
-  pub one : Arrival
-  pub among : Contains requests one
-  pub its_thread : one.thread ≡ thread
-  pub its_turn : one.turn ≡ turn
+-- one of these requests comes to this thread before this turn
+pub record IsTaken (placed : List Placed) (thread turn : ℕ) : Type 0 where
+  pub one : Placed
+  pub among : Contains placed one
+  pub its_thread : one.coming.arrival.thread ≡ thread
+  pub its_turn : one.turn ≡ Some turn
 
--- a request before its turn, or before a later one where these take all from its own up to that
-pub record IsSettledIn (settled : List Arrival) (arrival stands : Arrival) : Type 0 where
-  pub same : stands ≡ record arrival { turn = stands.turn }
-  pub from : arrival.turn ≤ stands.turn
-  pub taken : (turn : ℕ) → arrival.turn ≤ turn → turn < stands.turn →
-      IsTaken settled arrival.thread turn
+-- these requests take all turns of a thread from one on and before another
+abbrev pub AreTaken : List Placed → ℕ → ℕ → ℕ → Type 0
+AreTaken placed thread from end = (turn : ℕ) → from ≤ turn → turn < end → IsTaken placed thread turn
 
--- the first of some requests that are in their order, as many as are settled here: each before its
--- turn or, where that is taken, before the first after it that is free, and no two for one thread
--- before one turn
-pub record AreSettled (ordered settled : List Arrival) : Type 0 where
-  pub each : (i : ℕ) (arrival stands : Arrival) → slice_get ordered i ≡ Some arrival →
-      slice_get settled i ≡ Some stands → IsSettledIn settled arrival stands
-  pub rising : EachLater ComesBefore settled
+-- of so many turns this is the first from a request's own on that those before it leave free
+pub record IsFirstFree (turns : ℕ) (before : List Placed) (arrival : Arrival) (turn : ℕ) : Type 0 where
+  pub from : arrival.turn ≤ turn
+  pub within : turn < turns
+  pub taken : AreTaken before arrival.thread arrival.turn turn
+  pub free : IsTaken before arrival.thread turn → ⊥
 
--- the requests, each for the thread that gets it
-abbrev pub each_moved : Table → Table → Arrivals → List Arrival
-each_moved given table arrivals = map (moved_to given table) arrivals.requests
+-- before which of so many turns a request comes, after those before it; none where they take all from
+-- its own on
+abbrev pub IsTurnOf : ℕ → List Placed → Arrival → Option ℕ → Type 0
+IsTurnOf turns before arrival None = AreTaken before arrival.thread arrival.turn turns
+IsTurnOf turns before arrival (Some turn) = IsFirstFree turns before arrival turn
+
+-- requests that are in their order, each before its turn or, where one before it takes that, before the
+-- first of so many turns after it that those before it leave free; those for which they leave none are
+-- left out
+pub record ArePlaced (turns : ℕ) (ordered : List Coming) (placed : List Placed) : Type 0 where
+  pub same : map (λ one. one.coming) placed ≡ ordered
+  pub each : (i : ℕ) (one : Placed) → slice_get placed i ≡ Some one →
+      IsTurnOf turns (take i placed) one.coming.arrival one.turn
+
+abbrev pub before_turn : Arrival → Option ℕ → List Arrival
+before_turn arrival None = []
+before_turn arrival (Some turn) = record arrival { turn = turn } ∷ []
+
+-- those that are not left out, as they come
+abbrev pub standing : List Placed → List Arrival
+standing placed = flat_map (λ one. before_turn one.coming.arrival one.turn) placed
 
 -- the table has the task that the request was given for
-abbrev pub HasItsTask : Table → Table → Arrival → Type 0
-HasItsTask given table arrival = task_of given.tasks arrival.thread < length table.tasks
+abbrev pub HasItsTask : Table → Table → Coming → Type 0
+HasItsTask given table coming = task_of given.tasks coming.arrival.thread < length table.tasks
 
--- the arrivals that were given for one table, as another gets them: the same passes and the same
--- turns, which each thread makes; all requests, each for a thread of the task that it was given for,
--- before its turn or, where that is taken, before the first after it that is free
-pub record AreMoved (given table : Table) (arrivals moved : Arrivals) : Type 0 where
-  pub passes : moved.passes ≡ arrivals.passes
-  pub turns : moved.turns ≡ arrivals.turns
-  pub tasks : Each (HasItsTask given table) arrivals.requests
-  pub ordered : List Arrival
-  pub in_order : AreInOrder (each_moved given table arrivals) ordered
-  pub settled : AreSettled ordered moved.requests
-  pub all : length moved.requests ≡ length ordered
-  pub within : Each (λ arrival. arrival.turn < length arrivals.turns) moved.requests
+-- the arrivals that were given for one table, and whose requests came to these turns, as another gets
+-- them: the same passes and the same turns, which each thread makes; each request for a thread of the
+-- task that it was given for, before its turn or the first after it that is free; what finds none is
+-- left out
+pub record AreMoved (given table : Table) (arrivals : Arrivals) (comings : List Coming)
+    (moved : MovedArrivals) : Type 0 where
+  pub passes : moved.arrivals.passes ≡ arrivals.passes
+  pub turns : moved.arrivals.turns ≡ arrivals.turns
+  pub tasks : Each (HasItsTask given table) comings
+  pub ordered : List Coming
+  pub in_order : AreInOrder (each_moved given table comings) ordered
+  pub placed : ArePlaced (length arrivals.turns) ordered moved.placed.items
+  pub requests : moved.arrivals.requests ≡ standing moved.placed.items
 
 -- one of these requests was given for a task that the table has not
-pub record IsWithoutTask (given table : Table) (requests : List Arrival)
+pub record IsWithoutTask (given table : Table) (comings : List Coming)
     (task id : ℕ) : Type 0 where
-  pub arrival : Arrival
-  pub among : Contains requests arrival
-  pub named : arrival.request.id ≡ id
-  pub its_task : task_of given.tasks arrival.thread ≡ task
+  pub coming : Coming
+  pub among : Contains comings coming
+  pub named : coming.arrival.request.id ≡ id
+  pub its_task : task_of given.tasks coming.arrival.thread ≡ task
   pub missing : length table.tasks ≤ task
 
--- to the next of some requests that are in their order no turn is left: those before it take each from
--- its own to the last
-pub record IsWithoutTurn (turns : ℕ) (ordered : List Arrival) (thread id : ℕ) : Type 0 where
-  pub settled : List Arrival
-  pub are : AreSettled ordered settled
-  pub arrival : Arrival
-  pub next : slice_get ordered (length settled) ≡ Some arrival
-  pub named : arrival.request.id ≡ id
-  pub its_thread : arrival.thread ≡ thread
-  pub taken : (turn : ℕ) → arrival.turn ≤ turn → turn < turns → IsTaken settled thread turn
-
--- why requests have no thread of the table
-abbrev pub IsWithout : Table → Table → List Arrival → Misfit → Type 0
-IsWithout given table requests (misfits.NoTask task id) = IsWithoutTask given table requests task id
-IsWithout given table requests (misfits.NoTurn thread id) = ⊥
-
--- why requests that are in their order have no turn of so many
-abbrev pub IsLate : ℕ → List Arrival → Misfit → Type 0
-IsLate turns ordered (misfits.NoTask task id) = ⊥
-IsLate turns ordered (misfits.NoTurn thread id) = IsWithoutTurn turns ordered thread id
-
--- why requests have none in their order
-pub record IsLateInOrder (turns : ℕ) (requests : List Arrival) (misfit : Misfit) : Type 0 where
-  pub ordered : List Arrival
-  pub in_order : AreInOrder requests ordered
-  pub late : IsLate turns ordered misfit
-
--- why the table does not get the arrivals
-abbrev pub IsMisfit : Table → Table → Arrivals → Misfit → Type 0
-IsMisfit given table arrivals misfit = IsWithout given table arrivals.requests misfit
-    ⊎ IsLateInOrder (length arrivals.turns) (each_moved given table arrivals) misfit
-
--- memory was refused, or there is a misfit that is so
-abbrev pub IsReason : (Misfit → Type 0) → Reason → Type 0
-IsReason Is (reasons.Run fault) = fault ≡ Memory
-IsReason Is (reasons.Misfit misfit) = Is misfit
-IsReason Is (reasons.Pace fault) = ⊥
-IsReason Is (reasons.Count fault) = ⊥
-IsReason Is (reasons.NoTable tables) = ⊥
+-- why the table does not get the arrivals: memory was refused, or it has not the task of a request
+abbrev pub IsMisfit : Table → Table → List Coming → Reason → Type 0
+IsMisfit given table comings (reasons.Run fault) = fault ≡ Memory
+IsMisfit given table comings (reasons.NoTask task id) = IsWithoutTask given table comings task id
+IsMisfit given table comings (reasons.Pace fault) = ⊥
+IsMisfit given table comings (reasons.Count fault) = ⊥
+IsMisfit given table comings (reasons.NoTable tables) = ⊥

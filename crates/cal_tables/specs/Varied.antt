@@ -12,9 +12,9 @@ use Rattle.cal_policy.specs.declared.policy.Policy.{Policy}
 use Rattle.cal_tables.specs.Compared.{AreRunsOn, IsComparison}
 use Rattle.cal_tables.specs.Settings.{KeyValue, Varying, settings_of, value_of, varyings_of}
 use Rattle.cal_tables.specs.declared.comparing.ComparedInput.{ComparedInput}
+use Rattle.cal_tables.specs.declared.comparing.ComparedRun.{ComparedRun}
 use Rattle.cal_tables.specs.declared.comparing.RunTerms.{RunTerms}
 use Rattle.cal_tables.specs.declared.comparing.Variation.{Variation}
-use Rattle.cal_tables.specs.declared.measuring.RunNumbers.{RunNumbers}
 use Rattle.cal_trace.specs.declared.arrivals.Arrivals.{Arrivals}
 
 -- the line; if its place is a key of the setting, with the value of that
@@ -54,7 +54,7 @@ pub record AreVariedWith (input : List ℕ) (varyings : List Varying) (tables : 
 -- the tables that the table of an input gives with each setting of these keys, and the numbers of
 -- each one's run on these terms on the input's arrivals, as it gets them
 pub record IsVariation (terms : RunTerms) (input : List ℕ) (varyings : List Varying)
-    (tables : List Table) (runs : List RunNumbers) : Type 0 where
+    (tables : List Table) (runs : List ComparedRun) : Type 0 where
   pub given : Table
   pub arrivals : Arrivals
   pub with : AreVariedWith input varyings tables given arrivals
@@ -62,7 +62,7 @@ pub record IsVariation (terms : RunTerms) (input : List ℕ) (varyings : List Va
 
 -- the runs of the tables of an input, or with variations those of the tables that its table gives
 abbrev pub IsComparisonOf : RunTerms → List ℕ → List Variation → List Table →
-    List RunNumbers → Type 0
+    List ComparedRun → Type 0
 IsComparisonOf terms input [] tables runs = IsComparison terms input tables runs
 IsComparisonOf terms input (first ∷ others) tables runs =
     IsVariation terms input (varyings_of (first ∷ others)) tables runs
@@ -72,6 +72,6 @@ abbrev pub terms_by : ComparedInput → Policy → RunTerms
 terms_by input policy =
     record { policy = policy; plan = input.plan; counting = input.counting }
 
-abbrev pub IsComparisonBy : ComparedInput → Policy → List Table → List RunNumbers → Type 0
+abbrev pub IsComparisonBy : ComparedInput → Policy → List Table → List ComparedRun → Type 0
 IsComparisonBy input policy tables runs =
     IsComparisonOf (terms_by input policy) input.bytes.now input.variations.now tables runs

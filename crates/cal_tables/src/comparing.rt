@@ -4,6 +4,7 @@ pub mod changes;
 pub mod fault;
 pub mod input_text;
 pub mod moving;
+pub mod placing;
 pub mod runs;
 pub mod settings;
 pub mod sheet;
@@ -21,9 +22,10 @@ use crate::comparing::runs::{comparison_on, policy_at};
 use crate::comparing::sheet::ShownComparison;
 use crate::comparing::tables::given_tables;
 use crate::comparing::varying::varied_given;
+use crate::crowding::Crowded;
 use crate::measuring::RunNumbers;
 use crate::style::NumberStyle;
-use cal_came::{CountAsked, CountedRequests};
+use cal_came::CountAsked;
 use cal_input::RunFault;
 use cal_machine::Config;
 use cal_paced::Plan;
@@ -42,17 +44,24 @@ pub struct RunTerms<'a> {
     pub counting: CountAsked<'a>,
 }
 
-/// Some tables, and the numbers of each one's run.
+/// What is said of a table's run.
+#[derive(Drop)]
+pub struct ComparedRun {
+    /// Its numbers.
+    pub numbers: RunNumbers,
+    /// Of each task, in task order, how many requests found their turns taken.
+    pub crowded: Vec<Crowded>,
+}
+
+/// Some tables, and what is said of each one's run.
 #[derive(Drop)]
 pub struct Comparison {
     /// The tables.
     pub tables: Vec<Config>,
-    /// The numbers of each table's run, in the order of the tables.
-    pub runs: Vec<RunNumbers>,
-    /// The table that the arrivals are given for.
-    pub given: Config,
-    /// From when their requests count, where that is asked for.
-    pub told: Option<CountedRequests>,
+    /// What is said of each table's run, in the order of the tables.
+    pub runs: Vec<ComparedRun>,
+    /// Whether a file says when the requests came.
+    pub has_came: bool,
 }
 
 /// The tables of an input, each ended by a separator line, and the numbers of each one's run on these

@@ -24,8 +24,9 @@ mod writing;
 
 pub use asked_fault::AskedFault;
 pub use asking::{Asked, read_asked};
-pub use comparing::fault::{ComparisonFault, Misfit, Reason};
-pub use comparing::moving::moved_arrivals;
+pub use comparing::fault::{ComparisonFault, Reason};
+pub use comparing::moving::{MovedArrivals, moved_arrivals, own_comings};
+pub use comparing::placing::Placed;
 pub use comparing::runs::{policy_at, table_at};
 pub use comparing::settings::{settings_in, value_in};
 pub use comparing::tables::read_tables;

@@ -1,5 +1,5 @@
--- Requests that differ by a number of theirs, as their ids do, in whichever order they are.
-use Rattle.std.proofs.Common.{◌≡◌, ◌==◌, ◌<◌, ◌≤◌, ◌+◌, ◌∙◌, ◌⊎◌, inl, inr, ℕ, zero, suc, Bool, true, false, cond, List, [], ◌∷◌, length, map, Some, slice_get, get_or, refl, sym, ap, arith, subst}
+-- Things that differ by a number of theirs, as requests do by their ids, in whichever order they are.
+use Rattle.std.proofs.Common.{◌≡◌, ◌==◌, ◌<◌, ◌≤◌, ◌+◌, ◌∙◌, ◌⊎◌, inl, inr, ℕ, zero, suc, Bool, cond, List, [], ◌∷◌, Some, slice_get, get_or, refl, sym, ap, arith}
 use Rattle.std.specs.List.{sum_by}
 use Rattle.std.specs.List.Sorted.{IsPermutation}
 use Rattle.std.proofs.lemmas.Bool.{cases_eq, eq-eqb, ne_eqb}
@@ -7,36 +7,35 @@ use Rattle.std.proofs.lemmas.List.Sorted.{sum_by-IsPermutation}
 use Rattle.std.proofs.lemmas.List.Sums.{get_or-le-sum_by, sum_by-cons}
 use Rattle.std.proofs.lemmas.Option.{slice_get_within, get_or_from_slice_get}
 use Rattle.cal_machine.proofs.Last.{some_same}
-use Rattle.cal_trace.specs.Arrivals.FitsTable.{EachLater, HaveTwoIds}
-use Rattle.cal_trace.specs.declared.arrivals.Arrival.{Arrival}
+use Rattle.cal_trace.specs.Arrivals.FitsTable.{EachLater}
 
--- two requests differ by this number
-abbrev pub Differ : (Arrival → ℕ) → Arrival → Arrival → Type 0
+-- two things differ by this number
+abbrev pub Differ : {X : Type 0} → (X → ℕ) → X → X → Type 0
 Differ n a b = n a ≡ n b → ⊥
 
-module _ (n : Arrival → ℕ) where
-  -- 1 for a request with this number
-  abbrev one_of : ℕ → Arrival → ℕ
-  one_of m arrival = cond (n arrival == m) 1 0
+module _ {X : Type 0} (n : X → ℕ) where
+  -- 1 for a thing with this number
+  abbrev one_of : ℕ → X → ℕ
+  one_of m one = cond (n one == m) 1 0
 
   -- how many requests have it
-  abbrev with_it : ℕ → List Arrival → ℕ
+  abbrev with_it : ℕ → List X → ℕ
   with_it m xs = sum_by (one_of m) xs
 
-  is_one : (m : ℕ) (x : Arrival) → n x ≡ m → one_of m x ≡ 1
+  is_one : (m : ℕ) (x : X) → n x ≡ m → one_of m x ≡ 1
   is_one m x e = ap (λ (b : Bool). cond b 1 0) (eq-eqb (n x) m e)
 
-  is_none : (m : ℕ) (x : Arrival) → (n x ≡ m → ⊥) → one_of m x ≡ 0
+  is_none : (m : ℕ) (x : X) → (n x ≡ m → ⊥) → one_of m x ≡ 0
   is_none m x ne = ap (λ (b : Bool). cond b 1 0) (ne_eqb (n x) m ne)
 
-  none_with : (m : ℕ) (xs : List Arrival) → ((k : ℕ) (x : Arrival) → slice_get xs k ≡ Some x → n x ≡ m → ⊥) → with_it m xs ≡ 0
+  none_with : (m : ℕ) (xs : List X) → ((k : ℕ) (x : X) → slice_get xs k ≡ Some x → n x ≡ m → ⊥) → with_it m xs ≡ 0
   none_with m [] h = refl
   none_with m (x ∷ xs) h =
       let first : one_of m x ≡ 0 = is_none m x (h 0 x refl) in
       let others = none_with m xs (λ k y e. h (suc k) y e) in
       omega (arith, sum_by-cons (one_of m) x xs, first, others)
 
-  at_most_one : (m : ℕ) (xs : List Arrival) → EachLater (Differ n) xs → with_it m xs ≤ 1
+  at_most_one : (m : ℕ) (xs : List X) → EachLater (Differ n) xs → with_it m xs ≤ 1
   at_most_one m [] h = omega arith
   at_most_one m (x ∷ xs) h = go (at_most_one m xs (record { at = λ i j y z lt e f. h.at (suc i) (suc j) y z (omega (arith, lt)) e f })) (cases_eq (n x) m)
     where
@@ -49,13 +48,13 @@ module _ (n : Arrival → ℕ) where
           let first : one_of m x ≡ 0 = is_none m x ne in
           omega (arith, sum_by-cons (one_of m) x xs, first, few)
 
-  some_with : (m : ℕ) (xs : List Arrival) (j : ℕ) (y : Arrival) → slice_get xs j ≡ Some y → n y ≡ m → 1 ≤ with_it m xs
+  some_with : (m : ℕ) (xs : List X) (j : ℕ) (y : X) → slice_get xs j ≡ Some y → n y ≡ m → 1 ≤ with_it m xs
   some_with m xs j y e same =
       let there : get_or xs j y ≡ y = get_or_from_slice_get xs j y y e in
       let one : one_of m (get_or xs j y) ≡ 1 = ap (one_of m) there ∙ is_one m y same in
       omega (arith, one, get_or-le-sum_by (one_of m) xs j y (slice_get_within xs j y e))
 
-  two_with : (m : ℕ) (xs : List Arrival) (i j : ℕ) (x y : Arrival) → i < j → slice_get xs i ≡ Some x → slice_get xs j ≡ Some y
+  two_with : (m : ℕ) (xs : List X) (i j : ℕ) (x y : X) → i < j → slice_get xs i ≡ Some x → slice_get xs j ≡ Some y
       → n x ≡ m → n y ≡ m → 2 ≤ with_it m xs
   two_with m [] i j x y lt e f one other = absurd (cc)
   two_with m (z ∷ xs) i zero x y lt e f one other = absurd (omega (arith, lt))
@@ -68,29 +67,9 @@ module _ (n : Arrival → ℕ) where
       omega (arith, sum_by-cons (one_of m) z xs, others)
 
   -- in another order
-  pub differ_reordered : (xs ys : List Arrival) → IsPermutation xs ys → EachLater (Differ n) xs → EachLater (Differ n) ys
+  pub differ_reordered : (xs ys : List X) → IsPermutation xs ys → EachLater (Differ n) xs → EachLater (Differ n) ys
   differ_reordered xs ys order once = record {
     at = λ i j x y lt e f same.
         let two = two_with (n y) ys i j x y lt e f same refl in
         absurd (omega (arith, two, sum_by-IsPermutation (one_of (n y)) xs ys order, at_most_one (n y) xs once));
   }
-
--- the ids of requests
-abbrev pub id_of : Arrival → ℕ
-id_of arrival = arrival.request.id
-
--- what is at a place of a map
-pub unmapped : {X Y : Type 0} (f : X → Y) (xs : List X) (i : ℕ) (y : Y) → slice_get (map f xs) i ≡ Some y → (x : X) × (slice_get xs i ≡ Some x) × (f x ≡ y)
-unmapped f [] i y e = absurd (cc)
-unmapped f (x ∷ xs) zero y e = (x, refl, some_same (f x) y e)
-unmapped f (x ∷ xs) (suc i) y e = unmapped f xs i y e
-
--- of requests that keep their ids
-pub ids_mapped : (f : Arrival → Arrival) (xs : List Arrival) → ((x : Arrival) → (f x).request ≡ x.request) → EachLater HaveTwoIds xs → EachLater HaveTwoIds (map f xs)
-ids_mapped f xs keeps once = record {
-  at = λ i j x y lt e f' same.
-      let p = unmapped f xs i x e in
-      let q = unmapped f xs j y f' in
-      let id : (a b : Arrival) → f a ≡ b → a.request.id ≡ b.request.id = λ a b g. ap (λ r. r.id) (sym (keeps a)) ∙ ap (λ (c : Arrival). c.request.id) g in
-      once.at i j p.0 q.0 lt p.1 q.1 (id p.0 x p.2 ∙ same ∙ sym (id q.0 y q.2));
-}

@@ -1,5 +1,5 @@
 -- Requests that move fit where they come to.
-use Rattle.std.proofs.Common.{◌≡◌, ◌<◌, ◌≤◌, ◌+◌, ◌-◌, ◌%◌, ◌^◌, ℕ, List, All, length, map, Some, slice_get, get_or, refl, sym, ap, arith, subst, ◌∙◌}
+use Rattle.std.proofs.Common.{◌≡◌, ◌<◌, ◌≤◌, ◌+◌, ◌-◌, ◌%◌, ◌^◌, ℕ, List, [], ◌∷◌, All, length, map, Some, slice_get, get_or, refl, sym, ap, arith, subst, ◌∙◌}
 use Rattle.std.proofs.Math.Nat.{mod-lt}
 use Rattle.std.specs.List.Sorted.{IsPermutation}
 use Rattle.std.proofs.lemmas.List.Elements.{All-get_or}
@@ -9,14 +9,21 @@ use Rattle.cal_machine.proofs.ThreadNumbers.{next_le}
 use Rattle.cal_machine.specs.Table.{IsTable, IsTask, Table}
 use Rattle.cal_machine.specs.Tasks.{no_task, task_at, task_of, threads_in}
 use Rattle.cal_machine.specs.declared.task.Task.{Task}
-use Rattle.cal_trace.specs.Arrivals.FitsTable.{EachLater, ComesBefore, Fits, FitsTable, HaveTwoIds, IsArrival}
+use Rattle.cal_trace.specs.Arrivals.FitsTable.{ComesBefore, EachLater, FitsTable, HaveTwoIds, IsArrival}
 use Rattle.cal_policy.specs.declared.history.entry.TheConstants.{MOST_PASSES}
 use Rattle.cal_trace.specs.History.Ranges.{Each}
 use Rattle.cal_trace.specs.declared.arrivals.reading.TheConstants.{MOST_TURNS}
 use Rattle.cal_trace.specs.declared.arrivals.Arrival.{Arrival}
 use Rattle.cal_trace.specs.declared.arrivals.Arrivals.{Arrivals}
-use Rattle.cal_tables.specs.Moved.{AreMoved, AreSettled, HasItsTask, IsSettledIn, moved_to, each_moved, place_of, thread_for}
-use Rattle.cal_tables.proofs.Moving.Ids.{Differ, differ_reordered, id_of, ids_mapped, unmapped}
+use Rattle.cal_trace.specs.declared.comings.Coming.{Coming}
+use Rattle.cal_tables.specs.Moved.{AreMoved, arrivals_in, coming_moved_to, each_moved, HasItsTask, moved_to, place_of, standing, thread_for}
+use Rattle.cal_tables.specs.declared.comparing.moving.MovedArrivals.{MovedArrivals}
+use Rattle.cal_tables.specs.declared.comparing.placing.Placed.{Placed}
+use Rattle.cal_tables.proofs.Moving.Ids.{Differ, differ_reordered}
+use Rattle.cal_tables.proofs.Moving.Members.{each_mapped, each_unmapped, later_mapped, later_unmapped}
+use Rattle.cal_tables.proofs.Moving.Order.{AreBelow}
+use Rattle.cal_tables.proofs.Moving.Standing.{each_standing, later_standing, standing_rise}
+use Rattle.cal_tables.proofs.Moving.Taken.{coming_at, first_free}
 
 -- a thread that something comes to is one of the tasks
 pub thread_within : (given tasks : List Task) (k : ℕ) → All IsTask tasks → task_of given k < length tasks → thread_for given tasks k < threads_in tasks
@@ -35,83 +42,94 @@ each_from_all P xs h = record { at = λ k x e. subst P (get_or_from_slice_get xs
 pub each_reordered : {X : Type 0} (P : X → Type 0) (xs ys : List X) → IsPermutation xs ys → Each P xs → Each P ys
 each_reordered P xs ys order h = each_from_all P ys (All-permutation P xs ys order (all_from_each P xs h))
 
-moved_fit : (given table : Table) (turns : ℕ) (xs : List Arrival) → IsTable table → Each (HasItsTask given table) xs
-    → Each (IsArrival (threads_in given.tasks) turns) xs → Each (IsArrival (threads_in table.tasks) turns) (map (moved_to given table) xs)
-moved_fit given table turns xs is tasks fit = record {
-  at = λ k y e.
-      let p = unmapped (moved_to given table) xs k y e in
-      let was = fit.at k p.0 p.1 in
-      subst (IsArrival (threads_in table.tasks) turns) p.2 (record {
-        thread = thread_within given.tasks table.tasks p.0.thread is.each (tasks.at k p.0 p.1);
-        turn = was.turn;
-        some_work = was.some_work;
-        most_work = was.most_work;
-        misses = was.misses;
-      });
-}
+-- the arrivals of comings that move are those of the comings, which move
+pub arrivals_moved : (given table : Table) (comings : List Coming) → arrivals_in (each_moved given table comings) ≡ map (moved_to given table) (arrivals_in comings)
+arrivals_moved given table [] = refl
+arrivals_moved given table (x ∷ xs) = ap (λ l. moved_to given table x.arrival ∷ l) (arrivals_moved given table xs)
 
--- requests that move are before turns that there are
-pub turns_fit : (given table : Table) (arrivals : Arrivals) → FitsTable given arrivals
-    → Each (λ (arrival : Arrival). arrival.turn < length arrivals.turns) (each_moved given table arrivals)
-turns_fit given table arrivals fits = record {
-  at = λ k y e.
-      let p = unmapped (moved_to given table) arrivals.requests k y e in
-      subst (λ (arrival : Arrival). arrival.turn < length arrivals.turns) p.2 ((fits.each.at k p.0 p.1).turn);
-}
+module _ (given table : Table) (arrivals : Arrivals) (comings : List Coming) (fits : FitsTable given arrivals) (of : arrivals_in comings ≡ arrivals.requests) where
+  -- the id of a request
+  abbrev id_of : Coming → ℕ
+  id_of coming = coming.arrival.request.id
 
--- the ids of requests that move
-once_moved : (given table : Table) (arrivals : Arrivals) → FitsTable given arrivals → EachLater (Differ id_of) (each_moved given table arrivals)
-once_moved given table arrivals fits = ids_mapped (moved_to given table) arrivals.requests (λ x. refl) fits.once
+  fit : Each (λ (one : Coming). IsArrival (threads_in given.tasks) (length arrivals.turns) one.arrival) comings
+  fit = each_unmapped (λ (one : Coming). one.arrival) (IsArrival (threads_in given.tasks) (length arrivals.turns)) comings
+      (subst (λ l. Each (IsArrival (threads_in given.tasks) (length arrivals.turns)) l) (sym of) fits.each)
 
--- a request that is settled is one of those in order, before another turn
-module _ (ordered settled : List Arrival) (are : AreSettled ordered settled) (all : length settled ≡ length ordered) where
-  source : (k : ℕ) (x : Arrival) → slice_get settled k ≡ Some x → (y : Arrival) × (slice_get ordered k ≡ Some y) × IsSettledIn settled y x
-  source k x e =
-      let y = get_or ordered k x in
-      let at : slice_get ordered k ≡ Some y = let within = slice_get_within settled k x e in slice_get-get_or ordered k x (omega (arith, within, all)) in
-      (y, at, are.each k y x at e)
+  -- they are for threads that there are
+  pub threads_fit : Each (λ (one : Coming). one.arrival.thread < threads_in given.tasks) comings
+  threads_fit = record { at = λ k x e. (fit.at k x e).thread }
 
-  same_ids : EachLater (Differ id_of) ordered → EachLater (Differ id_of) settled
-  same_ids once = record {
-    at = λ i j x y lt e f same.
-        let p = source i x e in
-        let q = source j y f in
-        let one : id_of x ≡ id_of p.0 = ap id_of p.2.same in
-        let other : id_of y ≡ id_of q.0 = ap id_of q.2.same in
-        once.at i j p.0 q.0 lt p.1 q.1 (sym one ∙ same ∙ other);
-  }
+  -- those that move are before turns that there are
+  pub turns_fit : Each (λ (one : Coming). one.arrival.turn < length arrivals.turns) (each_moved given table comings)
+  turns_fit = each_mapped (coming_moved_to given table) (λ (one : Coming). one.arrival.turn < length arrivals.turns) comings (record { at = λ k x e. (fit.at k x e).turn })
 
-  settled_fit : (threads turns : ℕ) → Each (IsArrival threads turns) ordered → Each (λ (arrival : Arrival). arrival.turn < turns) settled
-      → Each (IsArrival threads turns) settled
-  settled_fit threads turns fit within = record {
+  -- and these are in their range
+  pub below_all : AreBelow (each_moved given table comings)
+  below_all = record { at = λ k x e. let below = turns_fit.at k x e in let few = fits.few_turns in omega (arith, below, few) }
+
+  moved_fit : IsTable table → Each (HasItsTask given table) comings
+      → Each (λ (one : Coming). IsArrival (threads_in table.tasks) (length arrivals.turns) one.arrival) (each_moved given table comings)
+  moved_fit is tasks = each_mapped (coming_moved_to given table) (λ (one : Coming). IsArrival (threads_in table.tasks) (length arrivals.turns) one.arrival) comings (record {
     at = λ k x e.
-        let p = source k x e in
-        let was = fit.at k p.0 p.1 in
-        subst (IsArrival threads turns) (sym p.2.same) (record {
-          thread = was.thread;
-          turn = within.at k x e;
+        let was = fit.at k x e in
+        record {
+          thread = thread_within given.tasks table.tasks x.arrival.thread is.each (tasks.at k x e);
+          turn = was.turn;
           some_work = was.some_work;
           most_work = was.most_work;
           misses = was.misses;
-        });
-  }
+        };
+  })
 
--- what a table gets fits it
-pub moved_fits : (given table : Table) (arrivals moved : Arrivals) → IsTable table → FitsTable given arrivals → AreMoved given table arrivals moved → FitsTable table moved
-moved_fits given table arrivals moved is fits are =
-    let same = are.turns in
-    let order : IsPermutation (each_moved given table arrivals) are.ordered = are.in_order.same in
-    let turns = length arrivals.turns in
-    record {
-      few_passes = subst (λ ps. length ps ≤ MOST_PASSES) (sym are.passes) fits.few_passes;
-      few_turns = subst (λ ts. length ts ≤ MOST_TURNS) (sym same) fits.few_turns;
-      clocks = subst (λ ts. Each (λ now. 1 ≤ now) ts) (sym same) fits.clocks;
-      never_fall = subst (λ ts. EachLater (λ now later. now ≤ later) ts) (sym same) fits.never_fall;
-      each = subst (λ ts. Each (IsArrival (threads_in table.tasks) (length ts)) moved.requests) (sym same)
-          (settled_fit are.ordered moved.requests are.settled are.all (threads_in table.tasks) turns
-          (each_reordered (IsArrival (threads_in table.tasks) turns) (each_moved given table arrivals) are.ordered order
-          (moved_fit given table turns arrivals.requests is are.tasks fits.each)) are.within);
-      rising = are.settled.rising;
-      once = same_ids are.ordered moved.requests are.settled are.all
-          (differ_reordered id_of (each_moved given table arrivals) are.ordered order (once_moved given table arrivals fits));
-    }
+  -- their ids
+  once_moved : EachLater (Differ id_of) (each_moved given table comings)
+  once_moved = later_mapped (coming_moved_to given table) (Differ id_of) comings
+      (later_unmapped (λ (one : Coming). one.arrival) HaveTwoIds comings (subst (λ l. EachLater HaveTwoIds l) (sym of) fits.once))
+
+  -- what a table gets fits it
+  module _ (moved : MovedArrivals) (is : IsTable table) (are : AreMoved given table arrivals comings moved) where
+    abbrev turns : ℕ
+    turns = length arrivals.turns
+
+    abbrev placed : List Placed
+    placed = moved.placed.items
+
+    order : IsPermutation (each_moved given table comings) are.ordered
+    order = are.in_order.same
+
+    each_fits : Each (IsArrival (threads_in table.tasks) turns) (standing placed)
+    each_fits = each_standing (IsArrival (threads_in table.tasks) turns) placed (λ k one t at its.
+        let was = (each_reordered (λ (it : Coming). IsArrival (threads_in table.tasks) turns it.arrival) (each_moved given table comings) are.ordered order (moved_fit is are.tasks)).at
+        k one.coming (coming_at turns are.ordered placed are.placed k one at) in
+        record {
+          thread = was.thread;
+          turn = (first_free turns are.ordered placed are.placed k one t at its).within;
+          some_work = was.some_work;
+          most_work = was.most_work;
+          misses = was.misses;
+        })
+
+    rise : EachLater ComesBefore (standing placed)
+    rise = standing_rise turns are.ordered placed are.in_order.up
+        (each_reordered (λ (it : Coming). it.arrival.turn < 2 ^ 64) (each_moved given table comings) are.ordered order below_all) are.placed
+
+    once : EachLater HaveTwoIds (standing placed)
+    once =
+        let differ : EachLater (Differ id_of) are.ordered = differ_reordered id_of (each_moved given table comings) are.ordered order once_moved in
+        later_standing HaveTwoIds placed (λ i j one other s t lt at there its also.
+        differ.at i j one.coming other.coming lt (coming_at turns are.ordered placed are.placed i one at) (coming_at turns are.ordered placed are.placed j other there))
+
+    pub moved_fits : FitsTable table moved.arrivals
+    moved_fits =
+        let same = are.turns in
+        record {
+          few_passes = subst (λ ps. length ps ≤ MOST_PASSES) (sym are.passes) fits.few_passes;
+          few_turns = subst (λ ts. length ts ≤ MOST_TURNS) (sym same) fits.few_turns;
+          clocks = subst (λ ts. Each (λ now. 1 ≤ now) ts) (sym same) fits.clocks;
+          never_fall = subst (λ ts. EachLater (λ now later. now ≤ later) ts) (sym same) fits.never_fall;
+          each = subst (λ l. Each (IsArrival (threads_in table.tasks) (length moved.arrivals.turns)) l) (sym are.requests)
+              (subst (λ ts. Each (IsArrival (threads_in table.tasks) (length ts)) (standing placed)) (sym same) each_fits);
+          rising = subst (λ l. EachLater ComesBefore l) (sym are.requests) rise;
+          once = subst (λ l. EachLater HaveTwoIds l) (sym are.requests) once;
+        }

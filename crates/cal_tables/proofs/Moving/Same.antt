@@ -2,7 +2,7 @@
 use Rattle.std.proofs.Common.{◌≡◌, ◌<◌, ◌≤◌, ◌+◌, ◌-◌, ◌%◌, ◌^◌, ◌∙◌, ℕ, zero, suc, List, [], ◌∷◌, length, map, take, Some, slice_get, get_or, refl, sym, ap, arith, subst}
 use Rattle.std.proofs.Math.ListN.{get_or-map}
 use Rattle.std.proofs.Math.Nat.{mod-eq_of_lt}
-use Rattle.std.proofs.lemmas.List.Sorted.{Contains-permutation, IsPermutation-sym}
+use Rattle.std.proofs.lemmas.List.Sorted.{Contains-permutation, IsPermutation-map, IsPermutation-sym}
 use Rattle.std.proofs.lemmas.List.Sums.{sum-map}
 use Rattle.std.specs.List.{sum, take-map}
 use Rattle.std.specs.List.Sorted.{IsPermutation}
@@ -16,12 +16,14 @@ use Rattle.cal_trace.specs.Arrivals.FitsTable.{ComesBefore, EachLater, FitsTable
 use Rattle.cal_trace.specs.History.Ranges.{Each}
 use Rattle.cal_trace.specs.declared.arrivals.Arrival.{Arrival}
 use Rattle.cal_trace.specs.declared.arrivals.Arrivals.{Arrivals}
-use Rattle.cal_tables.specs.Laws.{NoneWaitsWhereNoneMeet, SameLimitsMoveNothing, limits_of}
-use Rattle.cal_tables.specs.Moved.{AreMoved, each_moved, moved_to, order_of, thread_for}
+use Rattle.cal_trace.specs.declared.comings.Coming.{Coming}
+use Rattle.cal_tables.specs.Laws.{AreNotAtOnce, NoneWaitsWhereNoneMeet, SameLimitsMoveNothing, limits_of}
+use Rattle.cal_tables.specs.Moved.{AreMoved, arrivals_in, each_moved, moved_to, order_of, thread_for}
+use Rattle.cal_tables.specs.declared.comparing.moving.MovedArrivals.{MovedArrivals}
 use Rattle.cal_tables.proofs.Moving.Ids.{Differ, differ_reordered}
-use Rattle.cal_tables.proofs.Moving.Members.{contains_in, In, in_contains}
-use Rattle.cal_tables.proofs.Moving.Order.{AreBelow, before_before, never_itself, rising, rising_apart}
-use Rattle.cal_tables.proofs.Moving.Places.{each_reordered, turns_fit}
+use Rattle.cal_tables.proofs.Moving.Members.{contains_in, In, in_contains, later_mapped, later_unmapped}
+use Rattle.cal_tables.proofs.Moving.Order.{AreBelow, before_before, ComesFirst, never_itself, rising, rising_apart}
+use Rattle.cal_tables.proofs.Moving.Places.{arrivals_moved, below_all, each_reordered, turns_fit}
 use Rattle.cal_tables.proofs.Moving.Stays.{all_stay}
 
 -- the first of two lists with the same members is the same
@@ -78,43 +80,65 @@ none_moved given table turns (x ∷ xs) same fit =
     ap (λ y. y ∷ map (moved_to given table) xs) first
     ∙ ap (λ l. x ∷ l) (none_moved given table turns xs same (each_other (IsArrival (threads_in given.tasks) turns) x xs fit))
 
--- turns that there are are in their range
-below_all : (given table : Table) (arrivals : Arrivals) → FitsTable given arrivals → AreBelow (each_moved given table arrivals)
-below_all given table arrivals fits = record {
-  at = λ k x e. let below = (turns_fit given table arrivals fits).at k x e in let few = fits.few_turns in omega (arith, below, few);
-}
-
 -- requests that do not meet stay before their turns
-none_wait : (given table : Table) (arrivals moved : Arrivals) → FitsTable given arrivals → EachLater (Differ order_of) (each_moved given table arrivals)
-    → AreMoved given table arrivals moved → EachLater ComesBefore moved.requests × IsPermutation (each_moved given table arrivals) moved.requests
-none_wait given table arrivals moved fits apart are =
-    let xs = each_moved given table arrivals in
-    let order : IsPermutation xs are.ordered = are.in_order.same in
-    let below : AreBelow are.ordered = each_reordered (λ (one : Arrival). one.turn < 2 ^ 64) xs are.ordered order (below_all given table arrivals fits) in
-    let up : EachLater ComesBefore are.ordered = rising are.ordered are.in_order.up (differ_reordered order_of xs are.ordered order apart) below in
-    (are.settled.rising, subst (λ l. IsPermutation xs l) (sym (all_stay are.ordered moved.requests are.settled are.all up)) order)
+module _ (given table : Table) (arrivals : Arrivals) (comings : List Coming) (moved : MovedArrivals) (fits : FitsTable given arrivals) (of : arrivals_in comings ≡ arrivals.requests)
+    (are : AreMoved given table arrivals comings moved) where
+  abbrev xs : List Coming
+  xs = each_moved given table comings
+
+  order : IsPermutation xs are.ordered
+  order = are.in_order.same
+
+  below : AreBelow xs
+  below = below_all given table arrivals comings fits of
+
+  module _ (apart : EachLater (Differ order_of) xs) where
+    up : EachLater ComesFirst are.ordered
+    up = rising are.ordered are.in_order.up (differ_reordered order_of xs are.ordered order apart)
+        (each_reordered (λ (one : Coming). one.arrival.turn < 2 ^ 64) xs are.ordered order below)
+
+    stay : moved.arrivals.requests ≡ arrivals_in are.ordered
+    stay = are.requests ∙ all_stay (length arrivals.turns) are.ordered moved.placed.items are.placed up
+        (each_reordered (λ (one : Coming). one.arrival.turn < length arrivals.turns) xs are.ordered order (turns_fit given table arrivals comings fits of))
+
+    none_wait : IsPermutation (arrivals_in xs) moved.arrivals.requests
+    none_wait = subst (λ l. IsPermutation (arrivals_in xs) l) (sym stay) (IsPermutation-map (λ (one : Coming). one.arrival) xs are.ordered order)
+
+    they_rise : EachLater ComesBefore moved.arrivals.requests
+    they_rise = subst (λ l. EachLater ComesBefore l) (sym stay) (later_mapped (λ (one : Coming). one.arrival) ComesBefore are.ordered up)
 
 pub none_waits : NoneWaitsWhereNoneMeet
-none_waits given table arrivals moved fits apart are =
-    let below = below_all given table arrivals fits in
-    let differ : EachLater (Differ order_of) (each_moved given table arrivals) = record {
+none_waits given table arrivals comings moved fits of apart are =
+    let ys = each_moved given table comings in
+    let low : AreBelow ys = below_all given table arrivals comings fits of in
+    let own = later_unmapped (λ (one : Coming). one.arrival) AreNotAtOnce ys apart in
+    let differ : EachLater (Differ order_of) ys = record {
       at = λ i j x y lt e f same.
-          let one = below.at i x e in
-          let other = below.at j y f in
-          let thread : x.thread ≡ y.thread = omega (arith, same, one, other) in
-          apart.at i j x y lt e f thread (omega (arith, same, thread));
+          let one = low.at i x e in
+          let other = low.at j y f in
+          let thread : x.arrival.thread ≡ y.arrival.thread = omega (arith, same, one, other) in
+          own.at i j x y lt e f thread (omega (arith, same, thread));
     } in
-    (none_wait given table arrivals moved fits differ are).1
+    none_wait given table arrivals comings moved fits of are differ
+
+all_same : (arrivals own : Arrivals) → own.passes ≡ arrivals.passes → own.turns ≡ arrivals.turns → own.requests ≡ arrivals.requests → own ≡ arrivals
+all_same arrivals own passes turns requests =
+    ap (λ ps. record own { passes = ps }) passes
+    ∙ ap (λ ts. record { passes = arrivals.passes; turns = ts; requests = own.requests }) turns
+    ∙ ap (λ rs. record arrivals { requests = rs }) requests
 
 pub moves_nothing : SameLimitsMoveNothing
-moves_nothing given table arrivals moved same fits are =
-    let stay : each_moved given table arrivals ≡ arrivals.requests = none_moved given table (length arrivals.turns) arrivals.requests same fits.each in
-    let up : EachLater ComesBefore (each_moved given table arrivals) = subst (λ l. EachLater ComesBefore l) (sym stay) fits.rising in
-    let all = none_wait given table arrivals moved fits (rising_apart (each_moved given table arrivals) up (below_all given table arrivals fits)) are in
-    let order : IsPermutation arrivals.requests moved.requests = subst (λ l. IsPermutation l moved.requests) stay all.1 in
-    let requests : moved.requests ≡ arrivals.requests = same_order moved.requests arrivals.requests all.0 fits.rising
-    (λ x h. contains_in arrivals.requests x (Contains-permutation moved.requests arrivals.requests x (IsPermutation-sym arrivals.requests moved.requests order) (in_contains moved.requests x h)))
-    (λ x h. contains_in moved.requests x (Contains-permutation arrivals.requests moved.requests x order (in_contains arrivals.requests x h))) in
-    ap (λ ps. record moved { passes = ps }) are.passes
-    ∙ ap (λ ts. record { passes = arrivals.passes; turns = ts; requests = moved.requests }) are.turns
-    ∙ ap (λ rs. record arrivals { requests = rs }) requests
+moves_nothing given table arrivals comings moved same fits of are =
+    let ys = each_moved given table comings in
+    let stays : arrivals_in ys ≡ arrivals.requests =
+    arrivals_moved given table comings ∙ ap (λ l. map (moved_to given table) l) of
+    ∙ none_moved given table (length arrivals.turns) arrivals.requests same fits.each in
+    let rises : EachLater ComesBefore (arrivals_in ys) = subst (λ l. EachLater ComesBefore l) (sym stays) fits.rising in
+    let differ : EachLater (Differ order_of) ys =
+    rising_apart ys (later_unmapped (λ (one : Coming). one.arrival) ComesBefore ys rises) (below_all given table arrivals comings fits of) in
+    let all : IsPermutation arrivals.requests moved.arrivals.requests =
+    subst (λ l. IsPermutation l moved.arrivals.requests) stays (none_wait given table arrivals comings moved fits of are differ) in
+    let requests : moved.arrivals.requests ≡ arrivals.requests = same_order moved.arrivals.requests arrivals.requests (they_rise given table arrivals comings moved fits of are differ) fits.rising
+    (λ x h. contains_in arrivals.requests x (Contains-permutation moved.arrivals.requests arrivals.requests x (IsPermutation-sym arrivals.requests moved.arrivals.requests all) (in_contains moved.arrivals.requests x h)))
+    (λ x h. contains_in moved.arrivals.requests x (Contains-permutation arrivals.requests moved.arrivals.requests x all (in_contains arrivals.requests x h))) in
+    all_same arrivals moved.arrivals are.passes are.turns requests

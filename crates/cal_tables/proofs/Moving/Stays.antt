@@ -1,81 +1,62 @@
--- Requests that rise are settled before their own turns.
-use Rattle.std.proofs.Common.{◌≡◌, ◌<◌, ◌≤◌, ◌+◌, ◌∙◌, ◌⊎◌, inl, inr, ℕ, zero, suc, List, length, Some, slice_get, get_or, refl, sym, ap, arith, subst}
+-- Requests that rise are placed before their own turns.
+use Rattle.std.proofs.Common.{◌≡◌, ◌<◌, ◌≤◌, ◌∙◌, ◌⊎◌, inl, inr, ℕ, zero, suc, List, [], ◌∷◌, map, take, Option, Some, None, slice_get, refl, sym, ap, arith}
 use Rattle.std.proofs.lemmas.Bool.{cases_lt}
-use Rattle.std.proofs.lemmas.List.{same_lists}
-use Rattle.std.proofs.lemmas.Option.{slice_get_within, slice_get-get_or}
 use Rattle.cal_machine.proofs.Last.{some_same}
-use Rattle.cal_trace.specs.Arrivals.FitsTable.{ComesBefore, EachLater}
-use Rattle.cal_trace.specs.declared.arrivals.Arrival.{Arrival}
-use Rattle.cal_tables.specs.Moved.{AreSettled, IsSettledIn, IsTaken}
-use Rattle.cal_tables.proofs.Moving.Members.{contains_in}
-use Rattle.cal_tables.proofs.Moving.Order.{never_at_once}
+use Rattle.cal_trace.specs.Arrivals.FitsTable.{EachLater}
+use Rattle.cal_trace.specs.History.Ranges.{Each}
+use Rattle.cal_trace.specs.declared.comings.Coming.{Coming}
+use Rattle.cal_tables.specs.Moved.{ArePlaced, arrivals_in, IsTaken, IsTurnOf, standing}
+use Rattle.cal_tables.specs.declared.comparing.placing.Placed.{Placed}
+use Rattle.cal_tables.proofs.Moving.Order.{ComesFirst, never_at_once}
+use Rattle.cal_tables.proofs.Moving.Standing.{all_standing}
+use Rattle.cal_tables.proofs.Moving.Taken.{coming_at, taken_below}
 
-module _ (ordered settled : List Arrival) (are : AreSettled ordered settled) (all : length settled ≡ length ordered) (up : EachLater ComesBefore ordered) where
-  -- the same up to a place
-  abbrev Same : ℕ → Type 0
-  Same n = (k : ℕ) (x y : Arrival) → k < n → slice_get ordered k ≡ Some x → slice_get settled k ≡ Some y → y ≡ x
+module _ (turns : ℕ) (ordered : List Coming) (placed : List Placed) (are : ArePlaced turns ordered placed) (up : EachLater ComesFirst ordered)
+    (within : Each (λ (one : Coming). one.arrival.turn < turns) ordered) where
+  -- its own turn
+  abbrev IsOwn : Placed → Type 0
+  IsOwn one = one.turn ≡ Some one.coming.arrival.turn
 
-  module _ (k : ℕ) (x y : Arrival) (before : Same k) (e : slice_get ordered k ≡ Some x) (f : slice_get settled k ≡ Some y) where
-    has : IsSettledIn settled x y
-    has = are.each k x y e f
+  -- those before this place come before their own
+  abbrev Own : ℕ → Type 0
+  Own n = (k : ℕ) (one : Placed) → k < n → slice_get placed k ≡ Some one → IsOwn one
 
-    its : y.thread ≡ x.thread
-    its = ap (λ (a : Arrival). a.thread) has.same
+  module _ (k : ℕ) (one : Placed) (before : Own k) (at : slice_get placed k ≡ Some one) where
+    there : slice_get ordered k ≡ Some one.coming
+    there = coming_at turns ordered placed are k one at
 
-    never_waits : x.turn < y.turn → ⊥
-    never_waits lt = places (cases_lt j k)
+    -- its own turn is free
+    is_free : IsTaken (take k placed) one.coming.arrival.thread one.coming.arrival.turn → ⊥
+    is_free taken =
+        let by = taken_below placed k one.coming.arrival.thread one.coming.arrival.turn taken in
+        let own : by.one.coming.arrival.turn ≡ one.coming.arrival.turn =
+        some_same by.one.coming.arrival.turn one.coming.arrival.turn (sym (before by.place by.one by.below by.at) ∙ by.its_turn) in
+        never_at_once by.one.coming.arrival one.coming.arrival
+        (up.at by.place k by.one.coming one.coming by.below (coming_at turns ordered placed are by.place by.one by.at) there) by.its_thread own
+
+    own_turn : (o : Option ℕ) → IsTurnOf turns (take k placed) one.coming.arrival o → o ≡ Some one.coming.arrival.turn
+    own_turn None taken = absurd (is_free (taken one.coming.arrival.turn (omega arith) (within.at k one.coming there)))
+    own_turn (Some t) first = go (cases_lt one.coming.arrival.turn t)
       where
-        taken : IsTaken settled x.thread x.turn
-        taken = has.taken x.turn (omega arith) lt
+        go : (one.coming.arrival.turn < t) ⊎ (t ≤ one.coming.arrival.turn) → Some t ≡ Some one.coming.arrival.turn
+        go (inl lt) = absurd (is_free (first.taken one.coming.arrival.turn (omega arith) lt))
+        go (inr ge) = ap Some (let from = first.from in omega (arith, ge, from))
 
-        one : Arrival
-        one = taken.one
+    here : IsOwn one
+    here = own_turn one.turn (are.each k one at)
 
-        j : ℕ
-        j = (contains_in settled one taken.among).0
+  one_further : (n k : ℕ) (one : Placed) → Own n → k < suc n → slice_get placed k ≡ Some one → (k < n) ⊎ (n ≤ k) → IsOwn one
+  one_further n k one before lt at (inl less) = before k one less at
+  one_further n k one before lt at (inr ge) = here k one (λ j other less e. before j other (omega (arith, less, lt)) e) at
 
-        at : slice_get settled j ≡ Some one
-        at = (contains_in settled one taken.among).1
+  own : (n : ℕ) → Own n
+  own zero k one lt at = absurd (omega (arith, lt))
+  own (suc n) k one lt at = one_further n k one (own n) lt at (cases_lt k n)
 
-        -- one after it is later
-        far : ComesBefore y one → ⊥
-        far (inl less) = let to = taken.its_thread in let from = its in omega (arith, less, to, from)
-        far (inr both) = let less = both.1 in let to = taken.its_turn in omega (arith, less, to, lt)
+  map_twice : (xs : List Placed) → map (λ (one : Placed). one.coming.arrival) xs ≡ arrivals_in (map (λ (one : Placed). one.coming) xs)
+  map_twice [] = refl
+  map_twice (x ∷ xs) = ap (λ l. x.coming.arrival ∷ l) (map_twice xs)
 
-        later : k ≤ j → (k < j) ⊎ (j ≤ k) → ⊥
-        later ge (inl more) = far (are.rising.at k j y one more f at)
-        later ge (inr there) =
-            let is : one ≡ y = some_same one y (sym at ∙ subst (λ n. slice_get settled n ≡ Some y) (omega (arith, ge, there)) f) in
-            let turn : one.turn ≡ y.turn = ap (λ (a : Arrival). a.turn) is in
-            let to = taken.its_turn in
-            omega (arith, turn, to, lt)
-
-        -- one before it is where it was, so the two are at once
-        places : (j < k) ⊎ (k ≤ j) → ⊥
-        places (inl less) =
-            let own = get_or ordered j x in
-            let was : slice_get ordered j ≡ Some own = let within = slice_get_within settled j one at in slice_get-get_or ordered j x (omega (arith, within, all)) in
-            let is : one ≡ own = before j own one less was at in
-            never_at_once own x (up.at j k own x less was e) (sym (ap (λ (a : Arrival). a.thread) is) ∙ taken.its_thread) (sym (ap (λ (a : Arrival). a.turn) is) ∙ taken.its_turn)
-        places (inr ge) = later ge (cases_lt k j)
-
-    here : y ≡ x
-    here = go (cases_lt x.turn y.turn)
-      where
-        go : (x.turn < y.turn) ⊎ (y.turn ≤ x.turn) → y ≡ x
-        go (inl lt) = absurd (never_waits lt)
-        go (inr ge) =
-            let turn : y.turn ≡ x.turn = let from = has.from in omega (arith, ge, from) in
-            has.same ∙ ap (λ (t : ℕ). record x { turn = t }) turn
-
-  one_more : (n k : ℕ) (x y : Arrival) → Same n → k < suc n → slice_get ordered k ≡ Some x → slice_get settled k ≡ Some y → (k < n) ⊎ (n ≤ k) → y ≡ x
-  one_more n k x y before lt e f (inl less) = before k x y less e f
-  one_more n k x y before lt e f (inr ge) = here k x y (λ j a b less. before j a b (omega (arith, less, lt))) e f
-
-  same : (n : ℕ) → Same n
-  same zero k x y lt e f = absurd (omega (arith, lt))
-  same (suc n) k x y lt e f = one_more n k x y (same n) lt e f (cases_lt k n)
-
-  pub all_stay : settled ≡ ordered
-  all_stay = same_lists settled ordered all (λ k d lt.
-      same (suc k) k (get_or ordered k d) (get_or settled k d) (omega arith) (slice_get-get_or ordered k d (omega (arith, lt, all))) (slice_get-get_or settled k d lt))
+  pub all_stay : standing placed ≡ arrivals_in ordered
+  all_stay =
+      all_standing placed (λ k one at. own (suc k) k one (omega arith) at) ∙ map_twice placed ∙ ap (λ (l : List Coming). arrivals_in l) are.same

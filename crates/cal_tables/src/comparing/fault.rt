@@ -10,9 +10,11 @@ use std::alloc::{AllocError, AllocFailed};
 use std::error::Error;
 use std::fmt;
 
-/// Why a table does not get the arrivals that were given for another.
+/// What is wrong with the tables of a comparison.
 #[derive(Clone, Copy, Debug, PartialEq, Eq)]
-pub enum Misfit {
+pub enum Reason {
+    /// A fault of the word `lockstep`.
+    Run(RunFault),
     /// A request is for a task that the table has not.
     NoTask {
         /// The number of the task.
@@ -20,22 +22,6 @@ pub enum Misfit {
         /// The id of the request.
         request: u64,
     },
-    /// Requests before it take all turns of its thread from its own on.
-    NoTurn {
-        /// The number of the thread in the table.
-        thread: u8,
-        /// The id of the request.
-        request: u64,
-    },
-}
-
-/// What is wrong with the tables of a comparison.
-#[derive(Clone, Copy, Debug, PartialEq, Eq)]
-pub enum Reason {
-    /// A fault of the word `lockstep`.
-    Run(RunFault),
-    /// A table does not get the arrivals.
-    Misfit(Misfit),
     /// The arrivals, or the plan, are refused.
     Pace(PaceFault),
     /// The requests of the arrivals cannot be counted as it is asked for.
@@ -52,14 +38,8 @@ impl fmt::Display for Reason {
     fn fmt<W: fmt::Write>(&self, f: &mut fmt::Formatter<W>) -> fmt::Result {
         match *self {
             Reason::Run(fault) => write!(f, "{fault}"),
-            Reason::Misfit(Misfit::NoTask { task, request }) => {
+            Reason::NoTask { task, request } => {
                 write!(f, "has no task {task} for request {request}")
-            }
-            Reason::Misfit(Misfit::NoTurn { thread, request }) => {
-                write!(
-                    f,
-                    "has no free turn on thread {thread} for request {request}"
-                )
             }
             Reason::Pace(fault) => write!(f, "has no run by the plan: {fault}"),
             Reason::Count(fault) => write!(f, "{fault}"),
@@ -122,16 +102,6 @@ impl From<CountFault> for Reason {
             CountFault::Memory => Reason::Run(RunFault::Memory),
             fault => Reason::Count(fault),
         }
-    }
-}
-
-impl From<Misfit> for Reason {
-    ghost use Rattle.cal_tables.specs.declared.comparing.fault.Reason.TheVariants.{Misfit};
-
-    ghost from_gives = { λ misfit e. e ≡ Misfit misfit };
-
-    fn from(misfit: Misfit) -> Reason {
-        Reason::Misfit(misfit)
     }
 }
 

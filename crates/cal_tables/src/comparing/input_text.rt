@@ -6,7 +6,7 @@ ghost use Rattle.cal_trace.specs.Arrivals.FitsTable.{FitsTable};
 
 use crate::comparing::Variation;
 use crate::comparing::fault::{ComparisonFault, Reason, fault_of};
-use crate::comparing::moving::moved_arrivals;
+use crate::comparing::moving::{moved_arrivals, own_comings};
 use crate::comparing::tables::{GivenTables, given_tables};
 use crate::comparing::varying::{table_text, varied_given};
 use cal_input::RunFault;
@@ -57,8 +57,15 @@ pub fn input_text(
         let tables = tables.len();
         return Err(fault_of(place, Reason::NoTable { tables }));
     };
-    match moved_arrivals(alloc, &from.given, table, &from.arrivals) {
-        Ok(moved) => input_of(alloc, table, &moved),
+    let comings = own_comings(alloc, from.arrivals.requests.as_slice())?;
+    match moved_arrivals(
+        alloc,
+        &from.given,
+        table,
+        &from.arrivals,
+        comings.as_slice(),
+    ) {
+        Ok(moved) => input_of(alloc, table, &moved.arrivals),
         Err(reason) => Err(fault_of(place, reason)),
     }
 }

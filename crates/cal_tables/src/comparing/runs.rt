@@ -1,23 +1,24 @@
 //! The runs of several tables on the same arrivals, side by side.
 
-ghost use Rattle.std.specs.Prelude.{◌≡◌, ◌<◌, length, slice_get, IfOk};
+ghost use Rattle.std.specs.Prelude.{◌≡◌, ◌<◌, length, map, slice_get, IfOk};
 ghost use Rattle.cal_came.specs.Counting.{as_given};
 ghost use Rattle.cal_tables.specs.Compared.{AreCountedFor, AreOfTables, AreRunsOn, counted_of};
-ghost use Rattle.cal_tables.specs.Compared.{IsOfMoved, IsToldBy};
+ghost use Rattle.cal_tables.specs.Compared.{IsOfMoved, IsToldBy, left_out_told};
+ghost use Rattle.cal_tables.specs.Moved.{arrivals_in, comings_told, own_coming};
 ghost use Rattle.cal_trace.specs.Arrivals.FitsTable.{FitsTable};
 
 use crate::comparing::fault::{ComparisonFault, Reason, fault_of};
-use crate::comparing::moving::moved_arrivals;
+use crate::comparing::moving::{moved_arrivals, own_comings};
 use crate::comparing::tables::GivenTables;
-use crate::comparing::{Comparison, RunTerms};
-use crate::measuring::RunNumbers;
+use crate::comparing::{ComparedRun, Comparison, RunTerms};
+use crate::crowding::crowded_in_each;
 use crate::planned::counted_by;
 use cal_came::{
     CountAsked, Counted, CountedRequests, counted_as_given, counted_requests, is_asked,
 };
 use cal_machine::Config;
 use cal_policy::Policy;
-use cal_trace::Arrivals;
+use cal_trace::{Coming, Comings, LeftOut};
 use std::alloc::Global;
 
 /// Tables, and from when the requests count of the arrivals that they are to get.
@@ -29,6 +30,16 @@ pub struct CountedTables {
     pub told: Option<CountedRequests>,
     /// From when they count without that: each from the clock of the turn that it is given for.
     pub as_given: Counted,
+    /// To which turns they came without a file that says so: each to the one that it is given for.
+    pub own: Vec<Coming>,
+}
+
+/// Whether a file says when requests came.
+fn has_comings(told: &Option<CountedRequests>) -> bool {
+    match told {
+        Some(told) => told.comings.is_some(),
+        None => false,
+    }
 }
 
 impl CountedTables {
@@ -42,6 +53,53 @@ impl CountedTables {
             None => &self.as_given,
         }
     }
+
+    /// To which turns they came.
+    fn comings(&self) -> &[Coming]
+        requires { self.now.own.items ≡ map own_coming self.now.from.arrivals.requests }
+        ensures { result.now ≡ comings_told self.now.from.arrivals self.now.told }
+    {
+        match &self.told {
+            Some(told) => match &told.comings {
+                Some(comings) => comings.requests.as_slice(),
+                None => self.own.as_slice(),
+            },
+            None => self.own.as_slice(),
+        }
+    }
+
+    /// How many a file says were left out before.
+    fn left_out(&self) -> &[LeftOut]
+        ensures { result.now ≡ left_out_told self.now.told }
+    {
+        match &self.told {
+            Some(told) => match &told.comings {
+                Some(comings) => comings.left_out.as_slice(),
+                None => &[],
+            },
+            None => &[],
+        }
+    }
+}
+
+/// From when the requests of arrivals for a table count, where that is asked for. The fault is that of
+/// the arrivals, and so the first table's.
+fn told_of(
+    alloc: Global,
+    from: &GivenTables,
+    counting: CountAsked<'_>,
+) -> Result<Option<CountedRequests>, ComparisonFault>
+    ensures counted { IfOk result (AreCountedFor counting.entry from.now.given from.now.arrivals) }
+    ensures comings { IfOk result (λ told.
+        arrivals_in (comings_told from.now.arrivals told) ≡ from.now.arrivals.requests) }
+{
+    if !is_asked(counting) {
+        return Ok(None);
+    }
+    match counted_requests(alloc, &from.given, &from.arrivals, counting) {
+        Ok(told) => Ok(Some(told)),
+        Err(fault) => Err(fault_of(0, Reason::from(fault))),
+    }
 }
 
 /// From when requests count of arrivals for these tables, as it is asked for. The fault is that of the
@@ -54,51 +112,53 @@ fn counted_tables(
     ensures same { IfOk result (λ counted. counted.from ≡ from) }
     ensures counted { IfOk result (λ counted.
         AreCountedFor counting.entry from.given from.arrivals counted.told) }
+    ensures comings { IfOk result (λ counted.
+        arrivals_in (comings_told from.arrivals counted.told) ≡ from.arrivals.requests) }
     ensures given { IfOk result (λ counted. counted.as_given ≡ as_given from.arrivals) }
+    ensures own { IfOk result (λ counted.
+        counted.own.items ≡ map own_coming from.arrivals.requests) }
 {
     let as_given = counted_as_given(alloc, &from.arrivals)?;
-    if !is_asked(counting) {
-        return Ok(CountedTables {
-            from,
-            told: None,
-            as_given,
-        });
-    }
-    match counted_requests(alloc, &from.given, &from.arrivals, counting) {
-        Ok(told) => Ok(CountedTables {
-            from,
-            told: Some(told),
-            as_given,
-        }),
-        Err(fault) => Err(fault_of(0, Reason::from(fault))),
-    }
+    let own = own_comings(alloc, from.arrivals.requests.as_slice())?;
+    let told = told_of(alloc, &from, counting)?;
+    Ok(CountedTables {
+        from,
+        told,
+        as_given,
+        own,
+    })
 }
 
-/// The numbers of a table's run on these terms on arrivals that were given for another, as the table
+/// What is said of a table's run on these terms on arrivals that were given for another, as the table
 /// gets them: a request that is moved to a later turn counts from when it would count without that.
 fn of_moved(
     alloc: Global,
     terms: RunTerms<'_>,
     counted: &CountedTables,
     table: &Config,
-) -> Result<RunNumbers, Reason>
+) -> Result<ComparedRun, Reason>
     requires fits { FitsTable counted.now.from.given counted.now.from.arrivals }
     requires given { counted.now.as_given ≡ as_given counted.now.from.arrivals }
+    requires own { counted.now.own.items ≡ map own_coming counted.now.from.arrivals.requests }
+    requires comings { arrivals_in (comings_told counted.now.from.arrivals counted.now.told)
+        ≡ counted.now.from.arrivals.requests }
     ensures { IfOk result (IsOfMoved (IsToldBy terms.entry
-        (counted_of counted.now.from.arrivals counted.now.told))
-        counted.now.from.given counted.now.from.arrivals table.now) }
+        (counted_of counted.now.from.arrivals counted.now.told) (left_out_told counted.now.told))
+        counted.now.from.given counted.now.from.arrivals
+        (comings_told counted.now.from.arrivals counted.now.told) table.now) }
 {
     let from = &counted.from;
-    let moved = moved_arrivals(alloc, &from.given, table, &from.arrivals)?;
+    let moved = moved_arrivals(alloc, &from.given, table, &from.arrivals, counted.comings())?;
+    let crowded = crowded_in_each(alloc, table, counted.left_out(), moved.placed.as_slice())?;
     let numbers = counted_by(
         alloc,
         table,
         terms.policy,
         terms.plan,
-        moved,
+        moved.arrivals,
         counted.counted(),
     )?;
-    Ok(numbers)
+    Ok(ComparedRun { numbers, crowded })
 }
 
 /// The policy at a place.
@@ -117,7 +177,7 @@ pub fn table_at(tables: &[Config], place: usize) -> &Config
     &tables[place]
 }
 
-/// The numbers of a table's run so; a fault is that of the table at this place. `Memory` may come at
+/// What is said of a table's run so; a fault is that of the table at this place. `Memory` may come at
 /// any place.
 fn of_placed(
     alloc: Global,
@@ -125,12 +185,16 @@ fn of_placed(
     counted: &CountedTables,
     table: &Config,
     place: usize,
-) -> Result<RunNumbers, ComparisonFault>
+) -> Result<ComparedRun, ComparisonFault>
     requires fits { FitsTable counted.now.from.given counted.now.from.arrivals }
     requires given { counted.now.as_given ≡ as_given counted.now.from.arrivals }
+    requires own { counted.now.own.items ≡ map own_coming counted.now.from.arrivals.requests }
+    requires comings { arrivals_in (comings_told counted.now.from.arrivals counted.now.told)
+        ≡ counted.now.from.arrivals.requests }
     ensures { IfOk result (IsOfMoved (IsToldBy terms.entry
-        (counted_of counted.now.from.arrivals counted.now.told))
-        counted.now.from.given counted.now.from.arrivals table.now) }
+        (counted_of counted.now.from.arrivals counted.now.told) (left_out_told counted.now.told))
+        counted.now.from.given counted.now.from.arrivals
+        (comings_told counted.now.from.arrivals counted.now.told) table.now) }
 {
     match of_moved(alloc, terms, counted, table) {
         Ok(run) => Ok(run),
@@ -138,18 +202,22 @@ fn of_placed(
     }
 }
 
-/// The numbers of each table's run on these terms on the arrivals, as the table gets them, in the
+/// What is said of each table's run on these terms on the arrivals, as the table gets them, in the
 /// order of the tables.
 fn runs_of(
     alloc: Global,
     terms: RunTerms<'_>,
     counted: &CountedTables,
-) -> Result<Vec<RunNumbers>, ComparisonFault>
+) -> Result<Vec<ComparedRun>, ComparisonFault>
     requires fits { FitsTable counted.now.from.given counted.now.from.arrivals }
     requires given { counted.now.as_given ≡ as_given counted.now.from.arrivals }
+    requires own { counted.now.own.items ≡ map own_coming counted.now.from.arrivals.requests }
+    requires comings { arrivals_in (comings_told counted.now.from.arrivals counted.now.told)
+        ≡ counted.now.from.arrivals.requests }
     ensures { IfOk result (λ runs. AreOfTables (IsToldBy terms.entry
-        (counted_of counted.now.from.arrivals counted.now.told))
-        counted.now.from.given counted.now.from.arrivals counted.now.from.tables.items
+        (counted_of counted.now.from.arrivals counted.now.told) (left_out_told counted.now.told))
+        counted.now.from.given counted.now.from.arrivals
+        (comings_told counted.now.from.arrivals counted.now.told) counted.now.from.tables.items
         runs.items) }
 {
     let mut runs = Vec::new(alloc);
@@ -161,7 +229,7 @@ fn runs_of(
     Ok(runs)
 }
 
-/// Some tables, and the numbers of each one's run on these terms on their arrivals, as the table gets
+/// Some tables, and what is said of each one's run on these terms on their arrivals, as the table gets
 /// them. The fault is that of the file of when requests came, or that none came within the turns asked
 /// for; then that of the first table which the arrivals do not fit, or for which the plan does not
 /// go. `Memory` may come at any place.
@@ -177,12 +245,12 @@ pub fn comparison_on(
 {
     let counted = counted_tables(alloc, from, terms.counting)?;
     let runs = runs_of(alloc, terms, &counted)?;
-    let CountedTables { from, told, .. } = counted;
-    let GivenTables { tables, given, .. } = from;
+    let has_came = has_comings(&counted.told);
+    let CountedTables { from, .. } = counted;
+    let GivenTables { tables, .. } = from;
     Ok(Comparison {
         tables,
         runs,
-        given,
-        told,
+        has_came,
     })
 }

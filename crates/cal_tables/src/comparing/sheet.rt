@@ -8,14 +8,13 @@ use crate::core_rows::{
     CORE_LINES, CoreLine, MACHINE_LINES, MachineLine, core_figure, core_label, core_unit,
     machine_figure, machine_label, machine_unit,
 };
-use crate::crowding::{CROWD_LINES, CrowdLine, crowd_figure, crowd_label, crowded_of};
+use crate::crowding::{CROWD_LINES, CrowdLine, crowd_figure, crowd_label, is_crowded};
 use crate::figures::{Figure, Unit, number};
 use crate::labels::Labels;
 use crate::sheet::Sheet;
 use crate::style::NumberStyle;
 use crate::writing::{LINES, Line, label, request_figure, task_name, unit};
 use cal_policy::Policy;
-use cal_trace::Comings;
 use std::alloc::{AllocError, Global};
 
 /// What a row says of each run.
@@ -57,10 +56,14 @@ impl Row {
 
     /// What it says of the run of a table, which may have no such task.
     fn figure_in(self, runs: &Comparison, table: usize) -> Option<Figure> {
-        let numbers = runs.runs.as_slice().get(table)?;
+        let run = runs.runs.as_slice().get(table)?;
+        let numbers = &run.numbers;
         match self {
             Row::Requests(task, line) => request_figure(numbers, task, line),
-            Row::Crowd(task, line) => runs.crowd_figure(table, task, line),
+            Row::Crowd(task, line) => {
+                let crowded = run.crowded.as_slice().get(task)?;
+                crowd_figure(*crowded, line)
+            }
             Row::Cores(task, line) => {
                 let lasted = numbers.machine.lasted;
                 core_figure(numbers.cores.as_slice(), lasted, task, line)
@@ -74,25 +77,14 @@ impl Row {
 }
 
 impl Comparison {
-    /// By what it is known which requests found their turns taken.
-    fn comings(&self) -> Option<&Comings> {
-        match &self.told {
-            Some(told) => match &told.comings {
-                Some(comings) => Some(comings),
-                None => None,
-            },
-            None => None,
+    /// Whether some request was moved by more than one turn, or is left out.
+    fn is_crowded(&self) -> bool {
+        for run in self.runs.as_slice() {
+            if is_crowded(run.crowded.as_slice()) {
+                return true;
+            }
         }
-    }
-
-    /// What a row says of the requests of a task that found their turns taken, where a table has the
-    /// task: the same of each table.
-    fn crowd_figure(&self, table: usize, task: usize, line: CrowdLine) -> Option<Figure> {
-        let comings = self.comings()?;
-        if task >= self.tables.as_slice().get(table)?.tasks() {
-            return None;
-        }
-        crowd_figure(crowded_of(&self.given, comings, task), line)
+        false
     }
 }
 
@@ -272,17 +264,20 @@ impl ShownComparison<'_> {
         most
     }
 
-    /// Whether it is known which requests found their turns taken.
-    fn has_comings(self) -> bool {
-        match self.runs.first() {
-            Some(first) => first.comings().is_some(),
-            None => false,
+    /// Whether rows say which requests found their turns taken: where a file says when they came, and
+    /// where some were moved far or are left out.
+    fn is_crowded(self) -> bool {
+        for comparison in self.runs {
+            if comparison.has_came || comparison.is_crowded() {
+                return true;
+            }
         }
+        false
     }
 
-    /// Puts the rows of a task's requests that found their turns taken, where that is known.
+    /// Puts the rows of a task's requests that found their turns taken, where some did.
     fn put_crowded(self, alloc: Global, task: usize, sheet: &mut Sheet) -> Result<(), AllocError> {
-        if !self.has_comings() {
+        if !self.is_crowded() {
             return Ok(());
         }
         for line in CROWD_LINES {

@@ -302,9 +302,11 @@ With several policies each table has a column for each of them.
 The arrivals are for the first table, or for the one that is varied. In each
 other table a request stays with its task, on the thread of the same number
 among the task's, modulo the limit. Where another has taken its turn there, it
-comes before the next free one, and still counts from its own. --write-input N
-writes table N and the arrivals that it gets, which `measure` reads. --came,
---from and --to are as in `measure`; the file is of the arrivals as given.
+comes before the next free one, and still counts from its own; where none is
+left it is left out. Two rows count these and those moved by more than one turn,
+where there are some. --write-input N writes table N and the arrivals that it
+gets, which `measure` reads. --came, --from and --to are as in `measure`; the
+file is of the arrivals as given.
 With --pace, --beside, --memory or --figure the runs are like a machine:
 docs/VIEWER.md, \"Runs like a machine\".
 Exit status: 0 done, 2 rejected input, 3 memory or output was refused. A table

@@ -1,10 +1,10 @@
-use Rattle.std.proofs.Common.{◌≡◌, map, take}
-use Rattle.cal_tables.specs.Moved.{HasItsTask, moved_to}
+use Rattle.std.proofs.Common.{◌≡◌, take}
+use Rattle.cal_tables.specs.Moved.{each_moved, HasItsTask}
 use Rattle.cal_trace.specs.History.Ranges.{Each}
 use Rattle.cal_tables.proofs.comparing.moving.each_moved.Given as goal
 
-abbrev pub invariant-loop-arrival : goal.invariant-loop-arrival
-invariant-loop-arrival l = record {
-  moved : l.moved.items ≡ map (moved_to l.given l.table) (take l.arrival-index l.requests);
-  tasks : Each (HasItsTask l.given l.table) (take l.arrival-index l.requests);
+abbrev pub invariant-loop-coming : goal.invariant-loop-coming
+invariant-loop-coming l = record {
+  moved : l.moved.items ≡ each_moved l.given l.table (take l.coming-index l.comings);
+  tasks : Each (HasItsTask l.given l.table) (take l.coming-index l.comings);
 }
