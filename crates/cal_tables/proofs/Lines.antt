@@ -1,5 +1,5 @@
 -- What is written is the lines of the table.
-use Rattle.std.proofs.Common.{◌≡◌, ℕ, ◌+◌, zero, suc, Bool, true, false, ◌||◌, List, [], ◌∷◌, ◌++◌, length, map, codes, decimal, refl, sym, ap, ◌∙◌, arith, subst}
+use Rattle.std.proofs.Common.{◌≡◌, ℕ, ◌+◌, zero, suc, Bool, true, false, ◌||◌, List, [], ◌∷◌, ◌++◌, length, map, codes, decimal, refl, sym, ap, ◌∙◌, arith}
 use Rattle.std.specs.List.{concat, list_any}
 use Rattle.std.specs.Str.{bytes_eq}
 use Rattle.std.proofs.lemmas.List.{map-append, append-nil}
@@ -7,7 +7,7 @@ use Rattle.std.proofs.lemmas.List.Folds.{concat-append, list_any-append}
 use Rattle.cal_machine.specs.Table.{Table}
 use Rattle.cal_machine.specs.declared.task.Task.{Task}
 use Rattle.cal_trace.specs.Rows.Text.{numbered}
-use Rattle.cal_tables.specs.TableText.{Line, field_key, line_text, task_lines, tasks_lines, lines_of, text_of_lines}
+use Rattle.cal_tables.specs.TableText.{Line, field_key, line_text, task_lines, tasks_lines, text_of_lines}
 use Rattle.cal_tables.specs.Settings.{KeyValue}
 use Rattle.cal_tables.specs.Varied.{with_values, varied_lines, has_key}
 use Rattle.cal_tables.specs.Writing.{key_line, task_text, is_field, is_place, any_below}

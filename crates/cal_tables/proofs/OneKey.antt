@@ -1,5 +1,5 @@
 -- A setting of one key.
-use Rattle.std.proofs.Common.{◌≡◌, ◌∷◌, ◌&&◌, [], ℕ, Bool, true, false, cond, List, Some, None, Result, Ok, Err, map, unwrap_or, refl, ap, ◌∙◌}
+use Rattle.std.proofs.Common.{◌≡◌, ◌∷◌, ◌&&◌, [], ℕ, Bool, true, false, cond, List, Some, None, Result, Err, map, unwrap_or, refl, ap, ◌∙◌}
 use Rattle.std.specs.List.{flat_map}
 use Rattle.std.specs.Str.{bytes_eq}
 use Rattle.cal_machine.specs.Reading.{table_in}
@@ -7,8 +7,8 @@ use Rattle.cal_machine.specs.Table.{Table}
 use Rattle.cal_machine.specs.declared.fault.ConfigFault.{ConfigFault}
 use Rattle.cal_machine.specs.declared.fault.ConfigFault.TheVariants.{UnknownKey}
 use Rattle.cal_tables.specs.TableText.{Line, lines_of, text_of_lines}
-use Rattle.cal_tables.specs.Settings.{KeyValue, with_key}
-use Rattle.cal_tables.specs.Varied.{with_values, varied_lines, has_key, has_keys, varied}
+use Rattle.cal_tables.specs.Settings.{with_key}
+use Rattle.cal_tables.specs.Varied.{with_values, varied_lines, has_key, varied}
 use Rattle.cal_tables.specs.Laws.{with_value, varied_at, alone}
 
 chosen : (b : Bool) (value own : List ℕ) → unwrap_or (cond b (Some value) None) own ≡ cond b value own

@@ -1,5 +1,5 @@
 -- A fault of one table.
-use Rattle.std.proofs.Common.{◌≡◌, ◌++◌, ◌∷◌, [], ℕ, List, Option, Some, Ok, Err, Result, refl, sym, ap, subst, ◌∙◌}
+use Rattle.std.proofs.Common.{◌≡◌, ◌++◌, ◌∷◌, [], ℕ, List, Some, Ok, Err, Result, refl, sym, subst}
 use Rattle.cal_input.proofs.Refusals.{run_decided}
 use Rattle.cal_input.specs.Answers.{ConfigDecided}
 use Rattle.cal_input.specs.Input.{input_parts}

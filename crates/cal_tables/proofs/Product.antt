@@ -1,5 +1,5 @@
 -- How many settings some keys make, and which stands at each place.
-use Rattle.std.proofs.Common.{◌≡◌, ◌≢◌, ◌<◌, ◌≤◌, ◌+◌, ◌-◌, ◌*◌, ◌/◌, ◌%◌, ◌++◌, ◌∷◌, [], ℕ, zero, suc, Bool, true, false, cond, List, Option, Some, None, length, map, take, drop, get_or, string_bytes, refl, sym, ap, ◌∙◌, arith, length-append, add-one}
+use Rattle.std.proofs.Common.{◌≡◌, ◌≢◌, ◌<◌, ◌≤◌, ◌+◌, ◌-◌, ◌*◌, ◌/◌, ◌%◌, ◌∷◌, [], ℕ, zero, suc, Bool, true, false, cond, List, Option, Some, None, length, map, take, drop, get_or, string_bytes, refl, sym, ap, ◌∙◌, arith, length-append, add-one}
 use Rattle.std.specs.List.{flat_map}
 use Rattle.std.specs.Str.{bytes_eq}
 use Rattle.std.proofs.Math.Arith.{mod-mul}
@@ -7,7 +7,7 @@ use Rattle.std.proofs.Math.Nat.{div-div-eq-div-mul, div-eq_of_lt, mod-eq_of_lt, 
 use Rattle.std.proofs.Math.Seq.{drop-cons}
 use Rattle.std.proofs.lemmas.List.{length-map, length-take-le, get_or-map, get_or_past}
 use Rattle.std.proofs.lemmas.List.Concat.{get_or-flat_map}
-use Rattle.cal_tables.specs.Settings.{KeyValue, Varying, varying_of, varyings_of, with_key, each_with, settings_of, setting_at, value_of}
+use Rattle.cal_tables.specs.Settings.{KeyValue, Varying, varying_of, varyings_of, with_key, settings_of, setting_at, value_of}
 use Rattle.cal_tables.specs.declared.comparing.Variation.{Variation}
 
 many_with : (key : List ℕ) (values : List (List ℕ)) (settings : List (List KeyValue)) → length (flat_map (λ value. map (with_key key value) settings) values) ≡ length values * length settings

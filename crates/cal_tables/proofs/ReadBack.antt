@@ -1,8 +1,7 @@
 -- The text of a table is read back as that table.
-use Rattle.std.proofs.Common.{◌≡◌, ◌+◌, ◌<◌, ◌≤◌, ◌^◌, ◌%◌, ◌==◌, ◌&&◌, ℕ, ℤ, pos, zero, suc, max, Bool, true, false, cond, nat_le, nat_lt, List, [], ◌∷◌, ◌++◌, length, map, codes, decimal, Option, Some, None, option_and_then, Result, Ok, Err, All, refl, sym, ap, ◌∙◌, arith, append_assoc, subst}
+use Rattle.std.proofs.Common.{◌≡◌, ◌+◌, ◌<◌, ◌≤◌, ◌^◌, ◌%◌, ◌==◌, ◌&&◌, ℕ, pos, Bool, true, false, cond, nat_le, nat_lt, List, [], ◌∷◌, ◌++◌, length, map, codes, decimal, Some, None, option_and_then, Ok, Err, All, refl, sym, ap, ◌∙◌, arith, append_assoc, subst}
 use Rattle.std.specs.List.{concat}
 use Rattle.std.proofs.lemmas.Bool.{and_from, and_parts}
-use Rattle.std.proofs.lemmas.Bool.Decides.{nat_tests}
 use Rattle.std.proofs.lemmas.List.{append-nil, map-append}
 use Rattle.std.proofs.lemmas.List.Folds.{concat-append}
 use Rattle.std.specs.Str.{IsAscii, IsUtf8, is_utf8}
@@ -14,9 +13,9 @@ use Rattle.std.proofs.lemmas.Bool.{le-leb, eq-eqb, ltb-true}
 use Rattle.std.proofs.lemmas.List.Elements.{All-head, All-tail}
 use Rattle.cal_machine.specs.declared.task_table.TheConstants.{MOST_TICKS}
 use Rattle.toml_writer.specs.Text.{dotted_text, key_text, string_text, encoding_of, escaped, needs_escape}
-use Rattle.toml.specs.Data.{Data, string, integer, array, table, Items, no_items, item, Members, no_members, member, items_depth, members_depth, items_have_valid_dates, members_have_valid_dates, items_are_sorted, members_are_sorted}
-use Rattle.toml.specs.Tables.{Definition, key_value, std_table, array_table, Expression}
-use Rattle.toml.specs.Text.{IsValueText, IsLineText, IsLinesText, IsDocumentText, are_tables, pairs, sections, elements, expressions}
+use Rattle.toml.specs.Data.{Data, string, integer, array, table, Items, no_items, item, Members, no_members, member, items_depth, items_have_valid_dates, items_are_sorted}
+use Rattle.toml.specs.Tables.{key_value, array_table, Expression}
+use Rattle.toml.specs.Text.{IsValueText, IsLinesText, IsDocumentText, are_tables, elements, expressions}
 use Rattle.toml.specs.Parse.{parse_document}
 use Rattle.toml.proofs.ReadBack.{parse_document-printed}
 use Rattle.cal_machine.specs.Machine.{IsMachine, is_machine}
@@ -24,7 +23,6 @@ use Rattle.cal_machine.specs.Table.{Table, IsTask, IsTable}
 use Rattle.cal_machine.specs.declared.task.Kind.{Kind}
 use Rattle.cal_machine.specs.declared.task.Kind.TheVariants.{LatencyCritical, BestEffort}
 use Rattle.cal_machine.specs.declared.task.Task.{Task}
-use Rattle.cal_machine.specs.declared.fault.ConfigFault.{ConfigFault}
 use Rattle.cal_machine.specs.declared.fault.ConfigFault.TheVariants as fault
 use Rattle.cal_machine.specs.declared.task_table.TheConstants.{MOST_TASKS, MOST_LIMIT}
 use Rattle.cal_machine.specs.declared.machine.TheConstants.{MOST_CORES}

@@ -4,9 +4,7 @@ use Rattle.std.specs.List.{Contains}
 use Rattle.std.specs.Str.{bytes_eq}
 use Rattle.std.proofs.lemmas.List.{length-map, get_or-map, get_or_default}
 use Rattle.std.proofs.lemmas.Slice.Eq.{bytes_eq-Decides}
-use Rattle.cal_tables.specs.TableText.{Line}
 use Rattle.cal_tables.specs.Settings.{KeyValue, Varying, settings_of, setting_at, value_of}
-use Rattle.cal_tables.specs.Varied.{with_values}
 use Rattle.cal_tables.specs.Laws.{AreApart, IsSettingOf, StandsAtItsKeys}
 use Rattle.cal_tables.proofs.Keys.{keys_at, own_key, values_at, varied_key}
 

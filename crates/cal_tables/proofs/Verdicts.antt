@@ -5,7 +5,7 @@ use Rattle.cal_came.specs.declared.asked.CountFault.{CountFault}
 use Rattle.cal_came.specs.declared.asked.CountFault.TheVariants as counts
 use Rattle.cal_came.specs.declared.counted.Counted.{Counted}
 use Rattle.cal_input.specs.Answers.{Decided}
-use Rattle.cal_input.specs.Parts.{parts_of, run_input_of, RunInput}
+use Rattle.cal_input.specs.Parts.{parts_of, run_input_of}
 use Rattle.cal_input.specs.declared.fault.RunFault.{RunFault}
 use Rattle.cal_input.specs.declared.fault.RunFault.TheVariants as faults
 use Rattle.cal_input.proofs.Refusals.{run_decided}

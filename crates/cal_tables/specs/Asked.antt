@@ -1,5 +1,5 @@
 -- What an input asks for.
-use Rattle.std.specs.Prelude.{◌≡◌, ℕ, Bool, List, Result, Ok, Err, if◌then◌else◌}
+use Rattle.std.specs.Prelude.{ℕ, Bool, List, Result, Ok, Err, if◌then◌else◌}
 use Rattle.cal_input.specs.Parts.{parts_of, Parts, run_input_of, RunInput}
 use Rattle.cal_input.specs.Recorded.{recorded_in, Run}
 use Rattle.cal_input.specs.declared.fault.RunFault.{RunFault}

@@ -1,5 +1,5 @@
 -- Requests that move fit where they come to.
-use Rattle.std.proofs.Common.{◌≡◌, ◌<◌, ◌≤◌, ◌+◌, ◌-◌, ◌%◌, ◌^◌, ℕ, List, [], ◌∷◌, All, length, map, Some, slice_get, get_or, refl, sym, ap, arith, subst, ◌∙◌}
+use Rattle.std.proofs.Common.{◌≡◌, ◌<◌, ◌≤◌, ◌%◌, ◌^◌, ℕ, List, [], ◌∷◌, All, length, map, get_or, refl, sym, ap, arith, subst}
 use Rattle.std.proofs.Math.Nat.{mod-lt}
 use Rattle.std.specs.List.Sorted.{IsPermutation}
 use Rattle.std.proofs.lemmas.List.Elements.{All-get_or}
@@ -13,7 +13,6 @@ use Rattle.cal_trace.specs.Arrivals.FitsTable.{ComesBefore, EachLater, FitsTable
 use Rattle.cal_policy.specs.declared.history.entry.TheConstants.{MOST_PASSES}
 use Rattle.cal_trace.specs.History.Ranges.{Each}
 use Rattle.cal_trace.specs.declared.arrivals.reading.TheConstants.{MOST_TURNS}
-use Rattle.cal_trace.specs.declared.arrivals.Arrival.{Arrival}
 use Rattle.cal_trace.specs.declared.arrivals.Arrivals.{Arrivals}
 use Rattle.cal_trace.specs.declared.comings.Coming.{Coming}
 use Rattle.cal_tables.specs.Moved.{AreMoved, arrivals_in, coming_moved_to, each_moved, HasItsTask, moved_to, place_of, standing, thread_for}

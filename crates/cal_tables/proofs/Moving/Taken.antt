@@ -1,6 +1,5 @@
 -- Turns that are taken, by the places of the requests that take them.
-use Rattle.std.proofs.Common.{◌≡◌, ◌<◌, ◌≤◌, ◌∙◌, ℕ, List, map, take, Some, slice_get, sym, ap, subst, arith}
-use Rattle.cal_machine.proofs.Last.{some_same}
+use Rattle.std.proofs.Common.{◌≡◌, ◌<◌, ◌≤◌, ℕ, List, take, Some, slice_get, subst, arith}
 use Rattle.cal_trace.specs.declared.comings.Coming.{Coming}
 use Rattle.cal_tables.specs.Moved.{ArePlaced, IsFirstFree, IsTaken, IsTurnOf}
 use Rattle.cal_tables.specs.declared.comparing.placing.Placed.{Placed}

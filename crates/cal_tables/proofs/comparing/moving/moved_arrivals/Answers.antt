@@ -1,5 +1,5 @@
-use Rattle.std.proofs.Common.{◌≡◌, ◌<◌, ◌^◌, ℕ, List, ap, length, map, rules, subst, sym, ◌∙◌}
-use Rattle.cal_tables.specs.Moved.{AreInOrder, AreMoved, each_moved}
+use Rattle.std.proofs.Common.{◌<◌, ℕ, List, length, rules, subst, sym}
+use Rattle.cal_tables.specs.Moved.{AreInOrder, each_moved}
 use Rattle.cal_trace.specs.History.Ranges.{Each}
 use Rattle.cal_trace.specs.declared.comings.Coming.{Coming}
 use Rattle.cal_tables.specs.declared.comparing.moving.MovedArrivals.{MovedArrivals}

@@ -1,4 +1,4 @@
-use Rattle.std.proofs.Common.{◌≡◌, ◌<◌, ◌^◌, arith}
+use Rattle.std.proofs.Common.{arith}
 use Rattle.cal_tables.proofs.Moving.Order.{AreBelow}
 use Rattle.cal_tables.proofs.Moving.Placing.{frees, many_then, placed_then}
 use Rattle.cal_tables.proofs.comparing.placing.each_placed.Goals as goal

@@ -1,4 +1,4 @@
-use Rattle.std.proofs.Common.{◌≡◌, List, subst}
+use Rattle.std.proofs.Common.{List, subst}
 use Rattle.cal_came.specs.declared.counted.Counted.{Counted}
 use Rattle.cal_tables.specs.Compared.{left_out_told}
 use Rattle.cal_tables.specs.Crowding.{AreCrowded}

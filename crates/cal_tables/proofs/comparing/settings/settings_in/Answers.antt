@@ -1,4 +1,4 @@
-use Rattle.std.proofs.Common.{◌≡◌, ◌<◌, ◌≤◌, ◌*◌, length, arith, rules}
+use Rattle.std.proofs.Common.{◌≡◌, ◌*◌, length, arith, rules}
 use Rattle.cal_tables.proofs.Product.{product_more}
 use Rattle.cal_tables.proofs.comparing.settings.settings_in.Goals as goal
 

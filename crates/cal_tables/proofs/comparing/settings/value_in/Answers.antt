@@ -1,7 +1,7 @@
-use Rattle.std.proofs.Common.{◌≡◌, ◌≢◌, ◌<◌, ◌≤◌, ◌%◌, [], ℕ, List, None, true, false, length, map, get_or, string_bytes, sym, ap, ◌∙◌, arith, rules}
+use Rattle.std.proofs.Common.{◌≡◌, ◌≢◌, ◌<◌, ◌≤◌, ◌%◌, [], ℕ, None, true, false, length, map, get_or, string_bytes, sym, ap, ◌∙◌, arith, rules}
 use Rattle.std.specs.Str.{bytes_eq}
 use Rattle.std.proofs.lemmas.List.{get_or-map}
-use Rattle.cal_tables.specs.Settings.{setting_at, settings_of, value_of, varyings_of}
+use Rattle.cal_tables.specs.Settings.{varyings_of}
 use Rattle.cal_tables.proofs.Product.{Step, beyond, found_here, found_later, no_values, step}
 use Rattle.cal_tables.proofs.comparing.settings.value_in.Goals as goal
 

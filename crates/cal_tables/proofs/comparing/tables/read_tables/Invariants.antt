@@ -1,4 +1,4 @@
-use Rattle.std.proofs.Common.{List, length}
+use Rattle.std.proofs.Common.{length}
 use Rattle.cal_tables.specs.Faulty.{AreTablesBefore}
 use Rattle.cal_tables.proofs.Tables.{StandBefore}
 use Rattle.cal_tables.proofs.comparing.tables.read_tables.Given as goal

@@ -1,4 +1,4 @@
-use Rattle.std.proofs.Common.{◌≡◌, ◌<◌, ℕ, Bool, true, false, length, string_bytes, cond, List, Result, Ok, Err, IfErr, IfOk, sym, ap, ◌∙◌, rules}
+use Rattle.std.proofs.Common.{◌≡◌, ◌<◌, Bool, true, false, length, string_bytes, cond, List, Result, Ok, Err, IfErr, IfOk, sym, ap, ◌∙◌, rules}
 use Rattle.std.specs.List.{list_all}
 use Rattle.cal_input.specs.Answers.{ConfigDecided}
 use Rattle.cal_machine.specs.Outcome.{Fails, Gives}

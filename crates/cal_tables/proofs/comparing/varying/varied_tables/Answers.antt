@@ -1,6 +1,6 @@
-use Rattle.std.proofs.Common.{◌≡◌, ◌<◌, [], ℕ, List, Some, Ok, Err, length, map, slice_get, sym, ap, ◌∙◌, arith, rules}
+use Rattle.std.proofs.Common.{◌≡◌, ◌<◌, List, Some, Ok, Err, length, map, slice_get, sym, ap, ◌∙◌, rules}
 use Rattle.cal_tables.specs.Faulty.{IsFirstFaultySetting}
-use Rattle.cal_tables.specs.Settings.{KeyValue, Varying, setting_at, settings_of, varyings_of}
+use Rattle.cal_tables.specs.Settings.{Varying, settings_of, varyings_of}
 use Rattle.cal_tables.specs.Varied.{varied}
 use Rattle.cal_tables.specs.Writing.{values_in}
 use Rattle.cal_tables.specs.declared.comparing.varying.Setting.{Setting}

@@ -1,4 +1,4 @@
-use Rattle.std.proofs.Common.{◌≡◌, ℕ, List, Option, unwrap_or, ap, ◌∙◌, rules}
+use Rattle.std.proofs.Common.{◌≡◌, ℕ, List, Option, unwrap_or, ap, rules}
 use Rattle.cal_tables.specs.Settings.{value_of}
 use Rattle.cal_tables.specs.Writing.{values_in}
 use Rattle.cal_tables.proofs.comparing.varying.Setting.put_line.Goals as goal
