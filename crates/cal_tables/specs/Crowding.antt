@@ -15,7 +15,7 @@ abbrev pub is_for : Table → ℕ → Arrival → Bool
 is_for table t arrival =
     nat_lt arrival.thread (threads_of_table table) && (owner_of table arrival.thread == t)
 
--- from one turn to another are more than one
+-- a turn is more than one after another
 abbrev pub is_far_from : ℕ → ℕ → Bool
 is_far_from came turn = nat_lt (came + 1) turn
 

@@ -61,7 +61,7 @@ pub struct Comparison {
     /// What is said of each table's run, in the order of the tables.
     pub runs: Vec<ComparedRun>,
     /// Whether a file says when the requests came.
-    pub has_came: bool,
+    pub has_came_file: bool,
 }
 
 /// The tables of an input, each ended by a separator line, and the numbers of each one's run on these

@@ -29,7 +29,7 @@ fn is_for(config: &Config, task: usize, arrival: &Arrival) -> bool
     thread < config.threads() && config.task_of(thread) == task
 }
 
-/// Whether from one turn to another are more than one.
+/// Whether a turn is more than one after another.
 fn is_far_from(came: u64, turn: u64) -> bool
     ensures { result ≡ is_far_from came turn }
 {
@@ -91,7 +91,8 @@ pub fn crowded_of(config: &Config, comings: &Comings, task: usize) -> Crowded
     }
 }
 
-/// Whether a request comes more than one turn after that to which it came.
+/// Whether a request comes more than one turn after that to which it came. One that is left out does
+/// not.
 fn comes_far(came: u64, turn: Option<u64>) -> bool
     ensures { result ≡ comes_far came turn }
 {
@@ -101,7 +102,7 @@ fn comes_far(came: u64, turn: Option<u64>) -> bool
     }
 }
 
-/// Whether it is a request of a task, and comes so.
+/// Whether it is a request of a task, and comes more than one turn after that to which it came.
 fn is_placed_far(config: &Config, task: usize, one: &Placed) -> bool
     ensures { result ≡ is_placed_far config.now task one.now }
 {
@@ -115,7 +116,7 @@ fn is_left_out(config: &Config, task: usize, one: &Placed) -> bool
     one.turn.is_none() && is_for(config, task, &one.coming.arrival)
 }
 
-/// How many requests of a task come so.
+/// How many requests of a task come more than one turn after that to which they came.
 fn far_in(config: &Config, task: usize, placed: &[Placed]) -> usize
     ensures { result ≡ count_by (is_placed_far config.now task) placed.now }
 {
@@ -141,8 +142,8 @@ fn left_out_in(config: &Config, task: usize, placed: &[Placed]) -> usize
     left_out
 }
 
-/// How many requests of a task found their turns taken, by where they were placed, where of some tasks
-/// so many were left out before.
+/// How many requests of a task found their turns taken, by where they were placed. With those that are
+/// left out count those that a file says were left out before.
 fn crowded_in(config: &Config, left_out: &[LeftOut], placed: &[Placed], task: usize) -> Crowded
     ensures { IsCrowded config.now left_out.now placed.now task result }
 {

@@ -72,7 +72,7 @@ fn moved_to(given: &Config, table: &Config, arrival: &Arrival) -> Result<Arrival
     }
 }
 
-/// The same of one whose coming is known.
+/// A coming, with its request for the thread of a table that gets it.
 fn coming_moved_to(given: &Config, table: &Config, coming: &Coming) -> Result<Coming, Reason>
     requires { coming.now.arrival.thread < threads_in given.now.tasks }
     ensures moved { IfOk result (λ moved.
@@ -89,7 +89,7 @@ fn coming_moved_to(given: &Config, table: &Config, coming: &Coming) -> Result<Co
     })
 }
 
-/// Each request, for the thread of a table that gets it.
+/// Each coming, with its request for the thread of a table that gets it.
 fn each_moved(
     alloc: Global,
     given: &Config,
@@ -136,7 +136,8 @@ fn own_coming(arrival: &Arrival) -> Coming
     }
 }
 
-/// Each of some requests so. Fails only when out of memory.
+/// Each of some requests as one that came to the turn that it is given for. Fails only when out of
+/// memory.
 pub fn own_comings(alloc: Global, requests: &[Arrival]) -> Result<Vec<Coming>, AllocError>
     ensures { IfOk result (λ comings. comings.items ≡ map own_coming requests.now) }
 {

@@ -245,12 +245,12 @@ pub fn comparison_on(
 {
     let counted = counted_tables(alloc, from, terms.counting)?;
     let runs = runs_of(alloc, terms, &counted)?;
-    let has_came = has_comings(&counted.told);
+    let has_came_file = has_comings(&counted.told);
     let CountedTables { from, .. } = counted;
     let GivenTables { tables, .. } = from;
     Ok(Comparison {
         tables,
         runs,
-        has_came,
+        has_came_file,
     })
 }

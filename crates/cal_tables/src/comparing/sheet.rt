@@ -268,7 +268,7 @@ impl ShownComparison<'_> {
     /// where some were moved far or are left out.
     fn is_crowded(self) -> bool {
         for comparison in self.runs {
-            if comparison.has_came || comparison.is_crowded() {
+            if comparison.has_came_file || comparison.is_crowded() {
                 return true;
             }
         }
