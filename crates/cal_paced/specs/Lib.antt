@@ -2,6 +2,7 @@ pub mod Pace
 pub mod Figures
 pub mod Shares
 pub mod Rounds
+pub mod Order
 pub mod Making
 pub mod Paced
 pub mod Planned

@@ -8,6 +8,7 @@ ghost use Rattle.cal_kthread.specs.declared.journal.entry.Entry.{Entry};
 ghost use Rattle.cal_machine.specs.Table.{Table};
 ghost use Rattle.cal_machine.specs.declared.numbering.TheConstants.{MOST_THREADS};
 ghost use Rattle.cal_policy.specs.declared.history.entry.PassEntry.{PassEntry};
+ghost use Rattle.cal_run.specs.Order.{Made, then_passes, then_turns};
 ghost use Rattle.cal_run.specs.Parts.{AreParts, HasPassed, scheduler_seat_of, watch_seat_of};
 ghost use Rattle.cal_run.specs.Workers.GivenTurns.{request_at};
 ghost use Rattle.cal_run.specs.Workers.{FitSomeTable, HasMade, HaveMade, HaveMadeNoTurn};
@@ -16,6 +17,7 @@ ghost use Rattle.cal_run.specs.declared.workers.worker.Worker.{Worker as WorkerO
 ghost use Rattle.cal_trace.specs.declared.arrivals.GivenPass.{GivenPass as Pass};
 ghost use Rattle.cal_paced.specs.Making.{AreAllCores, AreBelowWhole, DifferFrom, IsMadeUpTo};
 ghost use Rattle.cal_paced.specs.Making.{misses_of, standings_of};
+ghost use Rattle.cal_paced.specs.Order.{then_round, then_rounds};
 ghost use Rattle.cal_paced.specs.Paced.{IsPlan, SlowsNobody};
 ghost use Rattle.cal_paced.specs.Rounds.{IsRound, IsTurnBy};
 ghost use Rattle.cal_paced.specs.Shares.{IsInterference, share};
@@ -96,6 +98,9 @@ pub(crate) fn make_rounds<C: Collector>(
         (journals_of parts.old.workers.items) →
         OnOk result (C.holds collector.new parts.new.scheduler.history
         (journals_of parts.new.workers.items)) }
+    ensures ordered { (made : List Made) → C.met collector.old made →
+        OnOk result (C.met collector.new (then_rounds plan.now.pace
+        (length parts.old.workers.items) (length given.old.turns) made)) }
 {
     for r in 0..given.turns.as_slice().len() {
         make_round(alloc, parts, given, plan, r, keeping, collector)?;
@@ -136,6 +141,9 @@ fn make_round<C: Collector>(
         (journals_of parts.old.workers.items) →
         OnOk result (C.holds collector.new parts.new.scheduler.history
         (journals_of parts.new.workers.items)) }
+    ensures ordered { (made : List Made) → C.met collector.old made →
+        OnOk result (C.met collector.new
+        (then_round plan.now.pace (length parts.old.workers.items) made)) }
 {
     show_figure(alloc, parts.workers.as_slice(), given, plan, r, keeping);
     make_passes(&mut parts.scheduler, given, plan.pace, r, collector)?;
@@ -169,6 +177,8 @@ fn make_passes<C: Collector>(
     ensures collected { (journals : List (List Entry)) →
         C.holds collector.old scheduler.old.history journals →
         OnOk result (C.holds collector.new scheduler.new.history journals) }
+    ensures ordered { (made : List Made) → C.met collector.old made →
+        OnOk result (C.met collector.new (then_passes pace made)) }
 {
     let first = r * pace as usize;
     for p in first..first + pace as usize {
@@ -212,6 +222,8 @@ fn make_turns<C: Collector>(
     ensures collected { (history : List PassEntry) →
         C.holds collector.old history (journals_of workers.old) →
         OnOk result (C.holds collector.new history (journals_of workers.new)) }
+    ensures ordered { (made : List Made) → C.met collector.old made →
+        OnOk result (C.met collector.new (then_turns (length workers.old) made)) }
 {
     if plan.slows_nobody() {
         return whole_turns(workers, given, r, keeping, collector);
@@ -249,6 +261,8 @@ fn whole_turns<C: Collector>(
     ensures collected { (history : List PassEntry) →
         C.holds collector.old history (journals_of workers.old) →
         OnOk result (C.holds collector.new history (journals_of workers.new)) }
+    ensures ordered { (made : List Made) → C.met collector.old made →
+        OnOk result (C.met collector.new (then_turns (length workers.old) made)) }
 {
     turns_add_up();
     for k in 0..workers.len() {
@@ -289,6 +303,8 @@ fn shared_turns<C: Collector>(
     ensures collected { (history : List PassEntry) →
         C.holds collector.old history (journals_of workers.old) →
         OnOk result (C.holds collector.new history (journals_of workers.new)) }
+    ensures ordered { (made : List Made) → C.met collector.old made →
+        OnOk result (C.met collector.new (then_turns (length workers.old) made)) }
 {
     turns_add_up();
     let interference = Interference::of(plan, keeping.all, workers);

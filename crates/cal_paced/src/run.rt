@@ -1,10 +1,11 @@
 //! Paced runs.
 
-ghost use Rattle.std.specs.Prelude.{◌≡◌, ◌*◌, [], IfErr, IfOk, length, replicate};
+ghost use Rattle.std.specs.Prelude.{◌≡◌, ◌*◌, [], IfErr, IfOk, OnOk, length, replicate};
 ghost use Rattle.cal_machine.specs.TableTasks.{threads_of_table};
 ghost use Rattle.cal_run.specs.declared.fault.SimFault.TheVariants.{Memory};
 ghost use Rattle.cal_trace.specs.Arrivals.FitsTable.{FitsTable};
 ghost use Rattle.cal_trace.specs.declared.arrivals.Arrivals.{Arrivals as ArrivalsOf};
+ghost use Rattle.cal_paced.specs.Order.{then_rounds};
 ghost use Rattle.cal_paced.specs.Paced.{IsPacedCollectedOf, IsPacedEndOf, IsPlan, IsPacedFor};
 
 use crate::plan::Plan;
@@ -44,6 +45,9 @@ pub fn paced_collected_by<C: Collector>(
     ensures run { (arrivals : ArrivalsOf) → IsPacedFor plan.now arrivals given.old →
         IfOk result (IsPacedCollectedOf policy (C.holds collector.new) config.now plan.now arrivals
         given.new) }
+    // it was handed the passes before each turn after the turns before
+    ensures ordered { C.met collector.old [] → OnOk result (C.met collector.new
+        (then_rounds plan.now.pace (threads_of_table config.now) (length given.old.turns) [])) }
 {
     headline_of_runs_by();
     config.limits();

@@ -3,3 +3,4 @@ pub mod HeldOfEach
 pub mod Few
 pub mod Journals
 pub mod Opened
+pub mod Order

@@ -6,13 +6,14 @@ pub mod scheduler;
 pub mod tallies;
 pub mod worker;
 
-ghost use Rattle.std.specs.Prelude.{◌≡◌, ◌≤◌, ◌<◌, ◌+◌, ◌++◌, List, Some, length, slice_get};
+ghost use Rattle.std.specs.Prelude.{◌≡◌, ◌≤◌, ◌<◌, ◌+◌, ◌++◌, ◌∷◌, List, Some, length, slice_get};
 ghost use Rattle.std.specs.Prelude.{slice_set, IfErr, IfOk, OnOk, ⊤};
 ghost use Rattle.cal_kthread.specs.Turn.Entries.{entries_of};
 ghost use Rattle.cal_kthread.specs.declared.journal.entry.Entry.{Entry};
 ghost use Rattle.cal_kthread.specs.declared.kernel_thread.TheConstants.{MOST_ENTRIES};
 ghost use Rattle.cal_machine.specs.Table.{Table};
 ghost use Rattle.cal_policy.specs.declared.history.entry.PassEntry.{PassEntry as EntryOfPass};
+ghost use Rattle.cal_run.specs.Order.{Made, a_pass, turn_of};
 ghost use Rattle.cal_run.specs.Parts.{HasPassed, scheduler_seat_of};
 ghost use Rattle.cal_run.specs.Workers.{FitSomeTable};
 ghost use Rattle.cal_sched.specs.Scheduler.{IsKept};
@@ -41,6 +42,9 @@ pub trait Collector {
     /// That it borrows the same as the first.
     ghost same: { Self → Self → Type 0 } = { λ _ _. ⊤ };
 
+    /// That it was handed these passes and turns, the latest first.
+    ghost met: { Self → List Made → Type 0 } = { λ _ _. ⊤ };
+
     /// Makes pass `p` of those given, the next one, and takes of it what it collects.
     fn make_pass(
         &mut self,
@@ -63,7 +67,9 @@ pub trait Collector {
             OnOk result (wrote first self.new scheduler.new.history) }
         ensures stopped { (first : Self) → wrote first self.old scheduler.old.history →
             IfErr result (λ _. wrote first self.new scheduler.old.history) }
-        ensures same { (first : Self) → same first self.old → same first self.new };
+        ensures same { (first : Self) → same first self.old → same first self.new }
+        ensures ordered { (made : List Made) → met self.old made →
+            OnOk result (met self.new (a_pass ∷ made)) };
 
     /// Takes what a turn of thread `k` added to its journal.
     fn add_turn(&mut self, k: usize, entries: &TurnEntries) -> Result<(), Self::Fault>
@@ -77,5 +83,7 @@ pub trait Collector {
             (slice_set journals k (journal ++ entries_of entries.now))) }
         ensures wrote { (first : Self) (history : List EntryOfPass) →
             wrote first self.old history → wrote first self.new history }
-        ensures same { (first : Self) → same first self.old → same first self.new };
+        ensures same { (first : Self) → same first self.old → same first self.new }
+        ensures ordered { (made : List Made) → met self.old made →
+            OnOk result (met self.new (turn_of k ∷ made)) };
 }

@@ -1,12 +1,13 @@
 //! A whole run on one thread.
 
-ghost use Rattle.std.specs.Prelude.{◌≡◌, [], IfOk, IfErr, length, replicate};
+ghost use Rattle.std.specs.Prelude.{◌≡◌, [], IfOk, IfErr, OnOk, length, max, replicate};
 ghost use Rattle.cal_machine.specs.TableTasks.{threads_of_table};
 ghost use Rattle.cal_run.specs.Collecting.{HasStopped, IsCollectedOf};
 ghost use Rattle.cal_run.specs.Outcome.Headline.{Headline, HeadlineBy};
 ghost use Rattle.cal_run.specs.Outcome.{EachStandsOnce, IsRun, IsRunBy, IsRunEnd, IsRunEndBy};
 ghost use Rattle.cal_run.specs.Outcome.{IsCollectedEndBy, outcome_of};
 ghost use Rattle.cal_run.specs.Outcome.{IsTalliedEnd, IsTalliedEndBy};
+ghost use Rattle.cal_run.specs.Order.{then_rounds};
 ghost use Rattle.cal_run.specs.Parts.{AreFirstPasses, AreParts, rounds_of};
 ghost use Rattle.cal_run.specs.declared.fault.SimFault.TheVariants.{Memory};
 ghost use Rattle.cal_trace.specs.Arrivals.FitsTable.{FitsTable};
@@ -156,6 +157,11 @@ pub fn lockstep_collected_by<C: Collector>(
         IfErr result (λ _. HasStopped policy config.now arrivals.now
         (C.wrote collector.old collector.new)) }
     ensures same { C.same collector.old collector.old → C.same collector.old collector.new }
+    // it was handed the passes and turns round by round
+    ensures ordered { C.met collector.old [] → OnOk result (C.met collector.new
+        (then_rounds (length arrivals.now.passes) (length arrivals.now.turns)
+        (threads_of_table config.now)
+        (max (length arrivals.now.passes) (length arrivals.now.turns)) [])) }
 {
     let Ok(mut parts) = open_unwatched_by(alloc, config, policy, arrivals) else {
         return Err(C::Fault::from(AllocError));

@@ -3,12 +3,14 @@
 pub mod passes;
 pub mod watch;
 
-ghost use Rattle.std.specs.Prelude.{◌≡◌, ◌+◌, List, length, min, max, IfErr, IfOk, OnOk};
+ghost use Rattle.std.specs.Prelude.{◌≡◌, ◌+◌, ◌∷◌, List, length, min, max, nat_lt, IfErr, IfOk, OnOk};
+ghost use Rattle.std.specs.Prelude.{if◌then◌else◌};
 ghost use Rattle.cal_policy.specs.Policies.{IsLegalBy};
 ghost use Rattle.cal_kthread.specs.declared.journal.entry.Entry.{Entry};
 ghost use Rattle.cal_machine.specs.Table.{Table};
 ghost use Rattle.cal_policy.specs.declared.history.entry.PassEntry.{PassEntry as EntryOfPass};
 ghost use Rattle.cal_run.specs.Collecting.{HasStopped};
+ghost use Rattle.cal_run.specs.Order.{Made, a_pass, then_round, then_rounds, then_turns};
 ghost use Rattle.cal_run.specs.Parts.{AreFirstPasses, AreParts, HasPassed, scheduler_seat_of};
 ghost use Rattle.cal_run.specs.Rounds.{AreAfterRounds};
 ghost use Rattle.cal_run.specs.Workers.{FitSomeTable, HaveMade, journals_of, seats_of};
@@ -49,6 +51,10 @@ pub fn make_rounds<C: Collector>(
         IfErr result (λ _. HasStopped parts.old.scheduler.policy parts.old.scheduler.table
         arrivals.now (C.wrote first collector.new)) }
     ensures same { (first : C) → C.same first collector.old → C.same first collector.new }
+    ensures ordered { (made : List Made) → C.met collector.old made →
+        OnOk result (C.met collector.new (then_rounds (length arrivals.now.passes)
+        (length arrivals.now.turns) (length parts.old.workers.items)
+        (max (length arrivals.now.passes) (length arrivals.now.turns)) made)) }
 {
     for r in 0..rounds_to_make(arrivals) {
         make_round(parts, arrivals, r, collector)?;
@@ -86,6 +92,11 @@ fn make_round<C: Collector>(
         IfErr result (λ _. HasStopped parts.old.scheduler.policy parts.old.scheduler.table
         arrivals.now (C.wrote first collector.new)) }
     ensures same { (first : C) → C.same first collector.old → C.same first collector.new }
+    ensures ordered { (made : List Made) → C.met collector.old made →
+        OnOk result (C.met collector.new (then_round (length arrivals.now.passes)
+        (length arrivals.now.turns) (length parts.old.workers.items) r made)) }
+    ensures many { IfOk result (λ _.
+        length parts.new.workers.items ≡ length parts.old.workers.items) }
 {
     pass_of_round(&mut parts.scheduler, arrivals, r, collector)?;
     turns_of_round(parts.workers.as_mut_slice(), arrivals, r, collector)?;
@@ -126,6 +137,9 @@ fn pass_of_round<C: Collector>(
     ensures stopped { (first : C) → C.wrote first collector.old scheduler.old.history →
         IfErr result (λ _. C.wrote first collector.new scheduler.old.history) }
     ensures same { (first : C) → C.same first collector.old → C.same first collector.new }
+    ensures ordered { (made : List Made) → C.met collector.old made →
+        OnOk result (C.met collector.new
+        (if nat_lt r (length arrivals.now.passes) then a_pass ∷ made else made)) }
 {
     if r >= arrivals.passes.as_slice().len() {
         return Ok(());
@@ -153,6 +167,9 @@ fn turns_of_round<C: Collector>(
     ensures wrote { (first : C) (history : List EntryOfPass) →
         C.wrote first collector.old history → C.wrote first collector.new history }
     ensures same { (first : C) → C.same first collector.old → C.same first collector.new }
+    ensures ordered { (made : List Made) → C.met collector.old made →
+        OnOk result (C.met collector.new (if nat_lt r (length arrivals.now.turns) then
+        then_turns (length workers.old) made else made)) }
 {
     if r >= arrivals.turns.as_slice().len() {
         return Ok(());

@@ -5,6 +5,7 @@ pub mod worker;
 ghost use Rattle.std.specs.Prelude.{◌≡◌, ◌+◌, ◌<◌, List, length, IfOk, OnOk};
 ghost use Rattle.cal_machine.specs.Table.{Table};
 ghost use Rattle.cal_policy.specs.declared.history.entry.PassEntry.{PassEntry};
+ghost use Rattle.cal_run.specs.Order.{Made, then_turns};
 ghost use Rattle.cal_run.specs.Workers.{FitSomeTable, HaveMade, journals_of, seats_of};
 
 use crate::collector::Collector;
@@ -33,6 +34,8 @@ pub(crate) fn turn_each<C: Collector>(
     ensures wrote { (first : C) (history : List PassEntry) →
         C.wrote first collector.old history → C.wrote first collector.new history }
     ensures same { (first : C) → C.same first collector.old → C.same first collector.new }
+    ensures ordered { (made : List Made) → C.met collector.old made →
+        OnOk result (C.met collector.new (then_turns (length workers.old) made)) }
 {
     turns_add_up();
     for k in 0..workers.len() {

@@ -9,3 +9,4 @@ pub mod Readings
 pub mod Refusals
 pub mod RowsLeft
 pub mod Spelled
+pub mod Stopping

@@ -1,6 +1,8 @@
-use Rattle.std.proofs.Common.{◌≡◌, ◌+◌, ◌*◌, ℕ, refl, subst, sym, ◌∙◌, arith}
+use Rattle.std.proofs.Common.{◌≡◌, ◌+◌, ◌*◌, ℕ, List, ap, refl, subst, sym, ◌∙◌, arith}
 use Rattle.std.proofs.Math.Nat.{mul_comm}
+use Rattle.cal_run.specs.Order.{Made, then_passes}
 use Rattle.cal_run.specs.Parts.{HasPassed, SchedulerSeat}
+use Rattle.cal_run.proofs.CollectorLemmas.Order.{all-passes, no-passes, one-pass}
 use Rattle.cal_paced.proofs.Rounding.{times-next}
 use Rattle.cal_paced.proofs.rounds.make_passes.Goals as goal
 
@@ -10,6 +12,7 @@ loop-p-init g c = record {
   passed = let P : ℕ → Type 0 = λ n. HasPassed c.args.given.now n c.args.scheduler.now in subst P (mul_comm c.args.pace c.args.r) c.requires.passed;
   seat = refl;
   collected = λ journals held. held;
+  ordered = (0, omega (arith), λ made held. no-passes made (λ l. g.C.Collector.met c.args.collector.now l) held);
 }
 
 pub make_pass-requires-clause-suits : goal.make_pass-requires-clause-suits
@@ -25,6 +28,10 @@ loop-p-preserved g c =
       passed = c.in_ok-make_pass.ensures.passed;
       seat = c.make_pass.ensures.seat ∙ c.loop-p.invariant.seat;
       collected = λ journals held. c.in_ok-make_pass.ensures.collected journals (c.loop-p.invariant.collected journals held);
+      ordered =
+          let so_far = c.loop-p.invariant.ordered in
+          let at = so_far.1 in
+          (so_far.0 + 1, omega (arith, at), λ made held. one-pass so_far.0 made (λ l. g.C.Collector.met c.make_pass.new.self l) (c.in_ok-make_pass.ensures.ordered (then_passes so_far.0 made) (so_far.2 made held)));
     }
 
 pub returns-clause-suits : goal.returns-clause-suits
@@ -42,3 +49,11 @@ returns-clause-passed g c =
 
 pub returns-clause-collected : goal.returns-clause-collected
 returns-clause-collected g c = c.loop-p.invariant.collected
+
+pub returns-clause-ordered : goal.returns-clause-ordered
+returns-clause-ordered g c = λ made held.
+    let so_far = c.loop-p.invariant.ordered in
+    let at = so_far.1 in
+    let end = c.loop-p-test.false in
+    let high = c.loop-p.auto.p-end in
+    all-passes so_far.0 c.args.pace made (λ l. g.C.Collector.met c.loop-p.collector l) (so_far.2 made held) (omega (arith, at, end, high))

@@ -1,4 +1,5 @@
-use Rattle.std.proofs.Common.{◌≡◌, List}
+use Rattle.std.proofs.Common.{◌≡◌, ◌+◌, ◌*◌, ℕ, List}
+use Rattle.cal_run.specs.Order.{Made, then_passes}
 use Rattle.cal_kthread.specs.declared.journal.entry.Entry.{Entry}
 use Rattle.cal_run.specs.Parts.{HasPassed, scheduler_seat_of}
 use Rattle.cal_paced.proofs.rounds.make_passes.Given as goal
@@ -11,4 +12,5 @@ invariant-loop-p g l = record {
   seat : scheduler_seat_of l.scheduler ≡ scheduler_seat_of l.initial.scheduler;
   collected : (journals : List (List Entry)) → g.C.Collector.holds l.initial.collector l.initial.scheduler.history journals →
       g.C.Collector.holds l.collector l.scheduler.history journals;
+  ordered : (n : ℕ) × (l.r * l.pace + n ≡ l.p) × ((made : List Made) → g.C.Collector.met l.initial.collector made → g.C.Collector.met l.collector (then_passes n made));
 }

@@ -4,6 +4,7 @@ use Rattle.std.specs.declared.alloc.Global.{Global}
 use Rattle.std.specs.declared.vec.Vec.{Vec}
 use Rattle.std.proofs.lemmas.List.{length-map, with_items_is}
 use Rattle.cal_machine.specs.declared.core_set.CoreSet.{CoreSet}
+use Rattle.cal_run.specs.Order.{then_passes, then_turns}
 use Rattle.cal_run.specs.Parts.{SchedulerSeat, WatchSeat}
 use Rattle.cal_run.specs.Workers.{HaveMade, Seat, journals_of, seat_of, seats_of}
 use Rattle.cal_run.specs.declared.parts.Parts.{Parts}
@@ -126,3 +127,9 @@ returns-clause-most g c = ap (λ (w : WatchSeat). w.most) c.watch_passes.ensures
 
 pub returns-clause-policy : goal.returns-clause-policy
 returns-clause-policy g c = ap (λ (s : SchedulerSeat). s.policy) c.make_passes.ensures.seat
+
+-- the turns come after the passes
+pub returns-clause-ordered : goal.returns-clause-ordered
+returns-clause-ordered g c = λ made held.
+    let P : List Worker → Type 0 = λ l. g.C.Collector.met c.make_turns.new.collector (then_turns (length l) (then_passes c.args.plan.now.pace made)) in
+    subst P c.as_mut_slice.ensures.value (c.in_ok-make_turns.ensures.ordered _ (c.in_ok-make_passes.ensures.ordered made held))

@@ -1,7 +1,10 @@
 use Rattle.std.proofs.Common.{◌≡◌, ◌+◌, ◌*◌, ℕ, List, length, refl, subst, sym, ap, ◌∙◌, arith}
 use Rattle.cal_machine.specs.Table.{Table}
+use Rattle.cal_run.specs.Order.{Made}
 use Rattle.cal_paced.specs.Making.{IsMadeUpTo}
+use Rattle.cal_paced.specs.Order.{then_round, then_rounds}
 use Rattle.cal_paced.proofs.Differing.{differ-more, differ-none, fit-still}
+use Rattle.cal_paced.proofs.Ordering.{no-rounds, one-round}
 use Rattle.cal_paced.proofs.Rounding.{made-first}
 use Rattle.cal_paced.proofs.rounds.make_rounds.Goals as goal
 
@@ -17,6 +20,7 @@ loop-r-init g c = record {
   policy = refl;
   suits = c.requires.suits;
   collected = λ held. held;
+  ordered = λ made held. no-rounds _ _ made (λ l. g.C.Collector.met c.args.collector.now l) held;
 }
 
 pub make_round-requires-clause-fits : goal.make_round-requires-clause-fits
@@ -59,6 +63,13 @@ loop-r-preserved g c =
       policy = c.in_ok-make_round.ensures.policy ∙ c.loop-r.invariant.policy;
       suits = subst P made.are.together.same_table c.in_ok-make_round.ensures.suits;
       collected = λ held. c.in_ok-make_round.ensures.collected (c.loop-r.invariant.collected held);
+      ordered = λ made held.
+          let pace = c.args.plan.now.pace in
+          let threads = length c.args.parts.now.workers.items in
+          let M : List Made → Type 0 = λ l. g.C.Collector.met c.make_round.new.collector l in
+          let so_far = then_rounds pace threads c.loop-r.r made in
+          one-round pace threads made M c.loop-r.r
+          (subst (λ (n : ℕ). M (then_round pace n so_far)) c.loop-r.invariant.few (c.in_ok-make_round.ensures.ordered so_far (c.loop-r.invariant.ordered made held)));
     }
 
 pub returns-clause-suits : goal.returns-clause-suits
@@ -80,3 +91,13 @@ returns-clause-given g c = c.loop-r.invariant.given
 
 pub returns-clause-as_given : goal.returns-clause-as_given
 returns-clause-as_given g c = c.loop-r.invariant.as_given
+
+pub returns-clause-ordered : goal.returns-clause-ordered
+returns-clause-ordered g c = λ made held.
+    let end = c.loop-r-test.false in
+    let turns = ap (λ (l : List ℕ). length l) c.loop-r.invariant.given.turns in
+    let value = ap (λ (l : List ℕ). length l) c.as_slice-r-end.ensures in
+    let high = c.loop-r.auto.r-end in
+    let all : c.loop-r.r ≡ length c.args.given.now.turns = omega (arith, end, turns, value, high) in
+    let P : ℕ → Type 0 = λ n. g.C.Collector.met c.loop-r.collector (then_rounds c.args.plan.now.pace (length c.args.parts.now.workers.items) n made) in
+    subst P all (c.loop-r.invariant.ordered made held)

@@ -1,6 +1,8 @@
-use Rattle.std.specs.Prelude.{◌≡◌, length}
+use Rattle.std.specs.Prelude.{◌≡◌, List, length}
+use Rattle.cal_run.specs.Order.{Made}
 use Rattle.cal_run.specs.Workers.{journals_of}
 use Rattle.cal_paced.specs.Making.{AreAllCores, DifferFrom, IsMadeUpTo}
+use Rattle.cal_paced.specs.Order.{then_rounds}
 use Rattle.cal_paced.specs.declared.plan.Figure.TheVariants.{Given}
 use Rattle.cal_paced.proofs.rounds.make_rounds.Given as goal
 
@@ -17,4 +19,6 @@ invariant-loop-r g l = record {
   suits : g.C.Collector.suits l.collector l.initial.parts.scheduler.table;
   collected : g.C.Collector.holds l.initial.collector l.initial.parts.scheduler.history (journals_of l.initial.parts.workers.items) →
       g.C.Collector.holds l.collector l.parts.scheduler.history (journals_of l.parts.workers.items);
+  ordered : (made : List Made) → g.C.Collector.met l.initial.collector made →
+      g.C.Collector.met l.collector (then_rounds l.plan.pace (length l.initial.parts.workers.items) l.r made);
 }

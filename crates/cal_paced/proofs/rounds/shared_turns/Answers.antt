@@ -7,9 +7,11 @@ use Rattle.cal_kthread.specs.Turn.Entries.{entries_of}
 use Rattle.cal_kthread.specs.declared.journal.entry.Entry.{Entry}
 use Rattle.cal_kthread.specs.declared.kernel_thread.TheConstants.{MOST_ENTRIES}
 use Rattle.cal_trace.specs.declared.arrivals.reading.TheConstants.{MOST_TURNS}
+use Rattle.cal_run.specs.Order.{then_turns}
 use Rattle.cal_run.specs.Workers.GivenTurns.{request_at, turns_given}
 use Rattle.cal_run.specs.declared.workers.worker.Worker.{Worker}
 use Rattle.cal_run.proofs.CollectorLemmas.Few.{few_entries}
+use Rattle.cal_run.proofs.CollectorLemmas.Order.{all-turns, no-turns, one-turn}
 use Rattle.cal_run.proofs.CollectorLemmas.Journals.{journal_at_place, journals_after}
 use Rattle.cal_run.proofs.WorkersLemmas.Turns.{all_turned, may_turn, none_turned, one_turned}
 use Rattle.cal_paced.specs.Rounds.{IsTurnBy}
@@ -27,6 +29,7 @@ loop-k-init g c = record {
   misses = refl;
   suits = λ table held. held;
   collected = λ history held. held;
+  ordered = λ made held. no-turns made (λ l. g.C.Collector.met c.args.collector.now l) held;
 }
 
 pub shared_turn-requires-clause-made : goal.shared_turn-requires-clause-made
@@ -82,6 +85,7 @@ loop-k-preserved g c =
           let Q : List (List Entry) → Type 0 = λ l. g.C.Collector.holds c.add_turn.new.self history l in
           subst Q (journals_after workers k is (was.thread.journal ++ entries_of entries) handed)
           (c.in_ok-add_turn.ensures.collected history _ was.thread.journal (c.loop-k.invariant.collected history held) (journal_at_place workers k was at) (subst P handed fits));
+      ordered = λ made held. one-turn k made (λ l. g.C.Collector.met c.add_turn.new.self l) (c.in_ok-add_turn.ensures.ordered (then_turns k made) (c.loop-k.invariant.ordered made held));
     }
 
 pub returns-clause-made : goal.returns-clause-made
@@ -95,3 +99,8 @@ returns-clause-shares g c =
 
 pub returns-clause-suits : goal.returns-clause-suits
 returns-clause-suits g c = c.loop-k.invariant.suits
+
+pub returns-clause-ordered : goal.returns-clause-ordered
+returns-clause-ordered g c = λ made held.
+    all-turns c.loop-k.k (length c.args.workers.now) made (λ l. g.C.Collector.met c.loop-k.collector l) (c.loop-k.invariant.ordered made held)
+    (let a = c.loop-k-test.false in let b = c.loop-k.auto.workers in omega (arith, a, b))

@@ -2,6 +2,7 @@ use Rattle.std.proofs.Common.{List}
 use Rattle.cal_machine.specs.Table.{Table}
 use Rattle.cal_policy.specs.declared.history.entry.PassEntry.{PassEntry}
 use Rattle.cal_run.proofs.WorkersLemmas.Turns.{TurnedUpTo}
+use Rattle.cal_run.specs.Order.{Made, then_turns}
 use Rattle.cal_run.specs.Workers.{journals_of}
 use Rattle.cal_paced.proofs.Turning.{StoodUpTo}
 use Rattle.cal_paced.specs.Paced.{SlowsNobody}
@@ -16,4 +17,5 @@ invariant-loop-k g l = record {
   suits : (table : Table) → g.C.Collector.suits l.initial.collector table → g.C.Collector.suits l.collector table;
   collected : (history : List PassEntry) → g.C.Collector.holds l.initial.collector history (journals_of l.initial.workers) →
       g.C.Collector.holds l.collector history (journals_of l.workers);
+  ordered : (made : List Made) → g.C.Collector.met l.initial.collector made → g.C.Collector.met l.collector (then_turns l.k made);
 }

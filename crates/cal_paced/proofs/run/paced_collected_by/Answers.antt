@@ -11,6 +11,7 @@ use Rattle.cal_run.specs.Workers.{journals_of, seat_of}
 use Rattle.cal_run.specs.declared.outcome.RunEnd.{RunEnd}
 use Rattle.cal_run.specs.declared.workers.worker.Worker.{Worker}
 use Rattle.cal_run.proofs.CollectorLemmas.Opened.{all_empty, no_pass_yet, no_turn_yet}
+use Rattle.cal_paced.specs.Order.{then_rounds}
 use Rattle.cal_paced.proofs.Differing.{table-still}
 use Rattle.cal_paced.proofs.Ending.{all-made, may-be-ended, paced-run}
 use Rattle.cal_paced.proofs.run.paced_collected_by.Goals as goal
@@ -77,3 +78,13 @@ pub returns-clause-suits : goal.returns-clause-suits
 returns-clause-suits g c =
     let P : Table → Type 0 = λ t. g.C.Collector.suits c.make_rounds.new.collector t in
     subst P c.in-Ok.ensures.parts.together.same_table c.in_ok-make_rounds.ensures.suits
+
+-- the threads are those of the table
+pub returns-clause-ordered : goal.returns-clause-ordered
+returns-clause-ordered g c = λ met.
+    let workers = c.in-Ok.parts.workers.items in
+    let team = c.in-Ok.ensures.parts.together.threads in
+    let seats = length-map workers (λ (w : Worker). seat_of w.thread) in
+    let many : length workers ≡ threads_of_table c.args.config.now = omega (arith, team, seats) in
+    let P : ℕ → Type 0 = λ n. g.C.Collector.met c.make_rounds.new.collector (then_rounds c.args.plan.now.pace n (length c.args.given.now.turns) []) in
+    subst P many (c.in_ok-make_rounds.ensures.ordered [] met)

@@ -1,4 +1,4 @@
-use Rattle.std.proofs.Common.{◌≡◌, List, [], length, refl, replicate, subst, sym, ◌∙◌, arith}
+use Rattle.std.proofs.Common.{◌≡◌, ℕ, List, [], length, max, refl, replicate, subst, sym, ◌∙◌, arith}
 use Rattle.std.proofs.lemmas.List.{length-map}
 use Rattle.cal_kthread.specs.declared.journal.entry.Entry.{Entry}
 use Rattle.cal_machine.specs.Table.{Table}
@@ -6,6 +6,7 @@ use Rattle.cal_machine.specs.TableTasks.{threads_of_table}
 use Rattle.cal_policy.specs.declared.history.entry.PassEntry.{PassEntry}
 use Rattle.cal_policy.specs.declared.policy.Policy.{Policy}
 use Rattle.cal_run.specs.Outcome.{IsRunEndBy, outcome_of}
+use Rattle.cal_run.specs.Order.{then_rounds}
 use Rattle.cal_run.specs.Parts.{filled}
 use Rattle.cal_run.specs.Workers.{journals_of, seat_of}
 use Rattle.cal_run.specs.declared.outcome.RunEnd.{RunEnd}
@@ -76,3 +77,16 @@ pub returns-clause-suits : goal.returns-clause-suits
 returns-clause-suits g c =
     let P : Table → Type 0 = λ t. g.C.Collector.suits c.make_rounds.new.collector t in
     subst P c.in-Ok.ensures.parts.together.same_table c.in_ok-make_rounds.ensures.suits
+
+-- the threads are those of the table
+pub returns-clause-ordered : goal.returns-clause-ordered
+returns-clause-ordered g c = λ met.
+    let arrivals = c.args.arrivals.now in
+    let workers = c.in-Ok.parts.workers.items in
+    let team = c.in-Ok.ensures.parts.together.threads in
+    let seats = length-map workers (λ (w : Worker). seat_of w.thread) in
+    let many : length workers ≡ threads_of_table c.args.config.now = omega (arith, team, seats) in
+    let passes = length arrivals.passes in
+    let turns = length arrivals.turns in
+    let P : ℕ → Type 0 = λ n. g.C.Collector.met c.make_rounds.new.collector (then_rounds passes turns n (max passes turns) []) in
+    subst P many (c.in_ok-make_rounds.ensures.ordered [] met)

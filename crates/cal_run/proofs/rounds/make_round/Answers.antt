@@ -1,6 +1,7 @@
 use Rattle.std.proofs.Common.{◌≡◌, ◌+◌, List, sym, ap, subst, ◌∙◌, length, min, arith}
 use Rattle.std.specs.Vec.{with_items}
 use Rattle.std.proofs.lemmas.List.{length-map, with_items_is}
+use Rattle.cal_run.specs.Order.{Made, then_round}
 use Rattle.cal_run.specs.Parts.{SchedulerSeat, WatchSeat}
 use Rattle.cal_run.specs.Workers.{HaveMade, Seat, journals_of, seat_of, seats_of}
 use Rattle.cal_run.specs.declared.parts.Parts.{Parts}
@@ -42,6 +43,23 @@ returns-clause-collected g c = λ held.
     let P : List Worker → Type 0 = λ l. g.C.Collector.holds c.pass_of_round.new.collector history (journals_of l) in
     let Q : List Worker → Type 0 = λ l. g.C.Collector.holds c.turns_of_round.new.collector history (journals_of l) in
     subst Q (sym is) (c.in_ok-turns_of_round.ensures.collected history (subst P (sym c.as_mut_slice.ensures.value) passed))
+
+-- the turns come after the pass
+pub returns-clause-ordered : goal.returns-clause-ordered
+returns-clause-ordered g c = λ made held.
+    let arrivals = c.args.arrivals.now in
+    let P : List Worker → Type 0 = λ l. g.C.Collector.met c.turns_of_round.new.collector (then_round (length arrivals.passes) (length arrivals.turns) (length l) c.args.r made) in
+    subst P c.as_mut_slice.ensures.value (c.in_ok-turns_of_round.ensures.ordered _ (c.in_ok-pass_of_round.ensures.ordered made held))
+
+pub returns-clause-many : goal.returns-clause-many
+returns-clause-many g c =
+    let before = c.args.parts.now in
+    let workers = c.turns_of_round.new.workers in
+    let same : seats_of workers ≡ seats_of before.workers.items = c.in_ok-turns_of_round.ensures.seats ∙ ap seats_of c.as_mut_slice.ensures.value in
+    let many : length workers ≡ length before.workers.items =
+    sym (length-map workers (λ (w : Worker). seat_of w.thread)) ∙ ap (λ (l : List Seat). length l) same ∙ length-map before.workers.items (λ (w : Worker). seat_of w.thread) in
+    let is : (with_items before.workers workers).items ≡ workers = with_items_is before.workers workers (omega (arith, many, before.workers.ok.0)) in
+    ap (λ (l : List Worker). length l) is ∙ many
 
 pub returns-clause-suits : goal.returns-clause-suits
 returns-clause-suits g c = c.in_ok-turns_of_round.ensures.suits c.args.parts.now.scheduler.table c.in_ok-pass_of_round.ensures.suits

@@ -1,9 +1,11 @@
-use Rattle.std.proofs.Common.{List, refl, subst, sym, ◌∙◌}
+use Rattle.std.proofs.Common.{ℕ, List, length, refl, subst, sym, ◌∙◌, arith}
 use Rattle.cal_machine.specs.Table.{Table}
 use Rattle.cal_policy.specs.Policies.{IsLegalBy}
 use Rattle.cal_policy.specs.declared.history.entry.PassEntry.{PassEntry}
 use Rattle.cal_policy.proofs.PolicyLemmas.{legal_none_by}
+use Rattle.cal_run.specs.Order.{Made, then_round, then_rounds}
 use Rattle.cal_run.proofs.CollectorLemmas.Opened.{no_pass_yet}
+use Rattle.cal_run.proofs.CollectorLemmas.Order.{no-rounds, one-round}
 use Rattle.cal_run.proofs.RoundsLemmas.FirstPasses.{first_alike, first_passes}
 use Rattle.cal_run.proofs.RoundsLemmas.Rounds.{before_rounds, with_table}
 use Rattle.cal_run.proofs.rounds.make_rounds.Goals as goal
@@ -21,6 +23,8 @@ loop-r-init g c = record {
       subst P (sym (no_pass_yet c.args.arrivals.now s c.requires.opened.passes)) (legal_none_by s.policy s.table);
   wrote = λ first held. held;
   same = λ first held. held;
+  many = refl;
+  ordered = λ made held. no-rounds _ _ _ made (λ l. g.C.Collector.met c.args.collector.now l) held;
 }
 
 pub make_round-requires-clause-before : goal.make_round-requires-clause-before
@@ -46,6 +50,15 @@ loop-r-preserved g c =
       legal = c.in_ok-make_round.ensures.legal;
       wrote = λ first held. c.in_ok-make_round.ensures.wrote first (c.loop-r.invariant.wrote first held);
       same = λ first held. c.make_round.ensures.same first (c.loop-r.invariant.same first held);
+      many = c.in_ok-make_round.ensures.many ∙ c.loop-r.invariant.many;
+      ordered = λ made held.
+          let passes = length c.args.arrivals.now.passes in
+          let turns = length c.args.arrivals.now.turns in
+          let M : List Made → Type 0 = λ l. g.C.Collector.met c.make_round.new.collector l in
+          let so_far = then_rounds passes turns (length c.args.parts.now.workers.items) c.loop-r.r made in
+          one-round passes turns (length c.args.parts.now.workers.items) made M c.loop-r.r
+          (subst (λ (n : ℕ). M (then_round passes turns n c.loop-r.r so_far)) c.loop-r.invariant.many
+          (c.in_ok-make_round.ensures.ordered so_far (c.loop-r.invariant.ordered made held)));
     }
 
 pub returns-clause-suits : goal.returns-clause-suits
@@ -56,3 +69,10 @@ returns-clause-first g c =
     let kept = c.loop-r.invariant in
     let history = c.loop-r.parts.scheduler.history in
     first_alike _ _ _ _ c.args.arrivals.now history kept.policy kept.made.together.same_table (first_passes _ _ c.args.arrivals.now _ history kept.legal kept.made.passes)
+
+pub returns-clause-ordered : goal.returns-clause-ordered
+returns-clause-ordered g c = λ made held.
+    let passes = length c.args.arrivals.now.passes in
+    let turns = length c.args.arrivals.now.turns in
+    let P : ℕ → Type 0 = λ n. g.C.Collector.met c.loop-r.collector (then_rounds passes turns (length c.args.parts.now.workers.items) n made) in
+    subst P (let end = c.loop-r-test.false in let high = c.loop-r.auto.r-end in let many = c.rounds_to_make-r-end.ensures in omega (arith, end, high, many)) (c.loop-r.invariant.ordered made held)

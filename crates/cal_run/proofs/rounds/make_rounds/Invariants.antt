@@ -1,5 +1,6 @@
-use Rattle.std.specs.Prelude.{◌≡◌}
+use Rattle.std.specs.Prelude.{◌≡◌, List, length}
 use Rattle.cal_policy.specs.Policies.{IsLegalBy}
+use Rattle.cal_run.specs.Order.{Made, then_rounds}
 use Rattle.cal_run.specs.Rounds.{AreAfterRounds}
 use Rattle.cal_run.specs.Workers.{journals_of}
 use Rattle.cal_run.proofs.rounds.make_rounds.Given as goal
@@ -16,4 +17,7 @@ invariant-loop-r g l = record {
   legal : IsLegalBy l.parts.scheduler.policy l.parts.scheduler.table l.parts.scheduler.history;
   wrote : (first : _) → g.C.Collector.wrote first l.initial.collector l.initial.parts.scheduler.history → g.C.Collector.wrote first l.collector l.parts.scheduler.history;
   same : (first : _) → g.C.Collector.same first l.initial.collector → g.C.Collector.same first l.collector;
+  many : length l.parts.workers.items ≡ length l.initial.parts.workers.items;
+  ordered : (made : List Made) → g.C.Collector.met l.initial.collector made →
+      g.C.Collector.met l.collector (then_rounds (length l.arrivals.passes) (length l.arrivals.turns) (length l.initial.parts.workers.items) l.r made);
 }

@@ -5,8 +5,10 @@ use Rattle.cal_kthread.specs.Turn.Entries.{entries_of}
 use Rattle.cal_kthread.specs.declared.journal.entry.Entry.{Entry}
 use Rattle.cal_kthread.specs.declared.kernel_thread.TheConstants.{MOST_ENTRIES}
 use Rattle.cal_trace.specs.declared.arrivals.reading.TheConstants.{MOST_TURNS}
+use Rattle.cal_run.specs.Order.{then_turns}
 use Rattle.cal_run.specs.Workers.GivenTurns.{turns_given}
 use Rattle.cal_run.proofs.CollectorLemmas.Few.{few_entries}
+use Rattle.cal_run.proofs.CollectorLemmas.Order.{all-turns, no-turns, one-turn}
 use Rattle.cal_run.proofs.CollectorLemmas.Journals.{journal_at_place, journals_after}
 use Rattle.cal_run.proofs.WorkersLemmas.Turns.{all_turned, may_turn, none_turned, one_turned}
 use Rattle.cal_run.proofs.workers.turn_each.Goals as goal
@@ -18,6 +20,7 @@ loop-k-init g c = record {
   collected = λ history held. held;
   wrote = λ first history held. held;
   same = λ first held. held;
+  ordered = λ made held. no-turns made _ held;
 }
 
 pub turn-requires-clause-made : goal.turn-requires-clause-made
@@ -52,6 +55,7 @@ loop-k-preserved g c =
           (c.in_ok-add_turn.ensures.collected history _ was.thread.journal (c.loop-k.invariant.collected history held) (journal_at_place workers k was at) (subst P handed fits));
       wrote = λ first history held. c.add_turn.ensures.wrote first history (c.loop-k.invariant.wrote first history held);
       same = λ first held. c.add_turn.ensures.same first (c.loop-k.invariant.same first held);
+      ordered = λ made held. one-turn k made (λ l. g.C.Collector.met c.add_turn.new.self l) (c.in_ok-add_turn.ensures.ordered (then_turns k made) (c.loop-k.invariant.ordered made held));
     }
 
 pub returns-clause-made : goal.returns-clause-made
@@ -60,3 +64,8 @@ returns-clause-made g c = all_turned c.args.arrivals.now c.args.j c.loop-k.k c.a
 
 pub returns-clause-suits : goal.returns-clause-suits
 returns-clause-suits g c = c.loop-k.invariant.suits
+
+pub returns-clause-ordered : goal.returns-clause-ordered
+returns-clause-ordered g c = λ made held.
+    all-turns c.loop-k.k (length c.args.workers.now) made (λ l. g.C.Collector.met c.loop-k.collector l) (c.loop-k.invariant.ordered made held)
+    (let a = c.loop-k-test.false in let b = c.loop-k.auto.workers in let m = c.loop-k.invariant.turned in omega (arith, a, b))

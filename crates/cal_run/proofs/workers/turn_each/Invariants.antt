@@ -1,6 +1,7 @@
-use Rattle.std.proofs.Common.{List}
+use Rattle.std.proofs.Common.{◌≡◌, List, length}
 use Rattle.cal_machine.specs.Table.{Table}
 use Rattle.cal_policy.specs.declared.history.entry.PassEntry.{PassEntry}
+use Rattle.cal_run.specs.Order.{Made, then_turns}
 use Rattle.cal_run.specs.Workers.{journals_of}
 use Rattle.cal_run.proofs.WorkersLemmas.Turns.{TurnedUpTo}
 use Rattle.cal_run.proofs.workers.turn_each.Given as goal
@@ -14,4 +15,5 @@ invariant-loop-k g l = record {
       g.C.Collector.holds l.collector history (journals_of l.workers);
   wrote : (first : _) (history : List PassEntry) → g.C.Collector.wrote first l.initial.collector history → g.C.Collector.wrote first l.collector history;
   same : (first : _) → g.C.Collector.same first l.initial.collector → g.C.Collector.same first l.collector;
+  ordered : (made : List Made) → g.C.Collector.met l.initial.collector made → g.C.Collector.met l.collector (then_turns l.k made);
 }

@@ -1,0 +1,13 @@
+-- The order of a paced run, round by round.
+use Rattle.std.proofs.Common.{ℕ, ◌+◌, List}
+use Rattle.cal_run.specs.Order.{Made}
+use Rattle.cal_paced.specs.Order.{then_round, then_rounds}
+
+module _ (pace threads : ℕ) (made : List Made) (P : List Made → Type 0) where
+  pub no-rounds : P made → P (then_rounds pace threads 0 made)
+  unfolding then_rounds
+  no-rounds held = held
+
+  pub one-round : (n : ℕ) → P (then_round pace threads (then_rounds pace threads n made)) → P (then_rounds pace threads (n + 1) made)
+  unfolding then_rounds
+  one-round n held = held
