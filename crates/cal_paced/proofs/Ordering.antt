@@ -1,5 +1,5 @@
 -- The order of a paced run, round by round.
-use Rattle.std.proofs.Common.{ℕ, ◌+◌, List}
+use Rattle.std.proofs.Common.{◌≡◌, ◌+◌, ℕ, suc, List, subst, arith}
 use Rattle.cal_run.specs.Order.{Made}
 use Rattle.cal_paced.specs.Order.{then_round, then_rounds}
 
@@ -10,4 +10,4 @@ module _ (pace threads : ℕ) (made : List Made) (P : List Made → Type 0) wher
 
   pub one-round : (n : ℕ) → P (then_round pace threads (then_rounds pace threads n made)) → P (then_rounds pace threads (n + 1) made)
   unfolding then_rounds
-  one-round n held = held
+  one-round n held = let next : suc n ≡ n + 1 = omega arith in subst (λ m. P (then_rounds pace threads m made)) next held

@@ -1,5 +1,5 @@
 -- The order in which passes and turns are made, step by step.
-use Rattle.std.proofs.Common.{◌≡◌, ◌+◌, ℕ, List, ◌∷◌, subst}
+use Rattle.std.proofs.Common.{◌≡◌, ◌+◌, ℕ, suc, List, ◌∷◌, subst, arith}
 use Rattle.cal_run.specs.Order.{Made, a_pass, turn_of, then_passes, then_turns, then_round, then_rounds}
 
 module _ (made : List Made) (P : List Made → Type 0) where
@@ -14,11 +14,11 @@ module _ (made : List Made) (P : List Made → Type 0) where
 module _ (k : ℕ) (made : List Made) (P : List Made → Type 0) where
   pub one-turn : P (turn_of k ∷ then_turns k made) → P (then_turns (k + 1) made)
   unfolding then_turns
-  one-turn held = held
+  one-turn held = let next : suc k ≡ k + 1 = omega arith in subst (λ n. P (then_turns n made)) next held
 
   pub one-pass : P (a_pass ∷ then_passes k made) → P (then_passes (k + 1) made)
   unfolding then_passes
-  one-pass held = held
+  one-pass held = let next : suc k ≡ k + 1 = omega arith in subst (λ n. P (then_passes n made)) next held
 
 -- after as many as there are
 pub all-turns : (k n : ℕ) (made : List Made) (P : List Made → Type 0) → P (then_turns k made) → k ≡ n → P (then_turns n made)
@@ -35,4 +35,4 @@ module _ (passes turns threads : ℕ) (made : List Made) (P : List Made → Type
 
   pub one-round : (r : ℕ) → P (then_round passes turns threads r (then_rounds passes turns threads r made)) → P (then_rounds passes turns threads (r + 1) made)
   unfolding then_rounds
-  one-round r held = held
+  one-round r held = let next : suc r ≡ r + 1 = omega arith in subst (λ n. P (then_rounds passes turns threads n made)) next held

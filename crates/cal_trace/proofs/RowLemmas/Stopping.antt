@@ -1,5 +1,5 @@
 -- What an error of `csv` leaves of a reader of rows.
-use Rattle.std.proofs.Common.{◌≡◌, ℕ, List, Option, Bool, true, false, refl, sym, ◌∙◌}
+use Rattle.std.proofs.Common.{◌≡◌, ℕ, List, Option, true, false, refl, sym, ◌∙◌}
 use Rattle.std.proofs.lemmas.Bool.{false≢true}
 use Rattle.csv.specs.Reading.{ExplainsRead, has_failed, is_flexible, stops_reader}
 use Rattle.csv.specs.declared.error.ErrorKind.{ErrorKind}

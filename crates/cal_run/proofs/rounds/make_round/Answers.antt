@@ -1,7 +1,7 @@
 use Rattle.std.proofs.Common.{◌≡◌, ◌+◌, List, sym, ap, subst, ◌∙◌, length, min, arith}
 use Rattle.std.specs.Vec.{with_items}
 use Rattle.std.proofs.lemmas.List.{length-map, with_items_is}
-use Rattle.cal_run.specs.Order.{Made, then_round}
+use Rattle.cal_run.specs.Order.{then_round}
 use Rattle.cal_run.specs.Parts.{SchedulerSeat, WatchSeat}
 use Rattle.cal_run.specs.Workers.{HaveMade, Seat, journals_of, seat_of, seats_of}
 use Rattle.cal_run.specs.declared.parts.Parts.{Parts}

@@ -1,4 +1,4 @@
-use Rattle.std.proofs.Common.{◌≡◌, ℕ, length, List, false, true, ap, arith}
+use Rattle.std.proofs.Common.{◌≡◌, length, List, false, true, ap, arith}
 use Rattle.std.specs.Prelude.{nat_lt}
 use Rattle.std.proofs.lemmas.Bool.Decides.{nat_tests}
 use Rattle.cal_trace.specs.declared.arrivals.GivenPass.{GivenPass}

@@ -1,7 +1,6 @@
-use Rattle.std.proofs.Common.{◌≡◌, ℕ, ◌+◌, length, min, List, false, true, ap, arith, sym, subst}
-use Rattle.std.specs.Prelude.{Bool, nat_lt, if◌then◌else◌}
+use Rattle.std.proofs.Common.{◌≡◌, ℕ, ◌+◌, length, min, List, false, true, ap, arith}
+use Rattle.std.specs.Prelude.{nat_lt}
 use Rattle.std.proofs.lemmas.Bool.Decides.{nat_tests}
-use Rattle.cal_run.specs.Order.{Made, then_turns}
 use Rattle.cal_run.proofs.RoundsLemmas.Rounds.{turns_counted}
 use Rattle.cal_run.proofs.rounds.turns_of_round.Goals as goal
 

@@ -20,7 +20,7 @@ loop-k-init g c = record {
   collected = λ history held. held;
   wrote = λ first history held. held;
   same = λ first held. held;
-  ordered = λ made held. no-turns made _ held;
+  ordered = λ made held. no-turns made (λ l. g.C.Collector.met c.args.collector.now l) held;
 }
 
 pub turn-requires-clause-made : goal.turn-requires-clause-made
