@@ -1,5 +1,5 @@
 -- What the words of a load say.
-use Rattle.std.specs.Prelude.{◌≡◌, ◌≤◌, ◌<◌, ◌*◌, ◌==◌, ◌⊎◌, ℕ, List, ◌∷◌, ◌++◌, codes}
+use Rattle.std.specs.Prelude.{◌≡◌, ◌≤◌, ◌*◌, ◌==◌, ◌⊎◌, ℕ, List, ◌∷◌, ◌++◌, codes}
 use Rattle.std.specs.List.{AllZip, slice_split}
 use Rattle.cal_load.specs.Decimals.{IsDecimal, Spells}
 use Rattle.cal_load.specs.declared.log.length.LogScale.{LogScale}

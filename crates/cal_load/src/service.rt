@@ -2,7 +2,7 @@
 
 ghost use Rattle.std.specs.Prelude.{IfOk, IfSome};
 ghost use Rattle.cal_load.specs.Decimals.{Spells};
-ghost use Rattle.cal_load.specs.Said.{SaysPart};
+ghost use Rattle.cal_load.specs.Said.{SaysPart, SaysService};
 ghost use Rattle.cal_load.specs.Services.{IsService, IsWork};
 
 use crate::decimal::{number_of, thousandths_of};
@@ -59,7 +59,8 @@ fn part_of(piece: &str) -> Option<ServicePart>
 /// The parts of a word, by commas, as in `90%:1,10%:20`, or one number of turns. The shares make
 /// 100%.
 pub fn service_of<'a>(alloc: Global, word: &'a str) -> Result<Vec<ServicePart>, LoadFault<'a>>
-    ensures { IfOk result (λ parts. IsService parts.items) }
+    ensures whole { IfOk result (λ parts. IsService parts.items) }
+    ensures says { IfOk result (λ parts. SaysService word.now parts.items) }
 {
     let mut parts = Vec::new(alloc);
     let mut sum = 0u64;
