@@ -2,6 +2,7 @@ pub mod Built
 pub mod Clocks
 pub mod Comings
 pub mod Counts
+pub mod Decimals
 pub mod Drawn
 pub mod Giving
 pub mod Known
@@ -9,5 +10,6 @@ pub mod Loads
 pub mod Logs
 pub mod Made
 pub mod Refused
+pub mod Said
 pub mod Services
 pub mod Taken

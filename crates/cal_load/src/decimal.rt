@@ -1,15 +1,23 @@
 //! Numbers with a point, exactly.
 
+ghost use Rattle.std.specs.Prelude.{◌≡◌, ◌≤◌, ◌-◌, ◌^◌, IfSome};
+ghost use Rattle.cal_load.specs.Decimals.{IsDecimal, Spells, SpellsPart};
+
 /// The number that some digits are; nothing where another letter stands among them, or none does.
-fn digits_of(word: &str) -> Option<u64> {
-    if word.is_empty() || word.bytes().any(|letter| !letter.is_ascii_digit()) {
+fn digits_of(word: &str) -> Option<u64>
+    ensures { IfSome result (Spells word.now) }
+{
+    // `parse` takes a plus too
+    if word.starts_with('+') {
         return None;
     }
     word.parse::<u64>().ok()
 }
 
 /// How many thousandths so many digits after the point are.
-fn part_of(digits: &str) -> Option<u64> {
+fn part_of(digits: &str) -> Option<u64>
+    ensures { IfSome result (SpellsPart 3 digits.now) }
+{
     let part = digits_of(digits)?;
     match digits.len() {
         1 => part.checked_mul(100),
@@ -20,12 +28,16 @@ fn part_of(digits: &str) -> Option<u64> {
 }
 
 /// A number in digits.
-pub fn number_of(word: &str) -> Option<u64> {
+pub fn number_of(word: &str) -> Option<u64>
+    ensures { IfSome result (Spells word.now) }
+{
     digits_of(word)
 }
 
 /// A number in thousandths: digits, and up to three more after a point.
-pub fn thousandths_of(word: &str) -> Option<u64> {
+pub fn thousandths_of(word: &str) -> Option<u64>
+    ensures { IfSome result (IsDecimal 3 word.now) }
+{
     match word.split_once('.') {
         None => digits_of(word)?.checked_mul(1000),
         Some((whole, part)) => {
@@ -36,7 +48,10 @@ pub fn thousandths_of(word: &str) -> Option<u64> {
 }
 
 /// The power of ten that makes digits after a point billionths, by how many digits there are.
-fn power_after(digits: usize) -> Option<u64> {
+fn power_after(digits: usize) -> Option<u64>
+    ensures few { IfSome result (λ _. digits ≤ 9) }
+    ensures power { IfSome result (λ power. power ≡ 10 ^ (9 - digits)) }
+{
     match digits {
         1 => Some(100_000_000),
         2 => Some(10_000_000),
@@ -51,14 +66,22 @@ fn power_after(digits: usize) -> Option<u64> {
     }
 }
 
+/// How many billionths so many digits after the point are.
+fn billionths_after(digits: &str) -> Option<u64>
+    ensures { IfSome result (SpellsPart 9 digits.now) }
+{
+    digits_of(digits)?.checked_mul(power_after(digits.len())?)
+}
+
 /// A number in billionths: digits, and up to nine more after a point.
-pub fn billionths_of(word: &str) -> Option<u128> {
+pub fn billionths_of(word: &str) -> Option<u128>
+    ensures { IfSome result (IsDecimal 9 word.now) }
+{
     match word.split_once('.') {
         None => u128::from(digits_of(word)?).checked_mul(1_000_000_000),
         Some((whole, part)) => {
             let whole = u128::from(digits_of(whole)?).checked_mul(1_000_000_000)?;
-            let part = digits_of(part)?.checked_mul(power_after(part.len())?)?;
-            whole.checked_add(u128::from(part))
+            whole.checked_add(u128::from(billionths_after(part)?))
         }
     }
 }

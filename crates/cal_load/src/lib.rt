@@ -3,7 +3,8 @@
 //!
 //! That what is made are arrivals that fit the table, with as many requests as are counted, is
 //! proved, and to which thread and before which turn each comes of those that were drawn by a load or
-//! that a log has. Which are drawn by a load is only tested, and so is what a log's text says.
+//! that a log has. So is what is taken from the words of a pattern, a service, a unit and a turn.
+//! Which requests are drawn by a load is only tested, and so is what a log's text says.
 #![tactic(auto)]
 
 mod asked;

@@ -4,6 +4,7 @@ ghost use Rattle.std.specs.Prelude.{◌≡◌, ◌<◌, ◌+◌, codes, length, 
 ghost use Rattle.cal_load.specs.Comings.{IsComing, IsQueue, taken_in};
 ghost use Rattle.cal_load.specs.Giving.{IsGiving, IsNothing, IsTaken};
 ghost use Rattle.cal_load.specs.Refused.{IsRefusedFor};
+ghost use Rattle.cal_load.specs.Said.{Names};
 ghost use Rattle.cal_load.specs.Services.{IsWork};
 
 use crate::decimal::number_of;
@@ -25,7 +26,8 @@ pub enum Pattern {
 
 /// The way that a word names: `poisson`, `even` or `bursts:N`.
 pub fn pattern_of<'a>(word: &'a str) -> Result<Pattern, LoadFault<'a>>
-    ensures { IfErr result
+    ensures named { IfOk result (Names word.now) }
+    ensures fault { IfErr result
         (IsRefusedFor (codes "--pattern") word.now Why.NotAPattern) }
 {
     let pattern = match word.split_once(':') {

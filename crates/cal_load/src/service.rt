@@ -1,6 +1,8 @@
 //! How many turns requests take, as words say it.
 
 ghost use Rattle.std.specs.Prelude.{IfOk, IfSome};
+ghost use Rattle.cal_load.specs.Decimals.{Spells};
+ghost use Rattle.cal_load.specs.Said.{SaysPart, SaysService};
 ghost use Rattle.cal_load.specs.Services.{IsService, IsWork};
 
 use crate::decimal::{number_of, thousandths_of};
@@ -26,7 +28,8 @@ pub struct ServicePart {
 
 /// The turns that some requests take, where it is such a number.
 fn turns_of(word: &str) -> Option<u64>
-    ensures { IfSome result IsWork }
+    ensures work { IfSome result IsWork }
+    ensures spelled { IfSome result (Spells word.now) }
 {
     let turns = number_of(word)?;
     if turns >= 1 && turns <= MOST_WORK {
@@ -38,7 +41,8 @@ fn turns_of(word: &str) -> Option<u64>
 
 /// A part, as `90%:1`; without a share all requests.
 fn part_of(piece: &str) -> Option<ServicePart>
-    ensures { IfSome result (λ part. IsWork part.turns) }
+    ensures work { IfSome result (λ part. IsWork part.turns) }
+    ensures says { IfSome result (SaysPart piece.now) }
 {
     let Some((share, turns)) = piece.split_once(':') else {
         let turns = turns_of(piece)?;
@@ -55,7 +59,8 @@ fn part_of(piece: &str) -> Option<ServicePart>
 /// The parts of a word, by commas, as in `90%:1,10%:20`, or one number of turns. The shares make
 /// 100%.
 pub fn service_of<'a>(alloc: Global, word: &'a str) -> Result<Vec<ServicePart>, LoadFault<'a>>
-    ensures { IfOk result (λ parts. IsService parts.items) }
+    ensures whole { IfOk result (λ parts. IsService parts.items) }
+    ensures says { IfOk result (λ parts. SaysService word.now parts.items) }
 {
     let mut parts = Vec::new(alloc);
     let mut sum = 0u64;

@@ -1,6 +1,7 @@
 //! How long times are, in units and in turns, exactly.
 
-ghost use Rattle.std.specs.Prelude.{◌≡◌, ◌<◌, ◌/◌, IfOk};
+ghost use Rattle.std.specs.Prelude.{◌≡◌, ◌<◌, ◌/◌, IfOk, IfSome};
+ghost use Rattle.cal_load.specs.Said.{EndsInUnit, IsUnit, SaysLength, SaysScale, SaysTime};
 ghost use Rattle.cal_load.specs.Logs.{IsScale, turns_over};
 
 use crate::decimal::billionths_of;
@@ -19,7 +20,9 @@ pub struct LogScale {
 }
 
 /// How many nanoseconds a unit has.
-fn nanoseconds_in(unit: &str) -> Option<u64> {
+fn nanoseconds_in(unit: &str) -> Option<u64>
+    ensures { IfSome result (IsUnit unit.now) }
+{
     match unit {
         "ns" => Some(1),
         "us" => Some(1_000),
@@ -30,7 +33,9 @@ fn nanoseconds_in(unit: &str) -> Option<u64> {
 }
 
 /// A number and its unit, as `10us`.
-fn with_unit(word: &str) -> Option<(&str, u64)> {
+fn with_unit(word: &str) -> Option<(&str, u64)>
+    ensures { IfSome result (λ found. EndsInUnit word.now found.0.now found.1) }
+{
     if let Some(number) = word.strip_suffix("ns") {
         Some((number, 1))
     } else if let Some(number) = word.strip_suffix("us") {
@@ -43,19 +48,24 @@ fn with_unit(word: &str) -> Option<(&str, u64)> {
 }
 
 /// The time that a number of a unit is, in billionths of a nanosecond.
-fn time_in(number: &str, unit: u64) -> Option<u128> {
+fn time_in(number: &str, unit: u64) -> Option<u128>
+    ensures { IfSome result (SaysTime unit number.now) }
+{
     billionths_of(number)?.checked_mul(u128::from(unit))
 }
 
 /// The length that a word names, as `10us`.
-fn length_of(word: &str) -> Option<u128> {
+fn length_of(word: &str) -> Option<u128>
+    ensures { IfSome result (SaysLength word.now) }
+{
     let (number, unit) = with_unit(word)?;
     time_in(number, unit)
 }
 
 /// How a log in this unit becomes turns of this length, a number and a unit.
 pub fn scale_of<'a>(unit: &'a str, turn: &'a str) -> Result<LogScale, LoadFault<'a>>
-    ensures { IfOk result IsScale }
+    ensures scale { IfOk result IsScale }
+    ensures says { IfOk result (SaysScale unit.now turn.now) }
 {
     let Some(nanoseconds) = nanoseconds_in(unit) else {
         return Err(refused("--unit", unit, Why::NotAUnit));
@@ -71,7 +81,9 @@ pub fn scale_of<'a>(unit: &'a str, turn: &'a str) -> Result<LogScale, LoadFault<
 
 impl LogScale {
     /// The time that a field names, in billionths of a nanosecond.
-    pub(crate) fn time_of(self, field: &[u8]) -> Option<u128> {
+    pub(crate) fn time_of(self, field: &[u8]) -> Option<u128>
+        ensures { IfSome result (SaysTime self.unit field.now) }
+    {
         time_in(str::from_utf8(field).ok()?, self.unit)
     }
 

@@ -1,6 +1,6 @@
 //! A log, read row by row.
 
-ghost use Rattle.std.specs.Prelude.{IfOk, OnOk};
+ghost use Rattle.std.specs.Prelude.{◌<◌, IfOk, OnOk, length};
 ghost use Rattle.cal_load.specs.Logs.{AreLogged, HasOneMore, IsLogRow, IsScale};
 
 use crate::log::LogRow;
@@ -177,7 +177,8 @@ fn requests_of(
 /// the header.
 pub fn read_log(alloc: Global, text: &[u8], terms: &LogTerms<'_>) -> Result<Vec<LogRow>, LogFault>
     requires { IsScale terms.now.scale }
-    ensures { IfOk result (λ rows. AreLogged terms.now.tasks rows.items) }
+    ensures logged { IfOk result (λ rows. AreLogged terms.now.tasks rows.items) }
+    ensures some { IfOk result (λ rows. 0 < length rows.items) }
 {
     let mut rows = LogRows::open(alloc, text);
     rows.step()?;
