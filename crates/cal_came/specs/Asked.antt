@@ -1,9 +1,9 @@
 -- From when the requests of arrivals count, and which of them are ranked, as it is asked for.
-use Rattle.std.specs.Prelude.{◌≡◌, ◌||◌, not, ⊤, ℕ, Bool, List, length, map, slice_get}
+use Rattle.std.specs.Prelude.{◌≡◌, ◌||◌, not, ⊤, ℕ, Bool, List, length, map}
 use Rattle.std.specs.Prelude.{slice_index_or, Option, Some, None, Result, Ok, Err}
 use Rattle.std.specs.Prelude.{if◌then◌else◌}
 use Rattle.std.specs.List.{list_any}
-use Rattle.std.specs.Option.{is_some}
+use Rattle.std.specs.Option.{is_some, unwrap_or}
 use Rattle.cal_machine.specs.Table.{Table}
 use Rattle.cal_trace.specs.Comings.{comings_of}
 use Rattle.cal_trace.specs.Rows.Answers.{Decided}
@@ -33,36 +33,22 @@ comings_asked None table arrivals = Ok None
 comings_asked (Some file) table arrivals =
     some_comings (comings_of (length table.tasks) arrivals.requests (rows_of file.text.now))
 
--- when a request came: at the clock of the turn to which it came
+-- how a request came: to a turn, at the clock of that
 abbrev pub come_at : List ℕ → Coming → Came
 come_at turns coming = record {
   id = coming.arrival.request.id;
+  turn = coming.turn;
   clock = slice_index_or turns coming.turn 0;
 }
 
--- when the requests of arrivals came: by their comings, or each at the clock of its own turn
+-- how the requests of arrivals came: by their comings, or each to its own turn
 abbrev pub came_by : Arrivals → Option Comings → List Came
 came_by arrivals None = each_own arrivals
 came_by arrivals (Some comings) = map (come_at arrivals.turns) comings.requests
 
--- the clock of the first turn, where there is such a turn
-abbrev pub first_clock : List ℕ → Option ℕ → Option ℕ
-first_clock turns None = Some 0
-first_clock turns (Some turn) = slice_get turns turn
-
--- the clock of the turn after the last; to the end of the run where there is no such turn
-abbrev pub end_clock : List ℕ → Option ℕ → Option ℕ
-end_clock turns None = None
-end_clock turns (Some turn) = slice_get turns turn
-
-abbrev pub window_from : Option ℕ → Option ℕ → Option Window
-window_from None to = None
-window_from (Some from) to = Some (record { from = from; to = to })
-
--- the window of the turns asked for; none where there is not their first one
-abbrev pub window_asked : List ℕ → CountAsked → Option Window
-window_asked turns asked =
-    window_from (first_clock turns asked.from) (end_clock turns asked.to)
+-- the window of the turns asked for
+abbrev pub window_asked : CountAsked → Window
+window_asked asked = record { from = unwrap_or asked.from 0; to = asked.to }
 
 -- turns are asked for
 abbrev pub is_windowed : CountAsked → Bool
@@ -72,28 +58,27 @@ is_windowed asked = is_some asked.from || is_some asked.to
 abbrev pub is_asked : CountAsked → Bool
 is_asked asked = is_some asked.came || is_windowed asked
 
--- some of these came within the window
+-- some of these came to a turn within the window
 abbrev pub is_some_within : Window → List Came → Bool
-is_some_within window came = list_any (λ one. is_within window one.clock) came
+is_some_within window came = list_any (λ one. is_within window one.turn) came
 
 -- or turns are not asked for
 abbrev pub has_requests : CountAsked → Window → List Came → Bool
 has_requests asked window came = not (is_windowed asked) || is_some_within window came
 
-abbrev pub counted_within : CountAsked → List Came → Option Window → Option Counted
-counted_within asked came None = None
-counted_within asked came (Some window) =
+abbrev pub counted_within : CountAsked → List Came → Window → Option Counted
+counted_within asked came window =
     if has_requests asked window came then Some (record { came = came; window = window })
     else None
 
--- from when requests count that came so, and which are ranked; nothing where turns are asked for in
+-- from when requests count that came so, and which are ranked; nothing where turns are asked for to
 -- which none came
-abbrev pub counted_asked : List ℕ → List Came → CountAsked → Option Counted
-counted_asked turns came asked = counted_within asked came (window_asked turns asked)
+abbrev pub counted_asked : List Came → CountAsked → Option Counted
+counted_asked came asked = counted_within asked came (window_asked asked)
 
 abbrev pub counted_by_comings : CountAsked → Arrivals → Option Comings → Option Counted
 counted_by_comings asked arrivals comings =
-    counted_asked arrivals.turns (came_by arrivals comings) asked
+    counted_asked (came_by arrivals comings) asked
 
 -- it is as asked for
 pub record IsCountedAs (asked : CountAsked) (table : Table) (arrivals : Arrivals)
@@ -101,7 +86,7 @@ pub record IsCountedAs (asked : CountAsked) (table : Table) (arrivals : Arrivals
   pub comings : comings_asked asked.came table arrivals ≡ Ok told.comings
   pub counted : counted_by_comings asked arrivals told.comings ≡ Some told.counted
 
--- none came within the turns asked for
+-- none came to the turns asked for
 pub record HasNoRequests (asked : CountAsked) (table : Table) (arrivals : Arrivals) : Type 0 where
   pub comings : Option Comings
   pub are : comings_asked asked.came table arrivals ≡ Ok comings

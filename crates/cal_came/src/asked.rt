@@ -26,17 +26,16 @@ pub struct CameFile<'a> {
 /// From when requests are to count, and which of them are to be ranked.
 #[derive(Clone, Copy)]
 pub struct CountAsked<'a> {
-    /// The file of when they came; without it each counts from the clock of its turn.
+    /// The file of when they came; without it each came to its own turn.
     pub came: Option<CameFile<'a>>,
-    /// The first turn of those in which they are to have come; without it, all turns are.
+    /// The first turn of those to which they are to have come; without it, that is turn 0.
     pub from: Option<u64>,
-    /// The turn after the last of these; without it, or where there is none of this number, they go
-    /// to the end of the run.
+    /// The turn after the last of these; without it, they go to the end of the run.
     pub to: Option<u64>,
 }
 
 impl CountAsked<'_> {
-    /// Each request from the clock of its turn, and all of them ranked.
+    /// Each request from its own turn, and all of them ranked.
     pub const NONE: CountAsked<'static> = CountAsked {
         came: None,
         from: None,
@@ -51,7 +50,7 @@ pub enum CountFault {
     Memory,
     /// The file of when they came is refused.
     Came(TraceFault),
-    /// None came within the turns.
+    /// None came to the turns.
     NoRequests,
 }
 
@@ -103,7 +102,7 @@ fn comings_asked(
     }
 }
 
-/// When a request came, by its coming.
+/// How a request came, by its coming.
 fn come_at(turns: &[u64], coming: &Coming) -> Came
     ensures { result ≡ come_at turns.now coming.now }
 {
@@ -113,11 +112,12 @@ fn come_at(turns: &[u64], coming: &Coming) -> Came
     };
     Came {
         id: coming.arrival.request.id,
+        turn: coming.turn,
         clock,
     }
 }
 
-/// When requests came, by their comings. Fails only when out of memory.
+/// How requests came, by their comings. Fails only when out of memory.
 fn each_come_at(alloc: Global, turns: &[u64], comings: &[Coming]) -> Result<Vec<Came>, AllocError>
     ensures { IfOk result (λ came. came.items ≡ map (come_at turns.now) comings.now) }
 {
@@ -128,8 +128,8 @@ fn each_come_at(alloc: Global, turns: &[u64], comings: &[Coming]) -> Result<Vec<
     Ok(came)
 }
 
-/// When the requests of arrivals came: by their comings, or each at the clock of its own turn. Fails
-/// only when out of memory.
+/// How the requests of arrivals came: by their comings, or each to its own turn. Fails only when out
+/// of memory.
 fn came_by(
     alloc: Global,
     arrivals: &Arrivals,
@@ -147,35 +147,30 @@ fn came_by(
     }
 }
 
-/// The window of the turns asked for; none where there is not their first one.
-fn window_asked(turns: &[u64], asked: CountAsked<'_>) -> Option<Window>
-    ensures { result ≡ window_asked turns.now asked.entry }
+/// The window of the turns asked for.
+fn window_asked(asked: CountAsked<'_>) -> Window
+    ensures { result ≡ window_asked asked.entry }
 {
-    let from = match asked.from {
-        None => 0,
-        Some(turn) => *turns.get(turn as usize)?,
-    };
-    let to = match asked.to {
-        None => None,
-        Some(turn) => turns.get(turn as usize).copied(),
-    };
-    Some(Window { from, to })
+    Window {
+        from: asked.from.unwrap_or(0),
+        to: asked.to,
+    }
 }
 
-/// Whether some of these came within a window.
+/// Whether some of these came to a turn within a window.
 fn is_some_within(window: Window, came: &[Came]) -> bool
-    ensures { result ≡ list_any (λ one. is_within window one.clock) came.now }
+    ensures { result ≡ list_any (λ one. is_within window one.turn) came.now }
 {
     for one in came {
-        if is_within(window, one.clock) {
+        if is_within(window, one.turn) {
             return true;
         }
     }
     false
 }
 
-/// Whether a file or turns are asked for; else each request counts from the clock of its turn, and all
-/// are ranked.
+/// Whether a file or turns are asked for; else each request counts from its own turn, and all are
+/// ranked.
 pub fn is_asked(asked: CountAsked<'_>) -> bool
     ensures { result ≡ is_asked asked.entry }
 {
@@ -197,11 +192,11 @@ fn has_requests(asked: CountAsked<'_>, window: Window, came: &[Came]) -> bool
 }
 
 /// From when requests count that came so, and which of them are ranked; none where turns are asked
-/// for in which none came.
-fn counted_asked(turns: &[u64], came: Vec<Came>, asked: CountAsked<'_>) -> Option<Counted>
-    ensures { result ≡ counted_asked turns.now came.items asked.entry }
+/// for to which none came.
+fn counted_asked(came: Vec<Came>, asked: CountAsked<'_>) -> Option<Counted>
+    ensures { result ≡ counted_asked came.items asked.entry }
 {
-    let window = window_asked(turns, asked)?;
+    let window = window_asked(asked);
     if !has_requests(asked, window, came.as_slice()) {
         return None;
     }
@@ -231,7 +226,7 @@ pub fn counted_requests(
         Err(fault) => return Err(CountFault::Came(fault)),
     };
     let came = came_by(alloc, arrivals, &comings)?;
-    match counted_asked(arrivals.turns.as_slice(), came, asked) {
+    match counted_asked(came, asked) {
         Some(counted) => Ok(CountedRequests { comings, counted }),
         None => Err(CountFault::NoRequests),
     }

@@ -1,4 +1,4 @@
-//! When each request of some arrivals came.
+//! To which turn each request of some arrivals came, and when.
 
 ghost use Rattle.std.specs.Prelude.{◌≡◌, IfOk, map};
 ghost use Rattle.cal_came.specs.Came.{clock_of, each_own, own_came};
@@ -6,12 +6,14 @@ ghost use Rattle.cal_came.specs.Came.{clock_of, each_own, own_came};
 use cal_trace::{Arrival, Arrivals};
 use std::alloc::{AllocError, Global};
 
-/// When a request came.
+/// How a request came.
 #[derive(Clone, Copy, Debug, PartialEq, Eq)]
 pub struct Came {
     /// The request's name.
     pub id: u64,
-    /// The clock, in ticks.
+    /// The turn to which it came, from 0.
+    pub turn: u64,
+    /// The clock of that turn, in ticks.
     pub clock: u64,
 }
 
@@ -26,18 +28,18 @@ pub fn clock_of(turns: &[u64], arrival: &Arrival) -> u64
     }
 }
 
-/// The request of an arrival, as one that came at the clock of its turn.
+/// The request of an arrival, as one that came to its turn, at the clock of that.
 fn own_came(turns: &[u64], arrival: &Arrival) -> Came
     ensures { result ≡ own_came turns.now arrival.now }
 {
     Came {
         id: arrival.request.id,
+        turn: arrival.turn,
         clock: clock_of(turns, arrival),
     }
 }
 
-/// Each of these requests, as one that came at the clock of its own turn. Fails only when out of
-/// memory.
+/// Each of these requests, as one that came to its own turn. Fails only when out of memory.
 fn each_at(alloc: Global, turns: &[u64], requests: &[Arrival]) -> Result<Vec<Came>, AllocError>
     ensures { IfOk result (λ came. came.items ≡ map (own_came turns.now) requests.now) }
 {
@@ -48,8 +50,7 @@ fn each_at(alloc: Global, turns: &[u64], requests: &[Arrival]) -> Result<Vec<Cam
     Ok(came)
 }
 
-/// Each request of these arrivals, as one that came at the clock of its own turn. Fails only when
-/// out of memory.
+/// Each request of these arrivals, as one that came to its own turn. Fails only when out of memory.
 pub fn each_own(alloc: Global, arrivals: &Arrivals) -> Result<Vec<Came>, AllocError>
     ensures { IfOk result (λ came. came.items ≡ each_own arrivals.now) }
 {

@@ -12,13 +12,13 @@ use std::alloc::{AllocError, Global};
 /// From when the requests of a run are counted, and which of them are ranked.
 #[derive(Drop)]
 pub struct Counted {
-    /// When each request came.
+    /// How each request came.
     pub came: Listed<Came>,
     /// Those that came within this are ranked.
     pub window: Window,
 }
 
-/// Each request counted from the clock of its own turn, and all of them ranked. Fails only when out
+/// Each request counted from its own turn, and all of them ranked. Fails only when out
 /// of memory.
 pub fn counted_as_given(alloc: Global, arrivals: &Arrivals) -> Result<Counted, AllocError>
     ensures { IfOk result (λ counted. counted ≡ as_given arrivals.now) }

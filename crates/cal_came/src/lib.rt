@@ -12,4 +12,4 @@ mod window;
 pub use asked::{CameFile, CountAsked, CountFault, CountedRequests, counted_requests, is_asked};
 pub use came::{Came, clock_of, each_own};
 pub use counted::{Counted, counted_as_given};
-pub use window::{Window, is_within, window_of};
+pub use window::{Window, is_within};

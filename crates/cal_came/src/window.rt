@@ -1,14 +1,14 @@
 //! A part of a run: the requests that come in it are ranked.
 
 ghost use Rattle.std.specs.Prelude.{◌≡◌};
-ghost use Rattle.cal_came.specs.Windows.{is_before, is_within, whole, window_of};
+ghost use Rattle.cal_came.specs.Windows.{is_before, is_within, whole};
 
-/// A part of a run, by clocks in ticks.
+/// A part of a run, by turns from 0.
 #[derive(Clone, Copy, Debug, PartialEq, Eq)]
 pub struct Window {
-    /// Its first clock.
+    /// Its first turn.
     pub from: u64,
-    /// The first clock after it; without it, it goes to the end of the run.
+    /// The first turn after it; without it, it goes to the end of the run.
     pub to: Option<u64>,
 }
 
@@ -21,30 +21,19 @@ impl Window {
     }
 }
 
-/// Whether a clock is before another, where there is one.
-fn is_before(clock: u64, end: Option<u64>) -> bool
-    ensures { result ≡ is_before clock end }
+/// Whether a turn is before another, where there is one.
+fn is_before(turn: u64, end: Option<u64>) -> bool
+    ensures { result ≡ is_before turn end }
 {
     match end {
         None => true,
-        Some(end) => clock < end,
+        Some(end) => turn < end,
     }
 }
 
-/// Whether a clock is within a window.
-pub fn is_within(window: Window, clock: u64) -> bool
-    ensures { result ≡ is_within window clock }
+/// Whether a turn is within a window.
+pub fn is_within(window: Window, turn: u64) -> bool
+    ensures { result ≡ is_within window turn }
 {
-    window.from <= clock && is_before(clock, window.to)
-}
-
-/// The window of the turns from one of these up to another, which is not in it; where that is none
-/// of them, to the end of the run.
-pub fn window_of(turns: &[u64], first: u64, after: u64) -> Window
-    ensures { result ≡ window_of turns.now first after }
-{
-    Window {
-        from: turns.get(first as usize).copied().unwrap_or(0),
-        to: turns.get(after as usize).copied(),
-    }
+    window.from <= turn && is_before(turn, window.to)
 }

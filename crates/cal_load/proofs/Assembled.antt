@@ -1,9 +1,11 @@
 -- Passes, turns and requests, put together as arrivals.
-use Rattle.std.proofs.Common.{◌≡◌, ◌<◌, ◌≤◌, ℕ, List, Some, length, get_or, slice_get, sym, subst, arith}
+use Rattle.std.proofs.Common.{◌≡◌, ◌∙◌, ◌<◌, ◌≤◌, ◌+◌, ◌*◌, ℕ, List, Some, length, get_or, slice_get, sym, subst, arith}
+use Rattle.std.proofs.Math.Nat.{mul-le-mul_left}
 use Rattle.std.proofs.lemmas.Option.{slice_get-get_or}
 use Rattle.cal_came.specs.Came.{clock_of}
 use Rattle.cal_load.specs.Built.{AreBuilt}
-use Rattle.cal_load.specs.Clocks.{IsTiming, ArePassesOf, AreTurnsOf, turn_clock}
+use Rattle.cal_came.specs.declared.came.Came.{Came}
+use Rattle.cal_load.specs.Clocks.{IsTiming, ArePassesOf, AreTurnsOf, clock_to, turn_clock}
 use Rattle.cal_load.specs.declared.clocks.Timing.{Timing}
 use Rattle.cal_machine.specs.Table.{Table}
 use Rattle.cal_machine.specs.Tasks.{threads_in}
@@ -42,13 +44,33 @@ assembled_spelled threads timing thread passes turns requests is of_passes of_tu
   ids = record { at = λ k a e. (built.ids.at k a e).1 };
 }
 
--- what is no later than the clock of a request's turn by the timing is no later than that of its turn
-pub came_before : (table : Table) (timing : Timing) (thread : ℕ) (passes : List GivenPass) (turns : List ℕ) (requests : List Arrival) (arrival : Arrival) (i clock : ℕ)
-    → AreTurnsOf timing turns → AreBuilt (threads_in table.tasks) timing.turns thread requests → slice_get requests i ≡ Some arrival → clock ≤ turn_clock timing arrival.turn
-    → clock ≤ clock_of turns arrival
-came_before table timing thread passes turns requests arrival i clock of_turns built at le =
-    let own = (built.each.at i arrival at).turn in
+-- the clock of a turn that there is
+clock_is : (timing : Timing) (turns : List ℕ) (turn : ℕ) → AreTurnsOf timing turns → turn < timing.turns → get_or turns turn 0 ≡ turn_clock timing turn
+clock_is timing turns turn of_turns lt =
     let long = of_turns.long in
-    let within : arrival.turn < length turns = omega (arith, own, long) in
-    let is : get_or turns arrival.turn 0 ≡ turn_clock timing arrival.turn = of_turns.each arrival.turn (get_or turns arrival.turn 0) (slice_get-get_or turns arrival.turn 0 within) in
-    subst (λ (n : ℕ). clock ≤ n) (sym is) le
+    let within : turn < length turns = omega (arith, lt, long) in
+    of_turns.each turn (get_or turns turn 0) (slice_get-get_or turns turn 0 within)
+
+clock_to_is : (timing : Timing) (turn : ℕ) → turn < timing.turns → clock_to timing turn ≡ turn_clock timing turn
+clock_to_is timing turn lt = grind (arith, lt)
+
+-- a request that came to its turn or one before it came at the clock of that
+pub came_at_turn : (table : Table) (timing : Timing) (thread : ℕ) (turns : List ℕ) (requests : List Arrival) (arrival : Arrival) (i : ℕ) (one : Came)
+    → AreTurnsOf timing turns → AreBuilt (threads_in table.tasks) timing.turns thread requests → slice_get requests i ≡ Some arrival → one.turn ≤ arrival.turn
+    → one.clock ≡ clock_to timing one.turn → one.clock ≡ get_or turns one.turn 0
+came_at_turn table timing thread turns requests arrival i one of_turns built at le clock =
+    let own = (built.each.at i arrival at).turn in
+    let within : one.turn < timing.turns = omega (arith, own, le) in
+    clock ∙ clock_to_is timing one.turn within ∙ sym (clock_is timing turns one.turn of_turns within)
+
+-- and that is not after the clock of its turn
+pub came_before : (table : Table) (timing : Timing) (thread : ℕ) (turns : List ℕ) (requests : List Arrival) (arrival : Arrival) (i : ℕ) (one : Came)
+    → AreTurnsOf timing turns → AreBuilt (threads_in table.tasks) timing.turns thread requests → slice_get requests i ≡ Some arrival → one.turn ≤ arrival.turn
+    → one.clock ≡ clock_to timing one.turn → one.clock ≤ clock_of turns arrival
+came_before table timing thread turns requests arrival i one of_turns built at le clock =
+    let own = (built.each.at i arrival at).turn in
+    let within : one.turn < timing.turns = omega (arith, own, le) in
+    let is : one.clock ≡ turn_clock timing one.turn = clock ∙ clock_to_is timing one.turn within in
+    let rises : timing.ticks * (one.turn + 1) ≤ timing.ticks * (arrival.turn + 1) = mul-le-mul_left timing.ticks (omega (arith, le)) in
+    let early : one.clock ≤ turn_clock timing arrival.turn = omega (arith, is, rises) in
+    subst (λ (n : ℕ). one.clock ≤ n) (sym (clock_is timing turns arrival.turn of_turns (omega (arith, own)))) early

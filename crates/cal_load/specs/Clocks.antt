@@ -1,5 +1,6 @@
 -- The clocks of a run that is made.
-use Rattle.std.specs.Prelude.{◌≡◌, ◌≤◌, ◌+◌, ◌*◌, ◌/◌, min, max, ℕ, List, length, Some, slice_get}
+use Rattle.std.specs.Prelude.{◌≡◌, ◌≤◌, ◌+◌, ◌*◌, ◌/◌, nat_lt, min, max, ℕ, List, length}
+use Rattle.std.specs.Prelude.{Some, slice_get, if◌then◌else◌}
 use Rattle.cal_load.specs.declared.clocks.Timing.{Timing}
 use Rattle.cal_load.specs.declared.clocks.TheConstants.{MOST_TICKS}
 use Rattle.cal_trace.specs.declared.arrivals.GivenPass.{GivenPass}
@@ -28,6 +29,10 @@ pass_clock timing k = timing.ticks * (k + 1)
 -- the clock of a turn: half a turn after its pass
 abbrev pub turn_clock : Timing → ℕ → ℕ
 turn_clock timing k = timing.ticks * (k + 1) + timing.ticks / 2
+
+-- where there is no such turn, 0
+abbrev pub clock_to : Timing → ℕ → ℕ
+clock_to timing k = if nat_lt k timing.turns then turn_clock timing k else 0
 
 -- one pass before each turn, whose bandwidth figure is 0
 abbrev pub ArePassesOf : Timing → List GivenPass → Type 0

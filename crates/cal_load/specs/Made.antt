@@ -66,7 +66,7 @@ pub record AreGathered (table : Table) (loads : List TaskLoad) (turns n : ℕ)
   pub few : gathered.came ≤ MOST_REQUESTS
 
 -- arrivals by these loads for a table: a file can hold them, they fit the table; each load of a task
--- that the table has is counted, requests are those of the counts, and each came at some clock
+-- that the table has is counted, requests are those of the counts, and each came to some turn
 pub record IsMadeOf (table : Table) (loads : List TaskLoad) (made : Made) : Type 0 where
   pub fits : FitsTable table made.arrivals
   pub spelled : AreSpelled made.arrivals

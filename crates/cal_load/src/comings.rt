@@ -1,9 +1,8 @@
-//! When the requests of arrivals came, by the turns to which they came.
+//! How the requests of arrivals came: to which turns, and when.
 
 ghost use Rattle.std.specs.Prelude.{◌≡◌, ◌<◌, ◌≤◌, ℕ, IfOk, Some, length, map, slice_get};
 ghost use Rattle.cal_came.specs.declared.came.Came.{Came as CameOf};
-ghost use Rattle.cal_load.specs.Clocks.{IsTiming, turn_clock};
-ghost use Rattle.cal_load.specs.declared.clocks.Timing.{Timing};
+ghost use Rattle.cal_load.specs.Clocks.{IsTiming, clock_to};
 ghost use Rattle.cal_trace.specs.declared.arrivals.Arrival.{Arrival as ArrivalOf};
 
 use crate::clocks::{Timing, clock_at};
@@ -11,28 +10,30 @@ use cal_came::Came;
 use cal_trace::Arrival;
 use std::alloc::{AllocError, Global};
 
-/// The clock of a turn, or of this other one where that is earlier; 0 where there is no such turn.
-fn clock_to(timing: Timing, turn: u64, came_to: Option<u64>) -> u64
+/// The clock of a turn; 0 where there is no such turn.
+fn clock_to(timing: Timing, turn: u64) -> u64
     requires { IsTiming timing }
-    ensures { result ≤ turn_clock timing turn }
+    ensures { result ≡ clock_to timing turn }
 {
-    let first = came_to.unwrap_or(turn).min(turn);
-    if first < timing.turns {
-        clock_at(timing, first)
+    if turn < timing.turns {
+        clock_at(timing, turn)
     } else {
         0
     }
 }
 
-/// When a request came that came to this turn.
+/// How a request came that came to this turn; to its own where that is earlier.
 fn came_by(timing: Timing, arrival: &Arrival, came_to: Option<u64>) -> Came
     requires { IsTiming timing }
     ensures id { result.id ≡ arrival.now.request.id }
-    ensures before { result.clock ≤ turn_clock timing arrival.now.turn }
+    ensures turn { result.turn ≤ arrival.now.turn }
+    ensures clock { result.clock ≡ clock_to timing result.turn }
 {
+    let turn = came_to.unwrap_or(arrival.turn).min(arrival.turn);
     Came {
         id: arrival.request.id,
-        clock: clock_to(timing, arrival.turn, came_to),
+        turn,
+        clock: clock_to(timing, turn),
     }
 }
 
@@ -44,8 +45,8 @@ fn request_at(requests: &[Arrival], place: usize) -> &Arrival
     &requests[place]
 }
 
-/// When each of these requests came, each by the turn to which it came, none after the clock of its
-/// own. Fails only when out of memory.
+/// How each of these requests came, each to this turn or to its own where that is earlier. Fails only
+/// when out of memory.
 pub fn came_of(
     alloc: Global,
     timing: Timing,
@@ -55,9 +56,11 @@ pub fn came_of(
     requires { IsTiming timing }
     ensures ids { IfOk result (λ came.
         map (λ one. one.id) came.items ≡ map (λ arrival. arrival.request.id) requests.now) }
-    ensures before { IfOk result (λ came. (i : ℕ) (one : CameOf) (arrival : ArrivalOf) →
+    ensures turns { IfOk result (λ came. (i : ℕ) (one : CameOf) (arrival : ArrivalOf) →
         slice_get came.items i ≡ Some one → slice_get requests.now i ≡ Some arrival →
-        one.clock ≤ turn_clock timing arrival.turn) }
+        one.turn ≤ arrival.turn) }
+    ensures clocks { IfOk result (λ came. (i : ℕ) (one : CameOf) →
+        slice_get came.items i ≡ Some one → one.clock ≡ clock_to timing one.turn) }
 {
     let mut came = Vec::new(alloc);
     for place in 0..requests.len() {
@@ -66,12 +69,4 @@ pub fn came_of(
         came.push(one)?;
     }
     Ok(came)
-}
-
-/// The turn whose clock a request came at, by the ticks of a turn; 0 where there is no such turn.
-pub fn turn_of(ticks: u64, came: Came) -> u64
-    ensures { (timing : Timing) (turn : ℕ) → IsTiming timing → ticks ≡ timing.ticks →
-        came.clock ≡ turn_clock timing turn → result ≡ turn }
-{
-    came.clock.checked_div(ticks).unwrap_or(0).saturating_sub(1)
 }

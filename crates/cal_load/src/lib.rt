@@ -26,7 +26,6 @@ pub use asked::{
     LoadWords, SteppedLoads, are_known, asked_loads, stepped_loads, task_at, task_named, word_at,
 };
 pub use clocks::{MOST_TICKS, Timing};
-pub use comings::turn_of;
 pub use decimal::number_of;
 pub use drawing::{DrawnLoad, DrawnRequest};
 pub use fault::{LoadFault, Why, WordFault, refused};

@@ -107,8 +107,7 @@ impl<'a> ArrivalPlan<'a> {
 pub struct Made {
     /// The arrivals.
     pub arrivals: Arrivals,
-    /// When each request came, in their order: at the clock of the turn to which it came, which may
-    /// be before its own.
+    /// How each request came, in their order: to its own turn or one before it.
     pub came: Vec<Came>,
     /// What came to each task that has a load.
     pub counts: Vec<Count>,

@@ -2,9 +2,8 @@
 use Rattle.std.specs.Prelude.{◌≡◌, ℕ, ◌-◌, nat_eq, List, length, Option, Some, None}
 use Rattle.std.specs.Prelude.{slice_index_or, slice_get, max}
 use Rattle.std.specs.HashMap.{get}
-use Rattle.cal_came.specs.Came.{clock_told}
+use Rattle.cal_came.specs.Came.{told_of}
 use Rattle.cal_came.specs.declared.came.Came.{Came}
-use Rattle.cal_policy.specs.History.Lists.{last_of}
 use Rattle.cal_trace.specs.declared.arrivals.Arrivals.{Arrivals}
 use Rattle.cal_trace.specs.declared.arrivals.GivenPass.{GivenPass}
 use Rattle.cal_measure.specs.declared.clocks.ArrivalClocks.{ArrivalClocks}
@@ -32,6 +31,6 @@ run_end arrivals = max (last_clock arrivals.turns) (last_pass arrivals.passes)
 abbrev pub turns_last : Arrivals → ℕ
 turns_last arrivals = run_end arrivals - slice_index_or arrivals.turns 0 (run_end arrivals)
 
--- the clocks are those at which these requests came
+-- it is known of each name how these requests came
 pub record AreClocksOf (came : List Came) (clocks : ArrivalClocks) : Type 0 where
-  pub same : (id : ℕ) → get nat_eq clocks.clocks id ≡ last_of (clock_told id) came
+  pub same : (id : ℕ) → get nat_eq clocks.came id ≡ told_of came id

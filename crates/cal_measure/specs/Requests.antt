@@ -10,7 +10,7 @@ use Rattle.cal_machine.specs.TableTasks.{limit_of, owner_of, thread_of}
 use Rattle.cal_trace.specs.declared.arrivals.Arrival.{Arrival}
 use Rattle.cal_trace.specs.declared.arrivals.Arrivals.{Arrivals}
 use Rattle.cal_policy.specs.History.Lists.{each_of}
-use Rattle.cal_came.specs.Came.{came_at}
+use Rattle.cal_came.specs.Came.{came_at, came_to}
 use Rattle.cal_came.specs.Windows.{is_within}
 use Rattle.cal_came.specs.declared.came.Came.{Came}
 use Rattle.cal_came.specs.declared.counted.Counted.{Counted}
@@ -77,9 +77,9 @@ abbrev pub given_to : Table → List Arrival → ℕ → ℕ
 given_to table requests t =
     count_by (λ (arrival : Arrival). owner_of table arrival.thread == t) requests
 
--- a request of this name, where it came within a window
+-- a request of this name, where it came to a turn within a window
 abbrev pub if_within : {X : Type 0} → Window → List Came → ℕ → X → Option X
-if_within window came id x = if is_within window (came_at came id) then Some x else None
+if_within window came id x = if is_within window (came_to came id) then Some x else None
 
 abbrev pub service_within : Window → List Came → List Service → Service → List Service
 service_within window came before service = one_of (if_within window came service.id service)

@@ -1,7 +1,7 @@
 //! When each request of a run came, and when the run ended.
 
 ghost use Rattle.std.specs.Prelude.{◌≡◌, ℕ, IfOk, List};
-ghost use Rattle.cal_came.specs.Came.{came_at};
+ghost use Rattle.cal_came.specs.Came.{came_at, came_to};
 ghost use Rattle.cal_came.specs.declared.came.Came.{Came as CameOf};
 ghost use Rattle.cal_measure.specs.Clocks.{AreClocksOf, last_clock, last_pass, run_end};
 ghost use Rattle.cal_measure.specs.Clocks.{turns_last};
@@ -11,10 +11,10 @@ use cal_trace::{Arrivals, GivenPass};
 use std::alloc::{AllocError, Global};
 use std::collections::HashMap;
 
-/// The clock at which each request came, by its name.
+/// How each request came, by its name.
 #[derive(Drop)]
 pub struct ArrivalClocks {
-    clocks: HashMap<u64, u64>,
+    came: HashMap<u64, Came>,
 }
 
 /// The clock of the last turn; 0 where there is none.
@@ -59,23 +59,33 @@ pub fn turns_last(arrivals: &Arrivals) -> u64
 }
 
 impl ArrivalClocks {
-    /// The clocks at which these requests came. Fails only when out of memory.
+    /// How these requests came. Fails only when out of memory.
     pub fn of(alloc: Global, came: &[Came]) -> Result<ArrivalClocks, AllocError>
         ensures { IfOk result (AreClocksOf came.now) }
     {
-        let mut clocks = HashMap::new(alloc);
+        let mut all = HashMap::new(alloc);
         for one in came {
-            clocks.insert(one.id, one.clock)?;
+            all.insert(one.id, *one)?;
         }
-        Ok(ArrivalClocks { clocks })
+        Ok(ArrivalClocks { came: all })
     }
 
     /// When the request of this name came, in clock ticks; 0 where none has it.
     pub fn of_request(&self, id: u64) -> u64
         ensures { (came : List CameOf) → AreClocksOf came self.now → result ≡ came_at came id }
     {
-        match self.clocks.get(&id) {
-            Some(clock) => *clock,
+        match self.came.get(&id) {
+            Some(came) => came.clock,
+            None => 0,
+        }
+    }
+
+    /// The turn to which the request of this name came; 0 where none has it.
+    pub fn turn_of(&self, id: u64) -> u64
+        ensures { (came : List CameOf) → AreClocksOf came self.now → result ≡ came_to came id }
+    {
+        match self.came.get(&id) {
+            Some(came) => came.turn,
             None => 0,
         }
     }

@@ -114,12 +114,12 @@ pub(crate) struct TaskShare {
     pub(crate) work: TaskWork,
 }
 
-/// A request that was served, where it came within a window.
+/// A request that was served, where it came to a turn within a window.
 fn service_within(clocks: &ArrivalClocks, window: Window, service: Service) -> Option<Service>
     ensures { (came : List Came) → AreClocksOf came clocks.now →
         result ≡ if_within window came service.id service }
 {
-    if is_within(window, clocks.of_request(service.id)) {
+    if is_within(window, clocks.turn_of(service.id)) {
         Some(service)
     } else {
         None
@@ -156,12 +156,12 @@ fn put_request(requests: &mut Vec<Request>, request: Option<Request>) -> Result<
     }
 }
 
-/// A request that was left, where it came within a window.
+/// A request that was left, where it came to a turn within a window.
 fn request_within(clocks: &ArrivalClocks, window: Window, request: Request) -> Option<Request>
     ensures { (came : List Came) → AreClocksOf came clocks.now →
         result ≡ if_within window came request.id request }
 {
-    if is_within(window, clocks.of_request(request.id)) {
+    if is_within(window, clocks.turn_of(request.id)) {
         Some(request)
     } else {
         None

@@ -2,7 +2,6 @@
 use Rattle.std.specs.Prelude.{◌≡◌, ◌+◌, ◌%◌, ◌^◌, ℕ, nat_lt, Bool, false, List, [], ◌∷◌, map}
 use Rattle.std.specs.Prelude.{Option, Some, None, Ok, if◌then◌else◌}
 use Rattle.std.specs.List.{flat_map, list_any, range_with_len}
-use Rattle.cal_came.specs.Windows.{window_of}
 use Rattle.cal_came.specs.declared.came.Came.{Came}
 use Rattle.cal_came.specs.declared.counted.Counted.{Counted}
 use Rattle.cal_input.specs.declared.fault.RunFault.TheVariants.{Memory, Write}
@@ -31,7 +30,6 @@ use Rattle.cal_tables.specs.Varied.{AreVaried}
 use Rattle.cal_tables.specs.declared.comparing.fault.ComparisonFault.{ComparisonFault}
 use Rattle.cal_tables.specs.declared.comparing.fault.ComparisonFault.TheVariants as faults
 use Rattle.cal_trace.specs.declared.arrivals.Arrival.{Arrival}
-use Rattle.cal_trace.specs.declared.arrivals.Arrivals.{Arrivals}
 use Rattle.cal_sweep.specs.declared.runs.Point.{Point}
 use Rattle.cal_sweep.specs.declared.runs.SweptLoad.{SweptLoad}
 use Rattle.cal_sweep.specs.declared.runs.SweptRun.{SweptRun}
@@ -39,9 +37,9 @@ use Rattle.cal_sweep.specs.declared.words.Asked.{Asked}
 use Rattle.cal_sweep.specs.Words.{AreLoadedWith, greatest_of}
 
 -- requests count from when they came, and those are ranked that came within the turns asked for
-abbrev pub counted_of : Asked → Arrivals → List Came → Counted
-counted_of asked arrivals came =
-    record { came = came; window = window_of arrivals.turns asked.first asked.after }
+abbrev pub counted_of : Asked → List Came → Counted
+counted_of asked came =
+    record { came = came; window = record { from = asked.first; to = Some asked.after } }
 
 -- the first request that was left out came before this turn, if one was
 abbrev pub is_before : ℕ → Option ℕ → Bool
@@ -75,7 +73,7 @@ pub record IsRunOn (policy : Policy) (asked : Asked) (table : Table) (made : Mad
   pub counts : run.counts ≡ made.counts
   pub cut : run.is_cut ≡ is_cut_before asked.after made.counts.items
   pub measured : IsCountedBy (plan_for made.arrivals.requests asked.plan) policy table made.arrivals
-      (counted_of asked made.arrivals made.came.items) run.numbers
+      (counted_of asked made.came.items) run.numbers
 
 -- a run by the policy of this table on arrivals of what was drawn for the loads of a plan: as many for
 -- each task as the counts of the run say, by the timing asked for

@@ -22,7 +22,7 @@ use crate::job::SweepJob;
 use crate::naming::are_counted;
 use crate::watch::Watch;
 use crate::words::Asked;
-use cal_came::{Came, Counted, window_of};
+use cal_came::{Came, Counted, Window};
 use cal_load::{
     ArrivalPlan, Count, DrawnLoad, Made, Measure, are_held, are_known, dealt_arrivals, drawn_loads,
 };
@@ -33,7 +33,7 @@ use cal_tables::{
     ComparisonFault, Reason, RunNumbers, Variation, counted_by, policy_at, table_at, table_part,
     varied_tables,
 };
-use cal_trace::{Arrival, Arrivals};
+use cal_trace::Arrival;
 use rayon::prelude::*;
 use std::alloc::{AllocError, Global};
 use std::slice;
@@ -79,14 +79,16 @@ pub struct Sweep {
     pub loads: Vec<SweptLoad>,
 }
 
-/// When the requests of arrivals came that were made, and the window of what is asked for.
-fn counted_of(asked: &Asked<'_>, arrivals: &Arrivals, came: Vec<Came>) -> Counted
-    ensures { result ≡ counted_of asked.now arrivals.now came.items }
+/// How the requests came that were made, and the window of what is asked for.
+fn counted_of(asked: &Asked<'_>, came: Vec<Came>) -> Counted
+    ensures { result ≡ counted_of asked.now came.items }
 {
-    let turns = arrivals.turns.as_slice();
     Counted {
         came: Listed::new(came),
-        window: window_of(turns, asked.first, asked.after),
+        window: Window {
+            from: asked.first,
+            to: Some(asked.after),
+        },
     }
 }
 
@@ -158,7 +160,7 @@ fn run_on(
     } = made;
     let asked = job.asked;
     let is_cut = is_cut_before(asked.after, counts.as_slice());
-    let counted = counted_of(asked, &arrivals, came);
+    let counted = counted_of(asked, came);
     let plan = plan_for(asked.plan, arrivals.requests.as_slice());
     match counted_by(job.alloc, table, policy, plan, arrivals, &counted) {
         Ok(numbers) => Ok(SweptRun {

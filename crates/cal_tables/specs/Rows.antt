@@ -1,5 +1,5 @@
 -- Which number stands in which row.
-use Rattle.std.specs.Prelude.{ℕ, ◌-◌, ◌^◌, min, nat_lt, Bool, true, false}
+use Rattle.std.specs.Prelude.{ℕ, ◌-◌, ◌^◌, ◌==◌, ◌||◌, min, nat_lt, Bool, true, false}
 use Rattle.std.specs.Prelude.{Option, Some, None, if◌then◌else◌}
 use Rattle.cal_measure.specs.Shares.{thousandths_of}
 use Rattle.cal_measure.specs.declared.cores.MachineCores.{MachineCores}
@@ -26,10 +26,23 @@ exact n = record { number = n; is_bound = false; few = None }
 abbrev pub known : Figure → Option ℕ
 known figure = if figure.is_bound then None else Some figure.number
 
+-- a figure of a number that ends at the greatest: that stands for itself and for all above it, and is
+-- a bound
+abbrev pub ended : Figure → Figure
+ended figure = record {
+  number = figure.number;
+  is_bound = figure.is_bound || figure.number == 2 ^ 64 - 1;
+  few = figure.few;
+}
+
+-- a number up to the greatest
+abbrev pub up_to_greatest : ℕ → Figure
+up_to_greatest n = ended (exact (min n (2 ^ 64 - 1)))
+
 -- some thousandths, up to the greatest number
 abbrev pub share_in : Option ℕ → Option Figure
 share_in None = None
-share_in (Some n) = Some (exact (min n (2 ^ 64 - 1)))
+share_in (Some n) = Some (up_to_greatest n)
 
 -- a part of a whole
 abbrev pub share_of : ℕ → ℕ → Option Figure
@@ -67,11 +80,19 @@ figure_in few (Some (More ticks)) = Some (record { number = ticks; is_bound = tr
 abbrev pub ranked_figure : Spread → Rank → Option Figure
 ranked_figure times rank = figure_in (few_for rank times.count) (time_in times rank)
 
--- a mean, which is a bound where some are pending
+-- a slowdown at a rank, as a figure: the greatest number is a bound
+abbrev pub ended_figure : Option Figure → Option Figure
+ended_figure None = None
+ended_figure (Some figure) = Some (ended figure)
+
+-- a mean, which is a bound where some are pending, too
 abbrev pub bound_if : Bool → Option Figure → Option Figure
 bound_if pending None = None
-bound_if pending (Some figure) =
-    Some (record { number = figure.number; is_bound = pending; few = figure.few })
+bound_if pending (Some figure) = Some (record {
+  number = figure.number;
+  is_bound = pending || figure.is_bound;
+  few = figure.few;
+})
 
 -- how long the oldest pending request has waited
 abbrev pub oldest_in : Option Time → Option Figure
@@ -91,7 +112,8 @@ figure_of requests had turns lines.MeanResponse =
     bound_if (nat_lt 0 requests.so_far.count) (share_of requests.together requests.response.count)
 figure_of requests had turns (lines.Wait rank) = ranked_figure requests.wait rank
 figure_of requests had turns (lines.Service rank) = ranked_figure requests.service rank
-figure_of requests had turns (lines.Slowdown rank) = ranked_figure requests.slowdown rank
+figure_of requests had turns (lines.Slowdown rank) =
+    ended_figure (ranked_figure requests.slowdown rank)
 figure_of requests had turns lines.OldestPending = oldest_in requests.so_far.greatest
 figure_of requests had turns lines.Thefts = Some (exact requests.work.thefts)
 figure_of requests had turns lines.Suspensions = Some (exact requests.work.suspensions)
@@ -124,5 +146,5 @@ machine_figure_of numbers whole turns machine.Free = share_of numbers.free whole
 machine_figure_of numbers whole turns machine.OverLimit =
     share_of numbers.over_limit numbers.lasted
 machine_figure_of numbers whole turns machine.ClockOfPasses =
-    Some (exact (min numbers.lasted (2 ^ 64 - 1)))
+    Some (up_to_greatest numbers.lasted)
 machine_figure_of numbers whole turns machine.ClockOfRequests = Some (exact turns)

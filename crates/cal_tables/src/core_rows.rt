@@ -1,9 +1,9 @@
 //! The numbers of a run's cores, row by row.
 
-ghost use Rattle.std.specs.Prelude.{◌≡◌, ◌≤◌, ◌-◌, ◌*◌, ◌^◌, length, min, None, slice_get, Some};
+ghost use Rattle.std.specs.Prelude.{◌≡◌, ◌≤◌, ◌*◌, ◌^◌, length, None, slice_get, Some};
 ghost use Rattle.cal_measure.specs.Cores.{most_core_time};
 ghost use Rattle.cal_measure.specs.declared.cores.TaskCores.{TaskCores as OfTask};
-ghost use Rattle.cal_tables.specs.Rows.{core_figure_of, exact, machine_figure_of};
+ghost use Rattle.cal_tables.specs.Rows.{core_figure_of, machine_figure_of, up_to_greatest};
 
 use crate::figures::{Figure, Unit, count, share};
 use crate::labels::Labels;
@@ -168,9 +168,9 @@ pub fn core_figure(cores: &[TaskCores], lasted: u128, task: usize, line: CoreLin
 
 /// Some clock ticks, up to the greatest number, as a figure.
 fn ticks(ticks: u128) -> Option<Figure>
-    ensures { result ≡ Some (exact (min ticks (2 ^ 64 - 1))) }
+    ensures { result ≡ Some (up_to_greatest ticks) }
 {
-    Some(Figure::of(ticks.min(u64::MAX as u128) as u64))
+    Some(Figure::of(ticks.min(u64::MAX as u128) as u64).ended())
 }
 
 /// What a row says of a machine with these numbers and so much core time in all, in a run whose

@@ -1,8 +1,8 @@
 //! The figures of rows, and how they are written.
 
 ghost use Rattle.std.specs.Prelude.{◌≡◌, ◌≤◌, ◌^◌, Some};
-ghost use Rattle.cal_tables.specs.Rows.{exact, few_for, if_below, known, ranked_figure, share_of};
-ghost use Rattle.cal_tables.specs.Rows.{time_in};
+ghost use Rattle.cal_tables.specs.Rows.{ended, exact, few_for, if_below, known, ranked_figure};
+ghost use Rattle.cal_tables.specs.Rows.{share_of, time_in};
 
 use crate::labels::Labels;
 use crate::sheet::NumberForm;
@@ -23,7 +23,8 @@ pub enum Unit {
 pub struct Figure {
     /// The number.
     pub number: u64,
-    /// Whether there is more than that: a rank falls on a request that is pending.
+    /// Whether there may be more than that: a rank falls on a request that is pending, or the number
+    /// ended at the greatest.
     pub is_bound: bool,
     /// Of how many times a rank is, where it should be of more.
     pub few: Option<usize>,
@@ -58,6 +59,18 @@ impl Figure {
         }
     }
 
+    /// The same of a number that ends at the greatest: that stands for itself and for all above it,
+    /// and is a bound.
+    pub fn ended(self) -> Figure
+        ensures { result ≡ ended self }
+    {
+        Figure {
+            number: self.number,
+            is_bound: self.is_bound || self.number == u64::MAX,
+            few: self.few,
+        }
+    }
+
     /// The number, where it is no bound.
     pub fn known(self) -> Option<u64>
         ensures { result ≡ known self }
@@ -77,13 +90,13 @@ pub fn count(number: usize) -> Option<Figure>
     Some(Figure::of(number as u64))
 }
 
-/// How many thousandths of a whole a part is, where there is a whole.
+/// How many thousandths of a whole a part is, up to the greatest number, where there is a whole.
 pub fn share(part: u128, whole: u128) -> Option<Figure>
     ensures { whole ≤ 2 ^ 100 → result ≡ share_of part whole }
 {
     match thousandths(part, whole) {
         None => None,
-        Some(share) => Some(Figure::of(share)),
+        Some(share) => Some(Figure::of(share).ended()),
     }
 }
 

@@ -3,7 +3,7 @@
 ghost use Rattle.std.specs.Prelude.{◌≡◌, ◌≤◌, ◌+◌, ◌^◌, length, None, slice_get, Some};
 ghost use Rattle.cal_measure.specs.declared.cores.TaskCores.{TaskCores as OfCores};
 ghost use Rattle.cal_measure.specs.declared.requests.TaskRequests.{TaskRequests as OfRequests};
-ghost use Rattle.cal_tables.specs.Rows.{bound_if, figure_of, oldest_in};
+ghost use Rattle.cal_tables.specs.Rows.{bound_if, ended_figure, figure_of, oldest_in};
 
 use crate::core_rows::{
     CORE_LINES, CoreLine, MACHINE_LINES, MachineLine, core_figure, core_label, core_unit,
@@ -125,7 +125,17 @@ pub fn unit(line: Line) -> Unit {
     }
 }
 
-/// A mean, which is a bound where some are pending.
+/// A slowdown at a rank, as a figure: the greatest number is a bound.
+fn ended_figure(slowdown: Option<Figure>) -> Option<Figure>
+    ensures { result ≡ ended_figure slowdown }
+{
+    match slowdown {
+        None => None,
+        Some(figure) => Some(figure.ended()),
+    }
+}
+
+/// A mean, which is a bound where some are pending, too.
 fn bound_if(pending: bool, mean: Option<Figure>) -> Option<Figure>
     ensures { result ≡ bound_if pending mean }
 {
@@ -133,7 +143,7 @@ fn bound_if(pending: bool, mean: Option<Figure>) -> Option<Figure>
         None => None,
         Some(figure) => Some(Figure {
             number: figure.number,
-            is_bound: pending,
+            is_bound: pending || figure.is_bound,
             few: figure.few,
         }),
     }
@@ -167,7 +177,7 @@ fn figure_of(requests: &TaskRequests, had: u128, turns: u64, line: Line) -> Opti
         }
         Line::Wait(rank) => ranked_figure(&requests.wait, rank),
         Line::Service(rank) => ranked_figure(&requests.service, rank),
-        Line::Slowdown(rank) => ranked_figure(&requests.slowdown, rank),
+        Line::Slowdown(rank) => ended_figure(ranked_figure(&requests.slowdown, rank)),
         Line::OldestPending => oldest_in(requests.so_far.greatest),
         Line::Thefts => count(requests.work.thefts),
         Line::Suspensions => count(requests.work.suspensions),

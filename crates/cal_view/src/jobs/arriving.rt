@@ -114,7 +114,7 @@ impl<'a> Arriving<'a> {
             Source::Log(log) => self.made_of_log(rt, &config, log)?,
         };
         let came = match self.asked.came {
-            Some(_) => Some(came_text(self.alloc, &made, self.asked.load.timing.ticks)?),
+            Some(_) => Some(came_text(self.alloc, &made)?),
             None => None,
         };
         let answer = self.answer_of(&config, table, made)?;

@@ -1,6 +1,6 @@
 use Rattle.std.proofs.Common.{◌≡◌, ◌≤◌, ℕ, Some, length, map, slice_get, take}
 use Rattle.cal_came.specs.declared.came.Came.{Came}
-use Rattle.cal_load.specs.Clocks.{turn_clock}
+use Rattle.cal_load.specs.Clocks.{clock_to}
 use Rattle.cal_trace.specs.declared.arrivals.Arrival.{Arrival}
 use Rattle.cal_load.proofs.comings.came_of.Given as goal
 
@@ -8,5 +8,6 @@ abbrev pub invariant-loop-place : goal.invariant-loop-place
 invariant-loop-place l = record {
   many : length l.came.items ≡ l.place;
   ids : map (λ one. one.id) l.came.items ≡ map (λ arrival. arrival.request.id) (take l.place l.requests);
-  before : (i : ℕ) (one : Came) (arrival : Arrival) → slice_get l.came.items i ≡ Some one → slice_get l.requests i ≡ Some arrival → one.clock ≤ turn_clock l.timing arrival.turn;
+  turns : (i : ℕ) (one : Came) (arrival : Arrival) → slice_get l.came.items i ≡ Some one → slice_get l.requests i ≡ Some arrival → one.turn ≤ arrival.turn;
+  clocks : (i : ℕ) (one : Came) → slice_get l.came.items i ≡ Some one → one.clock ≡ clock_to l.timing one.turn;
 }

@@ -1,20 +1,20 @@
 //! The file for when requests came.
 
 use cal_input::RunFault;
-use cal_load::{Made, turn_of};
+use cal_load::Made;
 use cal_machine::Listed;
 use cal_trace::{Coming, Comings, LeftOut, write_comings};
 use std::alloc::{AllocError, Global};
 
 /// To which turn each request came that was made, and how many are left out. Fails only when out of
 /// memory.
-fn comings_of(alloc: Global, made: &Made, ticks: u64) -> Result<Comings, AllocError> {
+fn comings_of(alloc: Global, made: &Made) -> Result<Comings, AllocError> {
     let mut requests = Vec::new(alloc);
     let arrivals = made.arrivals.requests.as_slice();
     for (arrival, came) in arrivals.iter().zip(made.came.as_slice()) {
         requests.push(Coming {
             arrival: *arrival,
-            turn: turn_of(ticks, *came),
+            turn: came.turn,
         })?;
     }
     let mut left_out = Vec::new(alloc);
@@ -33,8 +33,8 @@ fn comings_of(alloc: Global, made: &Made, ticks: u64) -> Result<Comings, AllocEr
 }
 
 /// The file of the comings of what was made. The fault is `Memory`.
-pub fn came_text(alloc: Global, made: &Made, ticks: u64) -> Result<Vec<u8>, RunFault> {
-    let comings = comings_of(alloc, made, ticks)?;
+pub fn came_text(alloc: Global, made: &Made) -> Result<Vec<u8>, RunFault> {
+    let comings = comings_of(alloc, made)?;
     let mut text = Vec::new(alloc);
     match write_comings(&comings, &mut text) {
         Ok(()) => Ok(text),

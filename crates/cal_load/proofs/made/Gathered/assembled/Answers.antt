@@ -4,7 +4,7 @@ use Rattle.cal_load.specs.Clocks.{ArePassesOf, AreTurnsOf}
 use Rattle.cal_machine.specs.Tasks.{threads_in}
 use Rattle.cal_trace.specs.declared.arrivals.Arrival.{Arrival}
 use Rattle.cal_trace.specs.declared.arrivals.GivenPass.{GivenPass}
-use Rattle.cal_load.proofs.Assembled.{assembled_fits, assembled_spelled, came_before}
+use Rattle.cal_load.proofs.Assembled.{assembled_fits, assembled_spelled, came_at_turn, came_before}
 use Rattle.cal_load.proofs.made.Gathered.assembled.Goals as goal
 
 pub returns-clause-whole : goal.returns-clause-whole
@@ -21,7 +21,11 @@ returns-clause-whole c = λ table last made.
       came = record {
         ids = c.in_ok-came.ensures.ids ∙ ap (λ (l : List Arrival). map (λ (arrival : Arrival). arrival.request.id) l) shown;
         before = λ i one arrival e f.
-            came_before table timing last c.new.result c.new-2.result c.new-3.result arrival i one.clock turns built f
-            (c.in_ok-came.ensures.before i one arrival e (subst (λ (l : List Arrival). slice_get l i ≡ Some arrival) (sym shown) f));
+            came_before table timing last c.new-2.result c.new-3.result arrival i one turns built f
+            (c.in_ok-came.ensures.turns i one arrival e (subst (λ (l : List Arrival). slice_get l i ≡ Some arrival) (sym shown) f)) (c.in_ok-came.ensures.clocks i one e);
+        turns = λ i one arrival e f. c.in_ok-came.ensures.turns i one arrival e (subst (λ (l : List Arrival). slice_get l i ≡ Some arrival) (sym shown) f);
+        clocks = λ i one arrival e f.
+            came_at_turn table timing last c.new-2.result c.new-3.result arrival i one turns built f
+            (c.in_ok-came.ensures.turns i one arrival e (subst (λ (l : List Arrival). slice_get l i ≡ Some arrival) (sym shown) f)) (c.in_ok-came.ensures.clocks i one e);
       };
     }
