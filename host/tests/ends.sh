@@ -154,7 +154,7 @@ orphans() {
     what="a runtime that asks for the next scheduler, which does not answer"
     begin_endless seek
     wait_for 20 is_unpinned "$runtime"; timed $? "$what: it is still pinned"
-    rm -f "$CALADAN_FOLDER/$name/"*
+    rm -f "$CALADAN_FOLDER/$name/"* "$build/silent"
     "$bin/impostor" "$name" silent 1 > "$build/silent" 2>&1 &
     wait_for 20 grep -q silent "$build/silent"; timed $? "$what: it does not ask"
     sleep 0.5

@@ -108,10 +108,11 @@ other_compiler() { # which refuses what is gcc's alone
 announced() { # whoever started it is told when processes can attach
     what="a scheduler that tells when it is ready"
     command -v python3 > /dev/null || { skip "$what, for want of python3"; return; }
+    rm -f "$build/notify" "$build/ready"
     python3 -c 'import socket, sys
 it = socket.socket(socket.AF_UNIX, socket.SOCK_DGRAM)
 it.bind(sys.argv[1])
-it.settimeout(30)
+it.settimeout(300)
 print(it.recv(64).decode())' "$build/notify" > "$build/ready" 2>&1 &
     wait_for 20 test -S "$build/notify"
     NOTIFY_SOCKET=$build/notify start -g 100000

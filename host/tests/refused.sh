@@ -42,6 +42,7 @@ folders() { # the folder of sockets is the user's, and nobody else's
     local base=$CALADAN_FOLDER
     name=folder$$
     export CALADAN_FOLDER
+    rm -rf "$build/open" "$build/closed" "$build/link"
     mkdir "$build/open" "$build/closed" && chmod 755 "$build/open" && chmod 700 "$build/closed" && ln -s closed "$build/link"
     for CALADAN_FOLDER in "$build/open" "$build/link"; do
         refuses "$CALADAN_FOLDER: " $(daemon "$managed")
