@@ -24,8 +24,9 @@ start_as() { # start_as NAME OPTION..
     timeout -k 5 $life "${wrap[@]}" "$bin/caladand" -n "$name" -t "$table" -c "$managed" "${own[@]}" "$@" > "$build/said" 2>&1 &
     scheduler=$!
     running+=($scheduler)
-    wait_for 20 is_there "$name"
+    wait_for 20 has_begun
 }
+has_begun() { is_there "$name" || is_gone $scheduler; } # or it has ended
 # can_deny WHAT: the machine lets a process be refused something, as host/tests/deny.c does it; else the test is not run.
 can_deny() { "$bin/deny" "$1" true 2> /dev/null && return; skip "$what, for want of seccomp"; return 1; }
 begin() { # begin OPTION..: a scheduler that records

@@ -121,7 +121,7 @@ punched() { # memory that is taken out of a segment would be fetched again by ea
     what="a process that would punch its segment away"
     begin -k 2000 -g 20000
     slower
-    go $life "$bin/misbehave" "$name" 1 $((1 + slow)) punches
+    go $life "$bin/misbehave" "$name" 1 $((2 + slow / 4)) punches
     lc -s 1 > "$build/process.honest" 2>&1; timed $? "$what: the honest one: $(cat "$build/process.honest")"
     wait $last; timed $? "$what: it could, or was killed: $(cat "$build/said")"
     works

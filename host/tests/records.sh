@@ -32,7 +32,7 @@ start_limited() {
     (ulimit -f 300; exec timeout -k 5 $life "$bin/caladand" -n "$name" -t "$table" -c "$managed" "${own[@]}" "$@") > "$build/said" 2>&1 &
     scheduler=$!
     running+=($scheduler)
-    wait_for 20 is_there "$name"
+    wait_for 20 has_begun
 }
 
 set_back() { # the wall clock goes back by an hour, and the record is written on

@@ -65,7 +65,7 @@ bandwidth() { # the best-effort task shows misses, and the table's limit is low
     what="a limit of bandwidth"
     sed 's/^bandwidth_limit.*/bandwidth_limit = 100/' "$top/host/tables/mix.toml" > "$build/narrow.toml"
     table=$build/narrow.toml
-    begin -k 2000 -g 100000 -w 1000000 -b 2000000
+    begin -k 2000 -g 100000 -w 1000000 -b 1000000
     go $life "$bin/load" be -n "$name" -u 1 -k 200 -s $life -b
     wait_for 20 child_of $last
     lc -s 1 > "$build/process.honest" 2>&1; timed $? "$what: the other one: $(cat "$build/process.honest")"

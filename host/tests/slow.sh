@@ -96,7 +96,7 @@ unread_lines() { # nobody reads standard error, and it is full: a process that d
     timeout -k 5 $life "$bin/caladand" -n "$name" -t "$table" -c "$managed" "${own[@]}" -k 200 -g 100000 > "$build/said" 2>&8 &
     scheduler=$!
     running+=($scheduler)
-    wait_for 20 is_there "$name"
+    wait_for 20 has_begun
     go $life "$bin/misbehave" "$name" 1 $life deaf
     deaf=$last
     wait_for 20 child_of $deaf
