@@ -21,7 +21,7 @@ start() { # start OPTION..: a scheduler; ${wrap[@]} stands before its words, if 
 start_as() { # start_as NAME OPTION..
     name=$1
     shift
-    timeout -k 5 $life "${wrap[@]}" "$bin/caladand" -n "$name" -t "$table" -c "$managed" "${own[@]}" "$@" > "$build/said" 2>&1 &
+    timeout -k 100 $life "${wrap[@]}" "$bin/caladand" -n "$name" -t "$table" -c "$managed" "${own[@]}" "$@" > "$build/said" 2>&1 &
     scheduler=$!
     running+=($scheduler)
     wait_for 20 has_begun
@@ -37,7 +37,7 @@ begin() { # begin OPTION..: a scheduler that records
 }
 go() { # go SECONDS PROGRAM WORD..: a process of the run, in the background; its number is $last
     processes=$((${processes-0} + 1)) # here, since what is in the background counts for itself alone
-    timeout -k 5 "$1" "${@:2}" > "$build/process.$processes" 2>&1 &
+    timeout -k 100 "$1" "${@:2}" > "$build/process.$processes" 2>&1 &
     last=$!
     running+=($last)
 }
@@ -74,12 +74,16 @@ all_end() { # the processes of the test end by themselves
 }
 is_gone() { ! kill -0 "$1" 2> /dev/null; }
 stop() { # the scheduler ends when it is told to, and nothing of it is left; so do the processes that are named
+    local judge=note status
     kill -TERM $scheduler
     wait $scheduler
-    note $? "$what: the scheduler's status; $(tail -n 5 "$build/said")"
+    status=$?
+    case $status in 124 | 137) judge=timed ;; esac # timeout has ended it
+    $judge $status "$what: the scheduler's status is $status; $(tail -n 5 "$build/said")"
     [ $# = 0 ] || kill -TERM "$@" 2> /dev/null
     all_end
-    [ ! -e "$CALADAN_FOLDER/$name" ]; note $? "$what: the scheduler's folder is still there"
+    [ ! -e "$CALADAN_FOLDER/$name" ]; $judge $? "$what: the scheduler's folder is still there"
+    rm -rf "${CALADAN_FOLDER:?}/$name"
     no_reports
 } 2> /dev/null
 are_legal() { # each piece of the record is whole and legal

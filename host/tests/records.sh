@@ -29,7 +29,7 @@ full_disk() { # it ends the record, and not the run
 }
 start_limited() {
     name=check$$-limited
-    (ulimit -f 300; exec timeout -k 5 $life "$bin/caladand" -n "$name" -t "$table" -c "$managed" "${own[@]}" "$@") > "$build/said" 2>&1 &
+    (ulimit -f 300; exec timeout -k 100 $life "$bin/caladand" -n "$name" -t "$table" -c "$managed" "${own[@]}" "$@") > "$build/said" 2>&1 &
     scheduler=$!
     running+=($scheduler)
     wait_for 20 has_begun

@@ -93,7 +93,7 @@ unread_lines() { # nobody reads standard error, and it is full: a process that d
     mkfifo "$build/unread"
     exec 8<> "$build/unread"
     dd if=/dev/zero of="$build/unread" bs=4096 oflag=nonblock 2> /dev/null
-    timeout -k 5 $life "$bin/caladand" -n "$name" -t "$table" -c "$managed" "${own[@]}" -k 200 -g 100000 > "$build/said" 2>&8 &
+    timeout -k 100 $life "$bin/caladand" -n "$name" -t "$table" -c "$managed" "${own[@]}" -k 200 -g 100000 > "$build/said" 2>&8 &
     scheduler=$!
     running+=($scheduler)
     wait_for 20 has_begun

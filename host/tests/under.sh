@@ -21,6 +21,7 @@ are_idle() { # are_idle PID NUMBER: so many of its threads are pinned, and each 
 }
 
 stands_under() { # nobody waits for it, and no core is left by a word of its own
+    local judge=note
     what="a best-effort process that stands under, $main"
     rm -f "$counter"
     begin -k 2000 -g 20000 -u 1 "$@"
@@ -32,8 +33,9 @@ stands_under() { # nobody waits for it, and no core is left by a word of its own
     wait_for 20 counts gave_way_total 1; timed $? "$what: it gave no core way"
     wait_for 20 counts_on; timed $? "$what: it does not go on"
     end $last
+    has_pieces 1 || judge=timed # what is not there is not judged otherwise
     grep -qx "# Task 1 stands under." "$record/table.toml" && is_legal "$record/table.toml" "$record/piece-000001.history"
-    note $? "$what: the record does not say what it means, or not legally"
+    $judge $? "$what: the record does not say what it means, or not legally"
     exactly 0 killed
     [ $# -gt 0 ] || exactly 0 "taken off" # a mover that comes late leaves no other way
 }
