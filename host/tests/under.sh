@@ -70,7 +70,7 @@ deaf_under() { # no latency-critical thread waits for one that does not hear
     serves 1
     within "$build/process.lc" 1500
     renewed
-    [ "$(metric killed_total)" = 0 ]; note $? "$what: it was killed"
+    ! counts killed_total 1; note $? "$what: it was killed"
     kill -9 "$deaf"
     stop
     above 1 "gave way"
@@ -107,8 +107,8 @@ frozen() { # nor does one in a frozen group, and it ends only when that is thawe
     { [ -d /sys/fs/cgroup/freezer ] && mkdir "$group"; } 2> /dev/null || { skip "$what, for want of rights, or of its folder"; return; }
     start -k 500 -g 20000
     go $life sh -c 'echo 0 > "$0/cgroup.procs" && exec "$@"' "$group" "$bin/load" be -n "$name" -u 1 -k 200 -s $life
-    local best=$last
-    wait_for 20 child_of $best
+    local best=$last frozen=none
+    wait_for 20 child_of $best && frozen=$child
     wait_for 20 counts 'actions_total{kind="grant"}' 2; timed $? "$what: it was granted no cores"
     echo FROZEN > "$group/freezer.state"
     go $life "$bin/load" lc -n "$name" -u 0 -k 200 -q 2000 -s $life
@@ -117,8 +117,10 @@ frozen() { # nor does one in a frozen group, and it ends only when that is thawe
     wait_for 10 counts 'actions_total{kind="grant"}' 3; timed $? "$what: the other one is granted nothing"
     kill -TERM $last
     echo THAWED > "$group/freezer.state"
+    wait_for 20 is_gone "$frozen"; timed $? "$what: it does not end when it is thawed"
+    kill -9 "$frozen"
     wait $best
-    [ $? = 137 ]; note $? "$what: it was not killed when it was thawed"
+    [ $? = 137 ]; timed $? "$what: it was not killed when it was thawed"
     stop
     rmdir "$group"
 } 2> /dev/null
