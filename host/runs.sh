@@ -41,14 +41,29 @@ leave_memory() { [ -z "$in_memory" ] || rm -rf "$in_memory"; }
 # is_there NAME: a scheduler of that name listens, or was killed.
 is_there() { [ -S "$CALADAN_FOLDER/$1/task-0" ]; }
 
-# wait_for SECONDS COMMAND..: until it succeeds, or so long.
+# slower: sets `slow`, how many times longer a wait may be than on a quiet machine, 10 at most: by how many want each
+# processor.
+processors=$(getconf _NPROCESSORS_ONLN)
+slower() {
+    local load
+    read -r load _ < /proc/loadavg
+    slow=$((1 + ${load%.*} / processors))
+    [ "$slow" -le "${slowest-10}" ] || slow=${slowest-10}
+}
+
+# wait_for SECONDS COMMAND..: until it succeeds, or so long on a quiet machine; wait_at_most: or so long on any.
 wait_for() {
-    local tries=$(($1 * 50))
+    local from=$SECONDS most=$1 slow
     shift
     until "$@"; do
-        [ $((tries -= 1)) -gt 0 ] || return 1
+        slower
+        [ $((SECONDS - from)) -le $((most * slow)) ] || return 1
         sleep 0.02
     done
+}
+wait_at_most() {
+    local slowest=1
+    wait_for "$@"
 }
 
 # has_threads PID: it has attached, and has its kernel threads.

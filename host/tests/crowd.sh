@@ -14,14 +14,14 @@ crowd() { # crowd SECONDS
     ill 3 deaf last punches noise & loops+=($!)
     ill 4 foreign closes wordy deaf & loops+=($!)
     ill 5 visits noise half foreign wordy & loops+=($!)
-    lc -q 500 -s $((seconds - 3)) > "$build/process.lc" 2>&1; note $? "$what: the latency-critical one: $(cat "$build/process.lc")"
-    wait $honest; note $? "$what: the best-effort one ended with another status: $(grep 'of task [01]' "$build/said")"
+    lc -q 500 -s $((seconds - 3)) > "$build/process.lc" 2>&1; timed $? "$what: the latency-critical one: $(cat "$build/process.lc")"
+    wait $honest; timed $? "$what: the best-effort one ended with another status: $(grep 'of task [01]' "$build/said")"
     touch "$build/enough"
     wait "${loops[@]}"
     served "$build/process.lc" 10
-    [ "$(counter)" -gt 0 ]; note $? "$what: the best-effort one did nothing"
+    [ "$(counter)" -gt 0 ]; timed $? "$what: the best-effort one did nothing"
     end
-    ! grep -qE "of task [01] (is|cannot)" "$build/said"; note $? "$what: $(grep -E 'of task [01] ' "$build/said")"
+    ! grep -qE "of task [01] (is|cannot)" "$build/said"; timed $? "$what: $(grep -E 'of task [01] ' "$build/said")"
     above 1 killed
     table=$top/host/tables/mix.toml
 }

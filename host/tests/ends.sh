@@ -6,9 +6,9 @@ stand_still() {
     what="honest processes, where the machine stands still"
     start -k 1000 -g 20000
     only_child_of $scheduler && all=$child
-    go 60 "$bin/load" be -n "$name" -u 1 -k 30000 -s 50 -h
+    go $life "$bin/load" be -n "$name" -u 1 -k 30000 -s $life -h
     wait_for 20 child_of $last; be=$last all="$all $child"
-    go 60 "$bin/load" lc -n "$name" -u 0 -k 200 -q 300 -s 50
+    go $life "$bin/load" lc -n "$name" -u 0 -k 200 -q 300 -s $life
     wait_for 20 child_of $last; all="$all $child"
     for ((i = 0; i < 4; i++)); do
         sleep "0.$((RANDOM % 40 + 10))"
@@ -18,7 +18,7 @@ stand_still() {
     done
     sleep 0.2
     for each in $all; do kill -0 "$each" 2> /dev/null || status=1; done
-    note $status "$what: one ended"
+    timed $status "$what: one ended"
     stop $last $be
     exactly 0 killed
     above 1 revoke
@@ -30,17 +30,18 @@ predecessor() {
     what="the successor of a deaf process"
     start -k 2000 -g 20000
     only_child_of $scheduler && daemon=$child
-    go 20 "$bin/misbehave" "$name" 1 15 deaf
+    go $life "$bin/misbehave" "$name" 1 $life deaf
     wait_for 20 child_of $last && deaf=$child
-    go 20 "$bin/load" lc -n "$name" -u 0 -k 200 -q 2000 -s 15
+    go $life "$bin/load" lc -n "$name" -u 0 -k 200 -q 2000 -s $life
     honest=$last
-    wait_for 20 counts 'actions_total{kind="revoke"}' 1; note $? "$what: nothing was revoked"
+    wait_for 20 counts 'actions_total{kind="revoke"}' 1; timed $? "$what: nothing was revoked"
     kill -STOP "$daemon"
     kill -9 "$deaf"
-    go 20 "$bin/load" be -n "$name" -u 1 -k 200 -s 1
+    go $life "$bin/load" be -n "$name" -u 1 -k 200 -s 1
+    wait_for 20 asks $last; timed $? "$what: it does not come"
     sleep 2.5
     kill -CONT "$daemon"
-    wait $last; note $? "$what: it ended with another status: $(grep killed "$build/said")"
+    wait $last; timed $? "$what: it ended with another status: $(grep killed "$build/said")"
     stop $honest
 } 2> /dev/null
 
@@ -50,23 +51,23 @@ unkillable() { # nobody can be killed: a piece ends without who does not leave, 
     wrap=("$bin/deny" kill)
     begin -k 500 -g 50000 -p 3000
     wrap=()
-    go 90 "$bin/misbehave" "$name" 1 80 deaf
+    go $life "$bin/misbehave" "$name" 1 $life deaf
     wait_for 20 child_of $last
     deaf=$last
-    go 90 "$bin/load" lc -n "$name" -u 0 -k 200 -q 2000 -s 80
-    wait_for 60 has_pieces 2; note $? "$what: no second piece ended: $(tail -n 3 "$build/said")"
-    wait_for 60 counts 'actions_total{kind="grant"}' 20; note $? "$what: the other one is granted nothing"
+    go $life "$bin/load" lc -n "$name" -u 0 -k 200 -q 2000 -s $life
+    wait_for 60 has_pieces 2; timed $? "$what: no second piece ended: $(tail -n 3 "$build/said")"
+    wait_for 60 counts 'actions_total{kind="grant"}' 20; timed $? "$what: the other one is granted nothing"
     says "of task 1 cannot be killed \(Operation not permitted\)"
     says "of task 1 is written off"
-    kill -0 $deaf 2> /dev/null; note $? "$what: it ended, and nothing was shown"
+    kill -0 $deaf 2> /dev/null; timed $? "$what: it ended, and nothing was shown"
     end $deaf $last
 }
 
 told_beside_deaf() { # told_beside_deaf MILLISECONDS: $daemon is told to end, beside one that does not leave in its patience
     start -k "$1" -g 50000
     only_child_of $scheduler && daemon=$child
-    go 60 "$bin/misbehave" "$name" 1 50 deaf
-    wait_for 20 counts 'actions_total{kind="grant"}' 1; note $? "$what: nothing was granted"
+    go $life "$bin/misbehave" "$name" 1 $life deaf
+    wait_for 20 counts 'actions_total{kind="grant"}' 1; timed $? "$what: nothing was granted"
     kill -TERM "$daemon"
     sleep 0.3
 }
@@ -77,23 +78,23 @@ told_twice() { # the second signal waits for nobody
     kill -TERM "$daemon"
     wait $scheduler; note $? "$what: its status"
     says "of task 1 is (written off|killed)" # killed, where both signals came as one
-    wait
+    all_end
     no_reports
 } 2> /dev/null
 
 late_guests() { # who comes while a piece ends is not let in: one after the other would keep it open
     what="a process that attaches while a piece ends"
     told_beside_deaf 1000
-    refuses "there is no scheduler of that name" "$bin/load" lc -n "$name" -u 0 -k 200
+    judge=timed refuses "there is no scheduler of that name" "$bin/load" lc -n "$name" -u 0 -k 200
     wait $scheduler; note $? "$what: its status"
     exactly 1 attached
-    wait
+    all_end
     no_reports
 } 2> /dev/null
 
 ends_of_pieces() { # see host/tests/ends_test.c
     what="the end of a piece"
-    timeout 60 "$bin/ends_test" > "$build/process.ends" 2>&1; note $? "$what: $(cat "$build/process.ends")"
+    timeout 600 "$bin/ends_test" > "$build/process.ends" 2>&1; note $? "$what: $(cat "$build/process.ends")"
 }
 
 hang_up() { # SIGHUP is SIGTERM: the piece is whole
@@ -108,12 +109,19 @@ hang_up() { # SIGHUP is SIGTERM: the piece is whole
 
 # ---- what runtimes do without a scheduler ----
 
-is_asleep() { # no thread of the process runs, twice, and its work stands meanwhile
+does_run() { # does_run PID: a thread of it runs, or waits for a processor, but for the first, which only looks on
+    local each
+    for each in "/proc/$1/task/"*/status; do
+        [ "$each" = "/proc/$1/task/$1/status" ] || ! grep -qs "^State:[[:space:]]*R" "$each" || return 0
+    done
+    return 1
+}
+is_asleep() { # none does, twice, and its work stands meanwhile
     local before
     before=$(counter)
-    ! grep -qs "^State:[[:space:]]*R" "/proc/$1/task/"*/status || return 1
+    ! does_run "$1" || return 1
     sleep 0.2
-    ! grep -qs "^State:[[:space:]]*R" "/proc/$1/task/"*/status && [ "$(counter)" = "$before" ]
+    ! does_run "$1" && [ "$(counter)" = "$before" ]
 }
 is_unpinned() { # no thread of the process is pinned
     local each
@@ -123,9 +131,9 @@ begin_endless() { # begin_endless WHAT: a best-effort process that outlives its 
     rm -f "$counter"
     start -k 1000 -g 20000
     only_child_of $scheduler && daemon=$child
-    go 60 "$bin/load" be -n "$name" -u 1 -k 200 -s 50 -c "$counter" -e "$1"
+    go $life "$bin/load" be -n "$name" -u 1 -k 200 -s $life -c "$counter" -e "$1"
     wait_for 20 child_of $last && runtime=$child
-    wait_for 20 counts_on 0; note $? "$what: it never worked"
+    wait_for 20 counts_on 0; timed $? "$what: it never worked"
     kill -9 "$daemon"
     wait $scheduler 2> /dev/null
 }
@@ -135,34 +143,32 @@ orphans() {
     local before
     what="a runtime that waits when its scheduler is killed"
     begin_endless wait
-    wait_for 20 is_asleep "$runtime"; note $? "$what: it runs on: $(grep -s State "/proc/$runtime/task/"*/status)"
-    is_unpinned "$runtime"; note $? "$what: it is still pinned"
+    wait_for 20 is_asleep "$runtime"; timed $? "$what: it runs on: $(grep -s State "/proc/$runtime/task/"*/status)"
+    wait_for 20 is_unpinned "$runtime"; timed $? "$what: it is still pinned"
     end_endless
     what="a runtime that runs when its scheduler is killed"
     begin_endless run
-    wait_for 20 is_unpinned "$runtime"; note $? "$what: it is still pinned"
-    wait_for 20 counts_on; note $? "$what: it does not work"
+    wait_for 20 is_unpinned "$runtime"; timed $? "$what: it is still pinned"
+    wait_for 20 counts_on; timed $? "$what: it does not work"
     end_endless
     what="a runtime that asks for the next scheduler, which does not answer"
     begin_endless seek
-    wait_for 20 is_unpinned "$runtime"; note $? "$what: it is still pinned"
-    rm -f "$CALADAN_FOLDER/$name/"*
+    wait_for 20 is_unpinned "$runtime"; timed $? "$what: it is still pinned"
+    rm -f "$CALADAN_FOLDER/$name/"* "$build/silent"
     "$bin/impostor" "$name" silent 1 > "$build/silent" 2>&1 &
-    wait_for 20 grep -q silent "$build/silent"; note $? "$what: it does not ask"
+    wait_for 20 grep -q silent "$build/silent"; timed $? "$what: it does not ask"
     sleep 0.5
-    before=$(counter)
-    sleep 2 # the silence lasts for eight
-    counts_on "$before"; note $? "$what: its threads stand still meanwhile"
+    before=$(counter) # the silence lasts for eight seconds
+    wait_at_most 4 counts_on "$before"; timed $? "$what: its threads stand still meanwhile"
     kill $! 2> /dev/null
     end_endless
     what="a runtime that attaches to the next scheduler"
     begin_endless again
-    wait_for 20 is_asleep "$runtime"; note $? "$what: it runs on without one"
+    wait_for 20 is_asleep "$runtime"; timed $? "$what: it runs on without one"
     start_as "$name" -k 2000 -g 20000
-    wait_for 20 counts attached_total 1; note $? "$what: it did not attach"
-    wait_for 20 counts_on; note $? "$what: it does not work: $(cat "$build/said")"
-    lc -s 1.5 > "$build/process.lc" 2>&1
-    served "$build/process.lc"
+    wait_for 20 counts attached_total 1; timed $? "$what: it did not attach"
+    wait_for 20 counts_on; timed $? "$what: it does not work: $(cat "$build/said")"
+    serves 1
     stop $last
     above 1 revoke
     exactly 0 killed

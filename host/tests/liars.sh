@@ -3,25 +3,26 @@
 bad() { # bad HOW STATUS WORDS NUMBER: an ill-behaved best-effort process beside an honest one, and an honest successor
     what="a process that is $1"
     begin -k 1000 -g 100000
-    go 20 "$bin/misbehave" "$name" 1 15 "$1"
+    go $life "$bin/misbehave" "$name" 1 $life "$1"
     wait_for 20 child_of $last
-    lc -s 1 > "$build/process.honest" 2>&1; note $? "$what: the honest one: $(cat "$build/process.honest")"
+    lc -s 1 > "$build/process.honest" 2>&1; timed $? "$what: the honest one: $(cat "$build/process.honest")"
     # The number that foreign hands over is that of its parent, which is $last.
     [ "$1" != foreign ] || [ "$(processors_of $last)" = "$(processors_of $$)" ]; note $? "$what: somebody else's thread was moved"
-    [ "$2" != 0 ] || kill -9 "$child" 2> /dev/null
+    [ "$2" = 0 ] || wait_for 20 is_gone "$child"; timed $? "$what: it does not end"
+    kill -9 "$child" 2> /dev/null
     wait $last 2> /dev/null
     status=$?
-    [ "$2" = 0 ] || [ $status = "$2" ]; note $? "$what: it ended with $status, not $2"
+    [ "$2" = 0 ] || [ $status = "$2" ]; timed $? "$what: it ended with $status, not $2"
     [ "$2" = 0 ] || says "caladand: process [0-9]+ of task 1 is killed: "
     works
     [ "$1" != deaf ] || late_leaver
     end
     above "$4" "$3"
-}
+} 2> /dev/null
 late_leaver() { # how long the core was not left is counted, in time and in passes, of which a second has 10,000 at most
-    wait_for 5 counts 'most_nanoseconds{step="free"}' 1000000000; note $? "$what: $(metric 'most_nanoseconds{step="free"}') ns to leave a core"
-    counts 'most_passes{step="free"}' 100; note $? "$what: $(metric 'most_passes{step="free"}') passes to leave a core"
-    counts 'latency_nanoseconds_count{step="free"}' 1; note $? "$what: no core is counted as left"
+    wait_for 5 counts 'most_nanoseconds{step="free"}' 1000000000; timed $? "$what: $(metric 'most_nanoseconds{step="free"}') ns to leave a core"
+    counts 'most_passes{step="free"}' 100; timed $? "$what: $(metric 'most_passes{step="free"}') passes to leave a core"
+    counts 'latency_nanoseconds_count{step="free"}' 1; timed $? "$what: no core is counted as left"
 }
 processors_of() { grep Cpus_allowed_list "/proc/$1/status"; }
 
@@ -29,10 +30,9 @@ liar_is_gone() { # it showed the last place of one page, and ended: no core goes
     what="a liar that is gone, where nobody is killed"
     start -g 20000
     "$bin/misbehave" "$name" 1 2 last_one > "$build/process.liar" 2>&1
-    go 20 "$bin/load" be -n "$name" -u 1 -k 200 -s 10
+    go $life "$bin/load" be -n "$name" -u 1 -k 200 -s $life
     wait_for 20 child_of $last
-    lc -s 1.5 > "$build/process.lc" 2>&1
-    served "$build/process.lc"
+    serves 1
     stop $last
     above 1 "place too far"
     exactly 0 "worn out"
@@ -43,7 +43,7 @@ last_places() { # no liar ends a piece for the others
     start -k 100 -g 20000
     for ((i = 0; i < 4; i++)); do "$bin/misbehave" "$name" 1 1 last > "$build/process.liar$i" 2>&1; done
     stop
-    grep -q "passes [0-9]* in 1 pieces" "$build/said"; note $? "$what: pieces ended: $(head -n 1 "$build/said")"
+    grep -q "passes [0-9]* in 1 pieces" "$build/said"; timed $? "$what: pieces ended: $(head -n 1 "$build/said")"
     above 4 "place too far"
 }
 
@@ -54,11 +54,11 @@ misses_of_another() { # who shows all the misses that a record may have, and end
     table=$build/narrow.toml
     start -k 2000 -g 100000 -w 1000000
     "$bin/misbehave" "$name" 1 5 misses > "$build/process.liar" 2>&1
-    wait_for 20 counts ended_total 1; note $? "$what: its predecessor is not seen as ended"
+    wait_for 20 counts ended_total 1; timed $? "$what: its predecessor is not seen as ended"
     sleep 0.6
     before=$(metric 'actions_total{kind="cap"}')
-    go 30 "$bin/load" be -n "$name" -u 1 -k 200 -s 10 -b
-    wait_for 20 counts 'actions_total{kind="cap"}' $((${before:-0} + 4)); note $? "$what: its misses do not count"
+    go $life "$bin/load" be -n "$name" -u 1 -k 200 -s $life -b
+    wait_for 20 counts 'actions_total{kind="cap"}' $((${before:-0} + 4)); timed $? "$what: its misses do not count"
     stop $last
     above 1 "misses too many"
     table=$top/host/tables/mix.toml
@@ -70,12 +70,13 @@ endless_request() { # by caladan it has the core beside its own banned, also one
     make_table lc,1,1,1000000 lc,1,1,1000000
     for policy in caladan assured; do
         begin -k 2000 -g 20000 --policy $policy
-        go 40 "$bin/misbehave" "$name" 0 30 deaf
+        go $life "$bin/misbehave" "$name" 0 $life deaf
         wait_for 20 only_child_of $last && deaf=$child
-        wait_for 20 counts 'actions_total{kind="ban"}' 1; note $? "$what: by $policy nothing is banned"
-        lc -u 1 -s 1 > "$build/process.lc" 2>&1
-        [ $policy = assured ] && served "$build/process.lc"
-        [ $policy = assured ] || { ! is_served "$build/process.lc"; note $? "$what: by $policy it is served too, and SECURITY says it may not be"; }
+        wait_for 20 counts 'actions_total{kind="ban"}' 1; timed $? "$what: by $policy nothing is banned"
+        if [ $policy = assured ]; then serves 1 -u 1; else
+            lc -u 1 -s 1 > "$build/process.lc" 2>&1
+            ! is_served "$build/process.lc"; note $? "$what: by $policy it is served too, and SECURITY says it may not be"
+        fi
         kill -9 "$deaf"
         end
         exactly 0 killed
@@ -86,16 +87,16 @@ endless_request() { # by caladan it has the core beside its own banned, also one
 visitors() { # to connect is not to attach, and to close is to leave
     what="who connects and closes"
     begin -k 2000 -g 100000 -p 5000
-    go 30 "$bin/misbehave" "$name" 1 25 visits
+    go $life "$bin/misbehave" "$name" 1 $life visits
     wait_for 20 only_child_of $last && visitor=$child
     sleep 0.3
     works
     kill -0 "$visitor" 2> /dev/null; note $? "$what: it was killed"
-    go 30 "$bin/misbehave" "$name" 1 25 closes
+    go $life "$bin/misbehave" "$name" 1 $life closes
     wait_for 20 child_of $last && closer=$child
-    wait_for 20 counts left_total 1; note $? "$what: its task was not given up"
+    wait_for 20 counts left_total 1; timed $? "$what: its task was not given up"
     works
-    wait_for 20 has_pieces 2; note $? "$what: no piece ended"
+    wait_for 20 has_pieces 2; timed $? "$what: no piece ended"
     kill -0 "$closer" 2> /dev/null; note $? "$what: who had left was killed"
     kill -9 "$visitor" "$closer"
     end
@@ -106,7 +107,7 @@ visitors() { # to connect is not to attach, and to close is to leave
 silent_guests() { # who says nothing keeps nobody waiting, however often it comes
     what="who connects again and again, and says nothing"
     start -k 2000 -g 100000
-    go 60 "$bin/misbehave" "$name" 1 50 silent
+    go $life "$bin/misbehave" "$name" 1 $life silent
     wait_for 20 only_child_of $last && visitor=$child
     sleep 0.5
     works
@@ -119,9 +120,10 @@ silent_guests() { # who says nothing keeps nobody waiting, however often it come
 punched() { # memory that is taken out of a segment would be fetched again by each pass: the kernel refuses it
     what="a process that would punch its segment away"
     begin -k 2000 -g 20000
-    go 20 "$bin/misbehave" "$name" 1 2 punches
-    lc -s 1 > "$build/process.honest" 2>&1; note $? "$what: the honest one: $(cat "$build/process.honest")"
-    wait $last; note $? "$what: it could, or was killed: $(cat "$build/said")"
+    slower
+    go $life "$bin/misbehave" "$name" 1 $((2 + slow / 4)) punches
+    lc -s 1 > "$build/process.honest" 2>&1; timed $? "$what: the honest one: $(cat "$build/process.honest")"
+    wait $last; timed $? "$what: it could, or was killed: $(cat "$build/said")"
     works
     end
 }
@@ -131,11 +133,11 @@ strays() { # a thread that is moved from its processor sees it, and is pinned th
     command -v taskset > /dev/null || { skip "$what, for want of taskset"; return; }
     start -k 2000 -g 100000
     rm -f "$counter"
-    go 30 "$bin/load" be -n "$name" -u 1 -k 200 -s 25 -c "$counter"
+    go $life "$bin/load" be -n "$name" -u 1 -k 200 -s $life -c "$counter"
     wait_for 20 child_of $last
-    wait_for 20 counts_on 0; note $? "$what: it never worked"
-    wait_for 20 sees_that_it_strays "$child" "$build/process.$processes"; note $? "$what: none saw it: $(cat "$build/process.$processes")"
-    wait_for 20 has_pinned "$child" 2; note $? "$what: they were left where they are"
+    wait_for 20 counts_on 0; timed $? "$what: it never worked"
+    wait_for 20 sees_that_it_strays "$child" "$build/process.$processes"; timed $? "$what: none saw it: $(cat "$build/process.$processes")"
+    wait_for 20 has_pinned "$child" 2; timed $? "$what: they were left where they are"
     rm "$build/process.$processes" # it says that one ran elsewhere
     stop $last
     above 2 strayed
@@ -154,7 +156,7 @@ unpinned() { # the kernel pins nobody: then nobody runs, and it is said
     wrap=("$bin/deny" pin)
     begin -k 2000 -g 100000
     wrap=()
-    lc -s 0.5 > "$build/process.honest" 2>&1; note $? "$what: the honest one: $(cat "$build/process.honest")"
+    lc -s 0.5 > "$build/process.honest" 2>&1; timed $? "$what: the honest one: $(cat "$build/process.honest")"
     end
     above 1 "not pinned"
     above 1 grant

@@ -4,9 +4,9 @@ mover() { # a thread of its own pins, wakes and interrupts
     what="a scheduler with a mover, $main"
     [ "$count" -ge 4 ] || { skip "$what, for want of four processors"; return; }
     begin -k 2000 -g 10000 -p 5000 -m "${allowed[0]}" "$@"
-    go 90 "$bin/load" be -n "$name" -u 1 -k 200 -s 80
-    go 90 "$bin/load" lc -n "$name" -u 0 -k 200 -q 2000 -s 80
-    wait_for 80 has_pieces 2; note $? "$what: there are no two pieces"
+    go $life "$bin/load" be -n "$name" -u 1 -k 200 -s $life
+    go $life "$bin/load" lc -n "$name" -u 0 -k 200 -q 2000 -s $life
+    wait_for 80 has_pieces 2; timed $? "$what: there are no two pieces"
     end
     above 1 grant
     above 2 attached
@@ -15,23 +15,24 @@ mover() { # a thread of its own pins, wakes and interrupts
 
 order_of_moves() { # see host/tests/moves_test.c
     what="the order of moves"
-    timeout 60 "$bin/moves_test" > "$build/process.moves" 2>&1; note $? "$what: $(cat "$build/process.moves")"
+    timeout 600 "$bin/moves_test" > "$build/process.moves" 2>&1; note $? "$what: $(cat "$build/process.moves")"
 }
 
 just_left() { # see host/tests/pass_test.c
     what="who may be sent a command"
-    timeout 60 "$bin/pass_test" > "$build/process.pass" 2>&1; note $? "$what: $(cat "$build/process.pass")"
+    timeout 600 "$bin/pass_test" > "$build/process.pass" 2>&1; note $? "$what: $(cat "$build/process.pass")"
 }
 
-awake() { # who has threads pinned that run is granted nothing for a while, each time after the second
+awake() { # who has threads pinned that run is granted nothing for a while, each time after the second: 40 times a second
+    local from
     what="a process whose threads do not sleep when they are pinned"
     start -k 2000 -g 20000
-    go 30 "$bin/misbehave" "$name" 1 20 awake
+    from=$SECONDS
+    go $life "$bin/misbehave" "$name" 1 $life awake
     wait_for 20 only_child_of $last
-    wait_for 20 counts slow_pins_total 2; note $? "$what: no pinning was slow"
-    lc -s 2 > "$build/process.lc" 2>&1
-    served "$build/process.lc"
-    ! counts slow_pins_total 400; note $? "$what: it slowed $(metric slow_pins_total) pinnings"
+    wait_for 20 counts slow_pins_total 2; timed $? "$what: no pinning was slow"
+    serves 2
+    ! counts slow_pins_total $((80 * (SECONDS - from + 1))); note $? "$what: it slowed $(metric slow_pins_total) pinnings in $((SECONDS - from)) s"
     kill -9 "$child"
     stop
     says "is granted nothing for a while: it takes long, since it does not sleep"
@@ -60,16 +61,15 @@ first_in_first_out() { # a class in which the kernel puts aside who spins
 has_child() { # a child of a process hands in a request: it is refused, and harms nobody
     what="the child of a process that is attached"
     begin -k 2000 -g 100000
-    go 30 "$bin/load" be -n "$name" -u 1 -k 200 -s 2 -f
-    lc -s 1 > "$build/process.lc" 2>&1
-    served "$build/process.lc"
-    wait $last; note $? "$what: it was not refused, or the process failed: $(cat "$build/process.$processes")"
+    go $life "$bin/load" be -n "$name" -u 1 -k 200 -s 2 -f
+    serves 1
+    wait $last; timed $? "$what: it was not refused, or the process failed: $(cat "$build/process.$processes")"
     end
 }
 
 notices_closing() { # see host/tests/watch_test.c
     what="a runtime that has no connection any more"
-    timeout 60 "$bin/watch_test" > "$build/process.watch" 2>&1; note $? "$what: $(cat "$build/process.watch")"
+    timeout 600 "$bin/watch_test" > "$build/process.watch" 2>&1; note $? "$what: $(cat "$build/process.watch")"
 }
 
 closes_all() { # a process that closes all its files keeps its task and works, or loses it and notices that
@@ -78,10 +78,11 @@ closes_all() { # a process that closes all its files keeps its task and works, o
     start -k 2000 -g 50000
     for ((i = 0; i < 4; i++)); do
         rm -f "$counter"
-        go 20 "$bin/load" be -n "$name" -u 1 -k 200 -s 15 -z -e wait -c "$counter"
-        wait_for 20 only_child_of $last
-        sleep 0.5
-        wait_for 5 keeps_or_notices "$child"; note $? "$what: it runs on without its task: $(grep -s State "/proc/$child/task/"*/status)"
+        go $life "$bin/load" be -n "$name" -u 1 -k 200 -s $life -z -e wait -c "$counter"
+        wait_for 20 child_of $last
+        wait_for 20 has_closed_all "$child"; timed $? "$what: it has files: $(ls -l "/proc/$child/fd")"
+        renewed
+        wait_for 5 keeps_or_notices "$child"; timed $? "$what: it runs on without its task: $(grep -s State "/proc/$child/task/"*/status)"
         kill -9 "$child"
         wait $last
         rm "$build/process.$processes" # threads that lost their cores may have seen it before they were told
@@ -90,4 +91,5 @@ closes_all() { # a process that closes all its files keeps its task and works, o
     stop
     exactly 0 killed
 } 2> /dev/null
+has_closed_all() { [ "$(ls "/proc/$1/fd" 2> /dev/null | wc -l)" = 3 ]; }
 keeps_or_notices() { { [ "$(metric 'attached{task="1"}')" = 1 ] && counts_on; } || is_asleep "$1"; } # keeps_or_notices PID

@@ -21,19 +21,18 @@ full_disk() { # it ends the record, and not the run
     rm -rf "$build/record"
     mkdir "$build/record"
     start_limited -r "$build/record" -k 1000 -g 20000
-    go 30 "$bin/load" be -n "$name" -u 1 -k 200 -s 20 
-    wait_for 20 grep -q "nothing is recorded any more" "$build/said"; note $? "$what: nothing is said: $(cat "$build/said")"
-    lc -s 1 > "$build/process.lc" 2>&1
-    served "$build/process.lc"
+    go $life "$bin/load" be -n "$name" -u 1 -k 200 -s $life
+    wait_for 20 grep -q "nothing is recorded any more" "$build/said"; timed $? "$what: nothing is said: $(cat "$build/said")"
+    serves 1
     stop $last
     above 1 revoke
 }
 start_limited() {
     name=check$$-limited
-    (ulimit -f 300; exec timeout -k 5 100 "$bin/caladand" -n "$name" -t "$table" -c "$managed" "${own[@]}" "$@") > "$build/said" 2>&1 &
+    (ulimit -f 300; exec timeout -k 100 $life "$bin/caladand" -n "$name" -t "$table" -c "$managed" "${own[@]}" "$@") > "$build/said" 2>&1 &
     scheduler=$!
     running+=($scheduler)
-    wait_for 20 is_there "$name"
+    wait_for 20 has_begun
 }
 
 set_back() { # the wall clock goes back by an hour, and the record is written on
@@ -42,7 +41,7 @@ set_back() { # the wall clock goes back by an hour, and the record is written on
     wrap=(env LD_PRELOAD="$bin/later.so")
     begin -k 1000 -g 100000
     wrap=()
-    wait_for 5 has_passes 5000; note $? "$what: it has $(grep -c '^pass,' "$record/piece-000001.part") passes after five seconds"
+    wait_for 5 has_passes 5000; timed $? "$what: it has $(grep -c '^pass,' "$record/piece-000001.part") passes"
     end
 }
 has_passes() { [ "$(grep -cs '^pass,' "$record/piece-000001.part")" -ge "$1" ] 2> /dev/null; } # in its file, of the first piece
@@ -52,13 +51,13 @@ killed_midway() { # what was recorded up to the last second is there
     what="the record of a scheduler that is killed"
     begin -k 1000 -g 100000
     only_child_of $scheduler
-    go 20 "$bin/load" be -n "$name" -u 1 -k 200 -s 15
+    go $life "$bin/load" be -n "$name" -u 1 -k 200 -s $life
     lc -s 2 > "$build/process.lc" 2>&1
     kill -9 "$child"
     wait $scheduler 2> /dev/null
     part=$record/piece-000001.part
     passes=$(grep -c '^pass,' "$part")
-    [ "$passes" -gt 100 ]; note $? "$what: it has $passes passes"
+    [ "$passes" -gt 100 ]; timed $? "$what: it has $passes passes"
     # all but the last pass, which may be cut, are a legal history
     awk '/^pass,/ { printf "%s", held; held = ""; seen++ } { held = held $0 "\n" } END { print "end," seen - 1 }' \
         "$part" > "$build/cut"
@@ -70,21 +69,22 @@ killed_midway() { # what was recorded up to the last second is there
 }
 
 long_numbers() { # no piece is longer than what reads it
-    local each size bin=$build/plain
+    local each size judge=note bin=$build/plain
     what="pieces of 128 threads whose records have the longest numbers"
     { printf 'cores = 2\nbandwidth_limit = 1000000000000\n'
       for ((each = 0; each < 8; each++)); do printf '[[task]]\nkind = "be"\nguaranteed = 0\nlimit = 16\ndelay = 0\nrequest = 0\n'; done; } > "$build/wide.toml"
     table=$build/wide.toml
     begin -k 2000 -g 20000
-    for ((each = 0; each < 8; each++)); do go 60 "$bin/misbehave" "$name" $each 50 wordy; done
-    wait_for 60 has_pieces 1; note $? "$what: no piece ended: $(cat "$build/said")"
+    for ((each = 0; each < 8; each++)); do go $life "$bin/misbehave" "$name" $each $life wordy; done
+    wait_for 60 has_pieces 1; timed $? "$what: no piece ended: $(cat "$build/said")"
     stop
+    has_pieces 1 || judge=timed # what is not there is not judged otherwise
     for each in "$record"/*.history; do
         size=$(($(stat -c %s "$each") + $(stat -c %s "$table") + 4))
-        [ $size -le 67108864 ]; note $? "$what: $(basename "$each") has $size bytes with its table"
+        [ $size -le 67108864 ]; $judge $? "$what: $(basename "$each") has $size bytes with its table"
     done
-    is_legal "$table" "$record/piece-000001.history"; note $? "$what: the first is not legal"
-    [ "$(stat -c %s "$record/piece-000001.history")" -gt 50000000 ]; note $? "$what: the first is short, and nothing was shown"
+    is_legal "$table" "$record/piece-000001.history"; $judge $? "$what: the first is not legal"
+    [ "$(stat -c %s "$record/piece-000001.history")" -gt 50000000 ]; $judge $? "$what: the first is short, and nothing was shown"
     rm -rf "$record"
     table=$top/host/tables/mix.toml
 } 2> /dev/null
@@ -108,24 +108,25 @@ other_compiler() { # which refuses what is gcc's alone
 announced() { # whoever started it is told when processes can attach
     what="a scheduler that tells when it is ready"
     command -v python3 > /dev/null || { skip "$what, for want of python3"; return; }
+    rm -f "$build/notify" "$build/ready"
     python3 -c 'import socket, sys
 it = socket.socket(socket.AF_UNIX, socket.SOCK_DGRAM)
 it.bind(sys.argv[1])
-it.settimeout(30)
+it.settimeout(300)
 print(it.recv(64).decode())' "$build/notify" > "$build/ready" 2>&1 &
     wait_for 20 test -S "$build/notify"
     NOTIFY_SOCKET=$build/notify start -g 100000
-    wait_for 20 grep -qx READY=1 "$build/ready"; note $? "$what: $(cat "$build/ready")"
+    wait_for 20 grep -qx READY=1 "$build/ready"; timed $? "$what: $(cat "$build/ready")"
     stop
 }
 
 readable() { # counters while it runs
     what="what can be read of a scheduler"
     begin -k 1000 -g 100000
-    wait_for 20 counts passes_total 1; note $? "$what: no passes in $(cat "$CALADAN_FOLDER/$name/metrics")"
+    wait_for 20 counts passes_total 1; timed $? "$what: no passes in $(cat "$CALADAN_FOLDER/$name/metrics")"
     [ "$(metric recording)" = 1 ]; note $? "$what: it records"
-    go 20 "$bin/load" be -n "$name" -u 1 -k 200 -s 15
-    wait_for 20 counts 'attached{task="1"}' 1; note $? "$what: who is attached"
+    go $life "$bin/load" be -n "$name" -u 1 -k 200 -s $life
+    wait_for 20 counts 'attached{task="1"}' 1; timed $? "$what: who is attached"
     # each line is a comment, or a name, labels and a number
     ! grep -qvE '^(# TYPE caladan_[a-z_]+ (counter|gauge|summary)|caladan_[a-z_]+(\{[a-z]+="[^"]*"(,[a-z]+="[^"]*")*\})? [0-9]+)$' "$CALADAN_FOLDER/$name/metrics"
     note $? "$what: not Prometheus's lines"

@@ -42,6 +42,7 @@ folders() { # the folder of sockets is the user's, and nobody else's
     local base=$CALADAN_FOLDER
     name=folder$$
     export CALADAN_FOLDER
+    rm -rf "$build/open" "$build/closed" "$build/link"
     mkdir "$build/open" "$build/closed" && chmod 755 "$build/open" && chmod 700 "$build/closed" && ln -s closed "$build/link"
     for CALADAN_FOLDER in "$build/open" "$build/link"; do
         refuses "$CALADAN_FOLDER: " $(daemon "$managed")
@@ -62,7 +63,7 @@ impostors() { # who poses as the scheduler can hand out what he likes: nothing o
         case $how in version | threads) words="of another version" ;; *) words="is no sealed segment" ;; esac
         name=impostor$$-$how
         go 10 "$bin/impostor" "$name" $how
-        wait_for 10 is_there "$name"; note $? "the impostor ($how) did not come: $(cat "$build"/process.*)"
+        wait_for 10 is_there "$name"; timed $? "the impostor ($how) did not come: $(cat "$build"/process.*)"
         refuses "$words" "$bin/load" lc -n "$name" -u 0
         wait $last
         rmdir "$CALADAN_FOLDER/$name" 2> /dev/null
@@ -74,8 +75,8 @@ impostors() { # who poses as the scheduler can hand out what he likes: nothing o
 refusals() { # who may not attach: the task's process lives, for this scheduler kills nobody
     what="refusals on $main"
     start -g 100000
-    go 60 "$bin/load" lc -n "$name" -u 0 -k 200 -q 2000 -s 50
-    wait_for 20 child_of $last; note $? "$what: the task's process did not attach: $(head -n 5 "$build/said")"
+    go $life "$bin/load" lc -n "$name" -u 0 -k 200 -q 2000 -s $life
+    wait_for 20 child_of $last; timed $? "$what: the task's process did not attach: $(head -n 5 "$build/said")"
     refuses "task 0: the task is taken" "$bin/load" lc -n "$name" -u 0
     refuses "task 0: the scheduler's segment is of another version" "$bin/load_other" lc -n "$name" -u 0
     refuses "there is no scheduler of that name, or its table has no such task" "$bin/load" lc -n "$name" -u 2
@@ -97,13 +98,13 @@ other_users() {
     chown 65534 "$elsewhere/base"
     # another user's scheduler: nothing of root's goes there
     export CALADAN_FOLDER=$elsewhere/base
-    setpriv --reuid 65534 --regid 65534 --clear-groups timeout 30 "$elsewhere/caladand" -n theirs -t "$elsewhere/mix.toml" -c "$managed" > "$build/said" 2>&1 &
+    setpriv --reuid 65534 --regid 65534 --clear-groups timeout $life "$elsewhere/caladand" -n theirs -t "$elsewhere/mix.toml" -c "$managed" > "$build/said" 2>&1 &
     other=$!
-    wait_for 20 is_there theirs; note $? "$what: their scheduler did not start: $(cat "$build/said")"
+    wait_for 20 is_there theirs; timed $? "$what: their scheduler did not start: $(cat "$build/said")"
     refuses "is another user's" "$bin/load" lc -n theirs -u 0
     # theirs works, without a capability
-    as_other env -u CALADAN_CLAIMS timeout 20 "$elsewhere/load" be -n theirs -u 1 -k 200 -s 1 -c "$elsewhere/base/counter" 2> "$build/err"
-    [ -n "$(tr -d '\0' < "$elsewhere/base/counter" | head -c 1)" ]; note $? "$what: their own process got no core: $(cat "$build/err")"
+    as_other env -u CALADAN_CLAIMS timeout $life "$elsewhere/load" be -n theirs -u 1 -k 200 -s 1 -c "$elsewhere/base/counter" 2> "$build/err"
+    [ -n "$(tr -d '\0' < "$elsewhere/base/counter" | head -c 1)" ]; timed $? "$what: their own process got no core: $(cat "$build/err")"
     # who is theirs by half cannot be interrupted by them
     refuses "the scheduler may not interrupt this process" "$build/plain/misbehave" theirs 0 1 mixed
     kill -TERM $other
@@ -111,7 +112,7 @@ other_users() {
     # nor does it go to who poses as one, in their folder or by a socket of theirs in root's
     setpriv --reuid 65534 --regid 65534 --clear-groups timeout 20 "$elsewhere/impostor" posed unsealed 2> "$build/err" &
     other=$!
-    wait_for 20 is_there posed; note $? "$what: the impostor did not come: $(cat "$build/err")"
+    wait_for 20 is_there posed; timed $? "$what: the impostor did not come: $(cat "$build/err")"
     refuses "is another user's" "$bin/load" lc -n posed -u 0
     mkdir -m 700 "$base/posed" && ln -s "$elsewhere/base/posed/task-0" "$base/posed/"
     CALADAN_FOLDER=$base refuses "is another user's" "$bin/load" lc -n posed -u 0

@@ -7,29 +7,27 @@ can_sleep() {
 }
 # is_within FILE MS: the longest time of a request of a latency-critical load
 is_within() { awk -v most="$2" -v at="$(grep -oE '"max": [0-9]+' "$1" | grep -oE '[0-9]+')" 'BEGIN { exit !(at != "" && at <= most * 1000) }'; }
-within() { is_within "$@"; note $? "$what: a request waited for more than $2 ms: $(head -n 3 "$1")"; }
+within() { is_within "$@"; timed $? "$what: a request waited for more than $2 ms: $(head -n 3 "$1")"; }
 
 slow_record() { # a disk that cannot follow ends the record, and no pass waits for it
     what="a record on a disk that takes one and a half seconds for each call"
     can_sleep "$build/record" 1500 || return
     begin -k 2000 -g 100000 -p 3000
     wrap=()
-    wait_for 20 counts passes_total 1; note $? "$what: there are no passes"
-    go 30 "$bin/load" be -n "$name" -u 1 -k 200 -s 15
+    wait_for 20 counts passes_total 1; timed $? "$what: there are no passes"
+    go $life "$bin/load" be -n "$name" -u 1 -k 200 -s $life
     wait_for 20 child_of $last
-    lc -s 3 > "$build/process.lc" 2>&1
-    served "$build/process.lc"
+    serves 3
     within "$build/process.lc" 2000
     only_child_of $scheduler && daemon=$child
     kill -TERM "$daemon"
     sleep 0.5
     kill -TERM "$daemon"
-    wait_for 3 is_gone "$daemon"; note $? "$what: told twice to end, it waits for the disk"
+    wait_at_most 3 is_gone "$daemon"; timed $? "$what: told twice to end, it waits for the disk"
     stop $last
     says "piece-00000[0-9]: the disk is too slow for it: nothing is recorded any more"
     says "passes [0-9]+ in [2-9] pieces"
 } 2> /dev/null
-is_gone() { ! kill -0 "$1" 2> /dev/null; }
 
 whole_pieces() { # what was whole when the disk could not follow is still written
     local each last
@@ -37,11 +35,12 @@ whole_pieces() { # what was whole when the disk could not follow is still writte
     can_sleep "$build/record" 400 || return
     begin -k 2000 -g 20000 -p 100
     wrap=()
-    wait_for 20 grep -q "the disk is too slow for it" "$build/said"; note $? "$what: it could: $(cat "$build/said")"
+    wait_for 20 grep -q "the disk is too slow for it" "$build/said"; timed $? "$what: it could: $(cat "$build/said")"
     last=$(grep -oE "piece-[0-9]+: the disk is too slow" "$build/said" | grep -oE "[1-9][0-9]*") # it could not begin any more
-    stop
-    [ "$(pieces)" = $((${last:-0} - 1)) ]; note $? "$what: up to piece $last they are not there: $(ls "$record")"
-    for each in "$record"/*.history; do is_legal "$table" "$each"; note $? "$what: $(basename "$each") is not legal"; done
+    wait_for 20 has_pieces $((${last:-0} - 2)); timed $? "$what: up to piece $last they are not written: $(ls "$record")"
+    stop # which waits for the last one
+    [ "$(pieces)" = $((${last:-0} - 1)) ]; timed $? "$what: up to piece $last they are not there: $(ls "$record")"
+    for each in "$record"/*.history; do [ ! -e "$each" ] || is_legal "$table" "$each"; note $? "$what: $(basename "$each") is not legal"; done
 }
 
 slow_but_follows() { # the next piece begins while the last one is written, and each is whole
@@ -49,17 +48,17 @@ slow_but_follows() { # the next piece begins while the last one is written, and 
     can_sleep "$build/record" 350 || return
     begin -k 2000 -g 400000 -p 4500
     wrap=()
-    go 60 "$bin/load" be -n "$name" -u 1 -k 200 -s 50
-    wait_for 60 has_pieces 2; note $? "$what: there are no two pieces: $(cat "$build/said")"
+    go $life "$bin/load" be -n "$name" -u 1 -k 200 -s $life
+    wait_for 60 has_pieces 2; timed $? "$what: there are no two pieces: $(cat "$build/said")"
     end $last
-    ! grep -q "nothing is recorded" "$build/said"; note $? "$what: $(cat "$build/said")"
+    ! grep -q "nothing is recorded" "$build/said"; timed $? "$what: $(cat "$build/said")"
     between_pieces 1000
 }
 between_pieces() { # between_pieces MS: passes of one piece and of the next are not further apart than that
     local each
     for each in "$record"/*.history; do grep '^pass,' "$each" | sed -n '1s/^/first,/p;$s/^/last,/p'; done \
         | awk -F , -v most="$1" '$1 == "first" && last && $3 - last > most * 1000000 { bad = 1 } $1 == "last" { last = $3; n++ } END { exit bad || n < 2 }'
-    note $? "$what: no pass for more than $1 ms"
+    timed $? "$what: no pass for more than $1 ms"
 }
 
 slow_counters() { # they are read, and written to a disk that sleeps, and passes go on
@@ -70,12 +69,12 @@ slow_counters() { # they are read, and written to a disk that sleeps, and passes
     wrap=()
     while :; do cat "$CALADAN_FOLDER/$name/metrics"; done > /dev/null 2>&1 &
     reader=$!
-    go 30 "$bin/load" be -n "$name" -u 1 -k 200 -s 20
+    go $life "$bin/load" be -n "$name" -u 1 -k 200 -s $life
     wait_for 20 child_of $last
     lc -s 3 > "$build/process.lc" 2>&1
     within "$build/process.lc" 900
-    wait_for 20 counts passes_total 1; note $? "$what: they are not there"
-    wait_for 20 counts longest_gap_nanoseconds 1; note $? "$what: the longest gap is not among them"
+    wait_for 20 counts passes_total 1; timed $? "$what: they are not there"
+    wait_for 20 counts longest_gap_nanoseconds 1; timed $? "$what: the longest gap is not among them"
     kill $reader
     end $last
     within_passes 900
@@ -84,7 +83,7 @@ within_passes() { # within_passes MS: two passes of a piece are not further apar
     local each
     for each in "$record"/*.history; do
         awk -F , -v most="$1" '/^pass,/ { if (last && $2 - last > most * 1000000) bad = 1; last = $2 } END { exit bad || !last }' "$each"
-        note $? "$what: no pass for more than $1 ms in $(basename "$each")"
+        timed $? "$what: no pass for more than $1 ms in $(basename "$each")"
     done
 }
 
@@ -94,16 +93,17 @@ unread_lines() { # nobody reads standard error, and it is full: a process that d
     mkfifo "$build/unread"
     exec 8<> "$build/unread"
     dd if=/dev/zero of="$build/unread" bs=4096 oflag=nonblock 2> /dev/null
-    timeout -k 5 100 "$bin/caladand" -n "$name" -t "$table" -c "$managed" "${own[@]}" -k 200 -g 100000 > "$build/said" 2>&8 &
+    timeout -k 100 $life "$bin/caladand" -n "$name" -t "$table" -c "$managed" "${own[@]}" -k 200 -g 100000 > "$build/said" 2>&8 &
     scheduler=$!
     running+=($scheduler)
-    wait_for 20 is_there "$name"
-    go 20 "$bin/misbehave" "$name" 1 15 deaf
+    wait_for 20 has_begun
+    go $life "$bin/misbehave" "$name" 1 $life deaf
     deaf=$last
     wait_for 20 child_of $deaf
-    lc -s 2 > "$build/process.lc" 2>&1
-    served "$build/process.lc"
-    wait_for 20 counts killed_total 1; note $? "$what: nobody was killed"
+    serves 2
+    wait_for 20 counts killed_total 1; timed $? "$what: nobody was killed"
+    wait_for 20 is_gone "$child"; timed $? "$what: it does not end"
+    kill -9 "$child"
     wait $deaf
     works
     stop
@@ -113,8 +113,8 @@ unread_lines() { # nobody reads standard error, and it is full: a process that d
 
 lines_lost() { # the queue is bounded: see host/tests/lines_test.c
     what="lines that nobody reads"
-    timeout 60 "$bin/lines_test" > "$build/process.lines" 2>&1; note $? "$what: $(cat "$build/process.lines")"
-    timeout 60 "$bin/lines_test" unwaited > "$build/process.lines" 2>&1; note $? "$what, and which waits for nobody: $(cat "$build/process.lines")"
+    timeout 600 "$bin/lines_test" > "$build/process.lines" 2>&1; note $? "$what: $(cat "$build/process.lines")"
+    timeout 600 "$bin/lines_test" unwaited > "$build/process.lines" 2>&1; note $? "$what, and which waits for nobody: $(cat "$build/process.lines")"
 }
 
 calls() { # the scheduler's own thread opens, writes and renames nothing, and one call a millisecond asks for all processes
@@ -123,8 +123,8 @@ calls() { # the scheduler's own thread opens, writes and renames nothing, and on
     command -v strace > /dev/null || { skip "$what, for want of strace"; return; }
     table=$top/host/tables/crowd.toml
     begin -k 2000 -g 1000000
-    for task in 0 2; do go 20 "$bin/load" lc -n "$name" -u $task -k 200 -q 10 -s 15; loads+=($last); done
-    wait_for 20 counts attached_total 2; note $? "$what: two did not attach"
+    for task in 0 2; do go $life "$bin/load" lc -n "$name" -u $task -k 200 -q 10 -s $life; loads+=($last); done
+    wait_for 20 counts attached_total 2; timed $? "$what: two did not attach"
     only_child_of $scheduler
     timeout -s INT 2 strace -c -o "$build/calls" -p "$child" 2> /dev/null
     if grep -q nanosleep "$build/calls"; then # it sleeps between passes
