@@ -1,5 +1,5 @@
-/* Each refusal of each call, and that nothing has changed after it. Exits with 1 at the first that is not
- * as caladan.h says. */
+/* Each refusal of each call, that nothing has changed after it, and the text of each number. Exits with 1 at the
+ * first that is not as caladan.h says. */
 #include "caladan.h"
 #include <stdio.h>
 #include <string.h>
@@ -201,10 +201,94 @@ static int by_policy(void) {
     return 0;
 }
 
+/* The text of a number. */
+typedef struct { uint8_t number; const char *text; } named_text;
+
+/* How many numbers have another text; one that is not named is to have that of none. */
+static size_t others(const char *(*text_of)(uint8_t), const named_text *texts, size_t count, const char *none) {
+    size_t found = 0;
+    for (unsigned number = 0; number < 256; number++) {
+        const char *wanted = none;
+        for (size_t k = 0; k < count; k++) wanted = texts[k].number == number ? texts[k].text : wanted;
+        if (strcmp(text_of((uint8_t)number), wanted)) {
+            printf("the text of %u is \"%s\", not \"%s\"\n", number, text_of((uint8_t)number), wanted);
+            found++;
+        }
+    }
+    return found;
+}
+
+#define OTHERS(text_of, texts, none) others(text_of, texts, sizeof(texts) / sizeof *(texts), none)
+
+static const named_text ANSWERS[] = {
+    {CALADAN_DONE, "done"},
+    {CALADAN_NOT_TOML, "the table is not TOML"},
+    {CALADAN_UNKNOWN_KEY, "the table has an unknown key"},
+    {CALADAN_MISSING_KEY, "the table lacks a key"},
+    {CALADAN_WRONG_TYPE, "a value has the wrong type"},
+    {CALADAN_OUT_OF_RANGE, "a value is out of range"},
+    {CALADAN_BEST_EFFORT_GUARANTEE, "a best-effort task has a guarantee"},
+    {CALADAN_GUARANTEES_EXCEED_CORES, "the guarantees exceed the cores"},
+    {CALADAN_TOO_MANY_THREADS, "there are too many threads"},
+    {CALADAN_NO_MEMORY, "out of memory"},
+    {CALADAN_IS_CLOSED, "the handle is closed"},
+    {CALADAN_IS_OPEN, "the handle is open"},
+    {CALADAN_WRONG_COUNT, "the count is wrong"},
+    {CALADAN_NO_ROOM, "there is too little room"},
+    {CALADAN_UNFIT, "a look does not fit"},
+    {CALADAN_NO_SUCH, "the table has no such core, task or thread"},
+    {CALADAN_NO_ACTION, "an action is none"},
+    {CALADAN_NOT_PERMITTED, "an action is not permitted"},
+    {CALADAN_NO_JUDGEMENT, "a number is no judgement of its look"},
+    {CALADAN_ILLEGAL, "a pass is not legal"},
+    {CALADAN_LOST, "no page can show that the thread is gone"},
+    {CALADAN_NO_POLICY, "no policy has this number"},
+};
+
+static const named_text JUDGEMENTS[] = {
+    {CALADAN_KEPT, "kept"},
+    {CALADAN_BUSY, "busy"},
+    {CALADAN_AHEAD, "ahead: it acknowledges more commands than were sent"},
+    {CALADAN_FOREIGN, "foreign: it shows a core that the thread was not given"},
+    {CALADAN_NO_PAIR, "its versions are no busy pair"},
+    {CALADAN_MISSHAPEN, "misshapen: running or misses is out of range"},
+    {CALADAN_PLACE_FELL, "its place fell"},
+    {CALADAN_CHANGED, "another record at the same place"},
+    {CALADAN_WORD_FELL, "taken, misses or stamp fell"},
+};
+
+static const named_text CAUSES[] = {
+    {CALADAN_FOR_BAN, "for a ban"},
+    {CALADAN_FOR_BANDWIDTH, "for bandwidth"},
+    {CALADAN_FOR_TASK, "for a task"},
+};
+
+static const named_text WHYS[] = {
+    {CALADAN_WHY_TOO_MANY, "the pass has the most actions"},
+    {CALADAN_WHY_DOES_NOT_FIT, "it does not fit the state"},
+    {CALADAN_WHY_NOT_LEFT, "the core was not left"},
+    {CALADAN_WHY_BANNED, "the core is banned"},
+    {CALADAN_WHY_AT_LIMIT, "the task is at its limit"},
+    {CALADAN_WHY_AT_CAP, "the task is at its cap"},
+    {CALADAN_WHY_AT_GUARANTEE, "the task is at its guarantee"},
+    {CALADAN_WHY_RING_FULL, "the ring is full"},
+    {CALADAN_WHY_SECOND_COMMAND, "a second command to the thread in this pass"},
+    {CALADAN_WHY_BANNED_HELD, "a banned core is held"},
+    {CALADAN_WHY_OVER_CAP, "a task is over its cap"},
+};
+
+static int texts(void) {
+    WANT(OTHERS(caladan_answer_text, ANSWERS, "no answer"), 0);
+    WANT(OTHERS(caladan_judgement_text, JUDGEMENTS, "no judgement"), 0);
+    WANT(OTHERS(caladan_cause_text, CAUSES, "no cause"), 0);
+    WANT(OTHERS(caladan_why_text, WHYS, "no reason"), 0);
+    return 0;
+}
+
 int main(void) {
     WANT(caladan_version(), CALADAN_VERSION);
     WANT(CALADAN_IS_THIS_VERSION(), 1);
-    if (closed() || nothing() || opened() || audited() || by_policy()) return 1;
+    if (closed() || nothing() || opened() || audited() || by_policy() || texts()) return 1;
     puts("refusals: ok");
     return 0;
 }

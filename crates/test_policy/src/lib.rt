@@ -23,4 +23,6 @@ mod same;
 #[cfg(test)]
 mod signal;
 #[cfg(test)]
+mod texts;
+#[cfg(test)]
 mod trace;

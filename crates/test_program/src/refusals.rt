@@ -3,7 +3,7 @@
 
 use cal_input::RunFault;
 use cal_machine::Config;
-use cal_trace::read_signals;
+use cal_trace::{FaultKind, TraceFault, read_signals};
 use cal_why::{RefusedInput, TraceKind, explanation};
 use std::process::Abort;
 use std::test::Fail;
@@ -95,6 +95,32 @@ fn control_letters_are_not_written(rt: HostRuntime) -> Result<(), Fail> {
         "  line 11, column 1: bu?[31m ???sy,0
   `bu?[31m ???sy` is no row of this trace; there are: pass whole busy end
   fields have commas between them, and no semicolons or tabs
+"
+    );
+    Ok(())
+}
+
+// What is said of one pass too many, by a short file in which the row is another one.
+#[test]
+fn one_pass_too_many(rt: HostRuntime) -> Result<(), Fail> {
+    let mut input = Vec::new(rt.alloc());
+    input.extend_from_slice(TABLE.as_bytes())?;
+    input.extend_from_slice(b"---\ncaladan-signals,2\npass,1,0\nbusy,0,1,1,1\nend,1\n")?;
+    let refused = RefusedInput {
+        input: input.as_slice(),
+        wanted: &[TraceKind::Signals],
+        tables: 1,
+        files: None,
+    };
+    let fault = RunFault::Trace(TraceFault {
+        row: 2,
+        kind: FaultKind::Range,
+    });
+    let told = explanation(rt.alloc(), &refused, 0, &fault)?;
+    assert_eq!(rt;
+        told.as_str(),
+        "  line 11, column 1: pass,1,0
+  wanted: at most 1048576 (MOST_PASSES) passes
 "
     );
     Ok(())

@@ -18,4 +18,6 @@ mod same;
 #[cfg(test)]
 mod scheduler;
 #[cfg(test)]
+mod texts;
+#[cfg(test)]
 mod world;
