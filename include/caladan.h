@@ -7,7 +7,8 @@
  * The answers of each call are proved, for the function of the same name (crates/caladan_c/src/lib.rt and
  * src/exports). The brackets after a promise say what supports it: [a name] is a clause of that function,
  * [law a name] a law of the crates below, [tested] means only tests, by tools/c_library, and [not proved]
- * means nothing. docs/PROMISES.md has them all. Comments name answers without CALADAN_: DONE is CALADAN_DONE.
+ * means nothing. docs/PROMISES.md says what the laws promise, crate by crate; tools/clauses prints each. Comments
+ * name answers without CALADAN_: DONE is CALADAN_DONE.
  * Nothing checks what a caller in C owes:
  *  - A handle begins as CALADAN_CLOSED, and only these calls change it. Do not use two copies of it, and do
  *    not read or write what it points to. Make one call at a time on a handle. It may move from one thread to
