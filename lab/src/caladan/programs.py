@@ -16,7 +16,7 @@ from typing import Optional, Sequence, Union
 from . import __version__
 from .refusal import Refusal
 
-VIEW = "caladan_view"
+VIEW, SIM = "caladan_view", "caladan_sim"
 TABLE = b"""cores = 2
 bandwidth_limit = 0
 [[task]]
@@ -241,3 +241,9 @@ def built(file: str) -> str:
 def viewer(asked: Optional[str] = None) -> Viewer:
     """The program, found once."""
     return Viewer(built(file_asked(asked or "")))
+
+
+def simulator(view: Viewer) -> Viewer:
+    """The caladan_sim that goes with a caladan_view: CALADAN_SIM names it, else it stands beside it."""
+    asked = os.environ.get("CALADAN_SIM", "")
+    return Viewer(asked or view.file.replace(VIEW, SIM))

@@ -1,12 +1,10 @@
 """The word `timeline`. The program writes the whole of it, until it has a word for the facts of which one is made."""
 from __future__ import annotations
 
-from typing import Optional
-
 from .files import STANDARD, Output, Source
 from .labels import names_of
 from .plans import plan_of
-from .programs import Viewer, refused, viewer
+from .programs import refused, viewer
 from .words.parsing import Asked
 
 
@@ -17,14 +15,14 @@ def words_of(asked: Asked) -> list[str]:
     return ["timeline", *words, *plan_of(asked).words()]
 
 
-def timeline(asked: Asked, names: Optional[Viewer] = None) -> int:
+def timeline(asked: Asked) -> int:
     """Does what the words after `timeline` ask for; answers the exit status."""
     names_of(asked.one("names"))
     file, output_name = asked.one("input"), asked.one("output")
     source = Source(None if file == STANDARD else file)
     output = Output(None if output_name == STANDARD else output_name)
     given = source.read()
-    ran = (names or viewer(asked.one("program"))).ask(words_of(asked), given)
+    ran = viewer(asked.one("program")).ask(words_of(asked), given)
     if ran.status:
         raise refused(ran)
     if output.is_later:

@@ -10,7 +10,7 @@ from ..labels import Labels, names_of, table_names
 from ..moving import Given, HandMover, Mover, NoTask
 from ..plans import plan_of
 from ..pool import each
-from ..programs import Viewer, viewer
+from ..programs import viewer
 from ..refusal import Refusal
 from ..tables import SEPARATOR, Machine
 from ..varying import Variations, setting_text, varied, variations_of
@@ -48,8 +48,8 @@ def refuse_two_inputs(names: Sequence[Optional[str]]) -> None:
 class Comparison:
     """A comparison that words ask for: its input is opened as soon as the words are read, as is its output."""
 
-    def __init__(self, asked: Asked, view: Optional[Viewer] = None) -> None:
-        self.asked, self.view = asked, view
+    def __init__(self, asked: Asked) -> None:
+        self.asked = asked
         self.names = names_of(asked.one("names"))
         arrivals, files = asked.one("arrivals"), asked.all("tables")
         self.files = files if arrivals is not None else []
@@ -62,44 +62,49 @@ class Comparison:
         output = asked.one("output")
         self.output = Output(None if output == STANDARD else output)
 
-    def labels(self) -> Labels:
-        return Labels(self.names, self.asked.one("tick") or "", table_names(self.files))
-
-    def terms(self) -> Terms:
-        asked = self.asked
-        return Terms(tuple(asked.all("policy") or ["caladan"]), plan_of(asked), asked.one("from"), asked.one("to"))
-
     def text(self) -> bytes:
         """The answer."""
         variations = variations_of(self.asked.all("vary"), self.names)
         given = self.source.read(self.front)
-        came = None if self.came_name is None else read_named(self.came_name)
-        view = self.view or viewer(self.asked.one("program"))
+        came = None if self.came_name is None else (self.came_name, read_named(self.came_name))
         parts = parts_of(given, bool(variations), self.files, self.input_name)
-        reading = Reading(view, given, parts, bool(variations))
-        terms = self.terms()
-        machines, arrivals = reading.read(self.names, terms.plan)
-        if variations:
-            machines = varied(view, machines[0], variations, each)
-        table = self.asked.number("write-input")
-        if table is not None:
-            return input_text(machines, arrivals, variations, table)
-        if came is not None:
-            reading.check_comings(self.came_name or "", came)
-            arrivals = replace(arrivals, came=came)
-        self.refuse_empty_window(arrivals)
-        names = [table_name(variations, it) for it in range(len(machines))]
-        runs = Runs(view, terms, machines, HandMover(arrivals), names).all()
-        sheet = CompareSheet(runs, terms.policies, variations, self.labels(), came is not None, self.asked.has("csv"))
-        return sheet.written().encode("utf-8", "surrogateescape")
+        labels = Labels(self.names, self.asked.one("tick") or "", table_names(self.files))
+        return answer(self.asked, Reading(viewer(self.asked.one("program")), given, parts, bool(variations)),
+                      variations, labels, came)
 
-    def refuse_empty_window(self, given: Given) -> None:
-        """Refuses turns to which no request came."""
-        first, after = self.asked.number("from"), self.asked.number("to")
-        if first is None and after is None:
-            return
-        if not is_some_within(given.arrivals, given.comings, first, after):
-            raise Refusal(NONE_CAME)
+
+def terms_of(asked: Asked) -> Terms:
+    """By what runs are made and counted."""
+    return Terms(tuple(asked.all("policy") or ["caladan"]), plan_of(asked), asked.one("from"), asked.one("to"))
+
+
+def refuse_empty_window(asked: Asked, given: Given) -> None:
+    """Refuses turns to which no request came."""
+    first, after = asked.number("from"), asked.number("to")
+    if first is None and after is None:
+        return
+    if not is_some_within(given.arrivals, given.comings, first, after):
+        raise Refusal(NONE_CAME)
+
+
+def answer(asked: Asked, reading: Reading, variations: Variations, labels: Labels,
+           came: Optional[tuple[str, bytes]] = None) -> bytes:
+    """What is written of a comparison of an input, with the file of when its requests came, by its name."""
+    terms = terms_of(asked)
+    machines, arrivals = reading.read(labels.names, terms.plan)
+    if variations:
+        machines = varied(reading.view, machines[0], variations, each)
+    table = asked.number("write-input")
+    if table is not None:
+        return input_text(machines, arrivals, variations, table)
+    if came is not None:
+        reading.check_comings(*came)
+        arrivals = replace(arrivals, came=came[1])
+    refuse_empty_window(asked, arrivals)
+    names = [table_name(variations, it) for it in range(len(machines))]
+    runs = Runs(reading.view, terms, machines, HandMover(arrivals), names).all()
+    sheet = CompareSheet(runs, terms.policies, variations, labels, came is not None, asked.has("csv"))
+    return sheet.written().encode("utf-8", "surrogateescape")
 
 
 def table_name(variations: Variations, table: int) -> str:
@@ -120,12 +125,12 @@ def input_text(machines: Sequence[Machine], given: Given, variations: Variations
     return machines[table].text() + SEPARATOR + arrivals
 
 
-def compare(asked: Asked, view: Optional[Viewer] = None) -> int:
+def compare(asked: Asked) -> int:
     """Does what the words after `compare` ask for; answers the exit status."""
     wrong = mistake(asked)
     if wrong is not None:
         raise wrong
-    comparison = Comparison(asked, view)
+    comparison = Comparison(asked)
     text = comparison.text()
     if comparison.output.is_later:
         comparison.output.keep(text)

@@ -2,7 +2,7 @@
 from __future__ import annotations
 
 import itertools
-from typing import Optional, Sequence
+from typing import Sequence
 
 from .. import pool
 from ..files import Output, Source, is_terminal, say
@@ -69,30 +69,39 @@ def swept_of(view: Viewer, asked: SweepAsked, machines: Sequence[Machine], is_sh
     return Swept(asked, found, len(machines))
 
 
-def sweep(asked: Asked, names: Optional[Viewer] = None) -> int:
+def answer(of_words: SweepAsked, given: bytes, view: Viewer, is_shown: bool = False) -> tuple[str, str]:
+    """What is written of the sweep of an input, and what is said of objectives that it does not keep."""
+    machine = table_of(view, given)
+    counted(of_words.labels.names, len(machine.tasks))
+    known(of_words, machine)
+    machines = varied(view, machine, of_words.variations, pool.each) if of_words.variations else [machine]
+    held(of_words, machines)
+    verdict = Verdict(swept_of(view, of_words, machines, is_shown))
+    return SweepSheet(verdict.swept).written(verdict), verdict.lines()
+
+
+def asked_of(asked: Asked) -> SweepAsked:
+    """What the words ask for, but for the table."""
+    of_words = sweep_asked(asked, Labels(names_of(asked.one("names")), asked.one("tick") or ""))
+    if not of_words.loads.has_misses:
+        of_words.plan.refuse_without_misses()
+    return of_words
+
+
+def sweep(asked: Asked) -> int:
     """Does what the words after `sweep` ask for; answers the exit status."""
-    labels = Labels(names_of(asked.one("names")), asked.one("tick") or "")
+    names_of(asked.one("names"))
     file = asked.one("input")
     source = Source(None if file == "-" else file)
     output_name = asked.one("output")
     output = Output(None if output_name == "-" else output_name)
-    of_words = sweep_asked(asked, labels)
-    if not of_words.loads.has_misses:
-        of_words.plan.refuse_without_misses()
+    of_words = asked_of(asked)
     given = source.read()
-    view = names or viewer(asked.one("program"))
-    machine = table_of(view, given)
-    counted(labels.names, len(machine.tasks))
-    known(of_words, machine)
-    machines = varied(view, machine, of_words.variations, pool.each) if of_words.variations else [machine]
-    held(of_words, machines)
-    swept = swept_of(view, of_words, machines, is_terminal() and not of_words.is_quiet)
-    verdict = Verdict(swept)
-    text = SweepSheet(swept).written(verdict).encode("utf-8", "surrogateescape")
+    is_shown = is_terminal() and not of_words.is_quiet
+    text, lines = answer(of_words, given, viewer(asked.one("program")), is_shown)
     if not output.is_later:
-        output.put(text)
-    lines = verdict.lines()
+        output.put(text.encode("utf-8", "surrogateescape"))
     say(lines)
     if output.is_later:
-        output.keep(text)
+        output.keep(text.encode("utf-8", "surrogateescape"))
     return 1 if lines else 0
