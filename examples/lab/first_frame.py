@@ -5,9 +5,11 @@ import sys
 
 import caladan
 
-table = caladan.Table.read(sys.argv[1] if sys.argv[1:] else "examples/sweep/even/input", tick="us")
-run = table.run(task=0, load=0.6, turns=30, seed=7)
-requests = run.requests
-requests["response [us]"] = requests["answered [us]"] - requests["arrived [us]"]
-print(requests.groupby("task")["response [us]"].quantile(0.99, interpolation="higher"))
+FILE = sys.argv[1] if sys.argv[1:] else "examples/sweep/even/input"
+# begin
+table = caladan.Table.read(FILE, names=["kv", "batch"], tick="us")
+run = table.run(task="kv", load=0.6, turns=30, seed=7)
+print(run.requests.head())
 print(run.numbers.loc["response 99 of 100 [us]"])
+print(caladan.compare(run, vary={"kv.delay": [10, 40]}).frame)
+# end

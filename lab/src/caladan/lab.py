@@ -206,7 +206,7 @@ class Answer:
 
 def _asked(word: str, table: Table, vary: Optional[Keys], options: Mapping[str, Option]) -> tuple[list[str], Asked]:
     """The words of a command line, and what they ask for."""
-    more = {"names": ",".join(table.names) or None, "tick": table.tick or None, **options}
+    more: dict[str, Option] = {"names": ",".join(table.names) or None, "tick": table.tick or None, **options}
     words = [word, "--csv", *vary_words(vary), *words_of(more)]
     return words, read_words(LAB, words)
 
