@@ -14,7 +14,7 @@ HOW = {"unit": "ms", "turn": "2ms", "ticks": 2, "turns": 20}
 
 with open(LOG, encoding="utf-8", newline="") as file:
     rows = list(csv.DictReader(file))
-table = caladan.Table.read(TABLE, names=list(dict.fromkeys(it["task"] for it in rows)) + ["batch"], tick="ms")
+table = caladan.Table.read(TABLE, names=list(dict.fromkeys(it["task"] for it in rows)), tick="ms")
 for times in (1, 1.3):
     with tempfile.NamedTemporaryFile("w", suffix=".csv", newline="", encoding="utf-8") as log:
         faster = [{**it, "time": f"{float(it['time']) / times:.6f}"} for it in rows]
