@@ -12,8 +12,8 @@ use Rattle.cal_policy.specs.Assured.Short.{waits_short}
 abbrev pub IsShortOfCores : Setting → ℕ → Type 0
 IsShortOfCores s t = waits_short s (so_far s (bounded_of s)) t ≡ true
 
--- through the passes p to p + d of a legal history task t waits; rings have room in the first, and
--- threads have left by the last
+-- through the passes p to p + d of a legal history task t waits, and rings have room; threads have left
+-- by the last
 pub record WaitsFromTo (table : Table) (history : List PassEntry) (t d p : ℕ) : Type 0 where
   pub accepted : IsTable table
   pub legal : IsLegal table history
@@ -23,9 +23,10 @@ pub record WaitsFromTo (table : Table) (history : List PassEntry) (t d p : ℕ) 
   -- in each of them the task is short and waits where the grants begin
   pub waiting : (q : ℕ) (entry : PassEntry) → p ≤ q → q ≤ p + d → slice_get history q ≡ Some entry →
       IsShortOfCores (setting_of table (take q history) entry) t
-  -- in the first every ring has room
-  pub rooms : (entry : PassEntry) → slice_get history p ≡ Some entry → (k : ℕ) →
-      k < threads_of_table table → has_room (setting_of table (take p history) entry) k ≡ true
+  -- in each of them every ring has room
+  pub rooms : (q : ℕ) (entry : PassEntry) → p ≤ q → q ≤ p + d → slice_get history q ≡ Some entry →
+      (k : ℕ) → k < threads_of_table table →
+      has_room (setting_of table (take q history) entry) k ≡ true
   -- in the last each core is freed that is being left where it begins, and was revoked at least d
   -- passes before
   pub left : (entry : PassEntry) → slice_get history (p + d) ≡ Some entry → (c : ℕ) →

@@ -1,6 +1,7 @@
 -- A small run in which a task waits as the guarantee asks, and is granted a core no earlier than the
 -- guarantee says.
-use Rattle.std.specs.Prelude.{◌≡◌, ◌≢◌, ℕ, ◌+◌, ◌<◌, ◌≤◌, true, List, [], ◌∷◌, Some, slice_get}
+use Rattle.std.specs.Prelude.{◌≡◌, ◌≢◌, ℕ, ◌+◌, ◌-◌, ◌<◌, ◌≤◌, true, List, [], ◌∷◌, ◌++◌, Some}
+use Rattle.std.specs.Prelude.{replicate, slice_get}
 use Rattle.cal_signal.specs.declared.record.Record.{Record}
 use Rattle.cal_machine.specs.declared.task.Task.{Task}
 use Rattle.cal_machine.specs.declared.task.Kind.TheVariants as kinds
@@ -86,6 +87,19 @@ pub record WaitsToTheLast (table : Table) (history : List PassEntry) (t d p : �
       (place core thread class : ℕ) → slice_get entry.actions place ≡ Some (Grant core thread class) →
       owner_of table thread ≢ t
 
--- so the guarantee's premises can be met, and its bound is exact
+-- so the guarantee's premises can be met
 abbrev pub TheBoundIsReached : Type 0
 TheBoundIsReached = WaitsToTheLast two_tasks four_passes 1 1 2
+
+-- a pass in which the thread that is to leave shows what it showed before
+abbrev pub still_pass : PassEntry
+still_pass = entry_of (Whole 1 (shown 0 1)) (Whole 1 (shown 0 1)) (Whole 2 (shown 0 1)) []
+
+-- the thread leaves in the d-th pass after the third
+abbrev pub passes_of : ℕ → List PassEntry
+passes_of d = (first_pass ∷ second_pass ∷ third_pass ∷ replicate (d - 1) still_pass)
+    ++ fourth_pass ∷ []
+
+-- the bound is exact, for every number of passes
+abbrev pub EachBoundIsReached : Type 0
+EachBoundIsReached = (d : ℕ) → 1 ≤ d → WaitsToTheLast two_tasks (passes_of d) 1 d 2

@@ -1,3 +1,4 @@
 pub mod Enough
 pub mod Example
+pub mod Honest
 pub mod OnePass

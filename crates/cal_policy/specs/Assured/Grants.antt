@@ -1,11 +1,11 @@
 -- The last part of a pass of this policy: each task that waits gets a core, or has one revoked for
--- it. (After Caladan's core allocator; who comes first, what is kept for whom and when a core is
--- taken from another task are Doranjei's own.)
-use Rattle.std.specs.Prelude.{ℕ, List, [], length, Option, Some, None, if◌then◌else◌}
+-- it, and a short one acts until it has all that it lacks. (After Caladan's core allocator; who comes
+-- first, what is kept for whom and when a core is taken from another task are Doranjei's own.)
+use Rattle.std.specs.Prelude.{ℕ, List, [], length, max, Option, Some, None, if◌then◌else◌}
 use Rattle.cal_policy.specs.declared.history.action.Action.{Action}
 use Rattle.cal_policy.specs.History.Lists.{in_turn}
 use Rattle.cal_policy.specs.Pass.Grants.{thread_choice, grant_of}
-use Rattle.cal_policy.specs.Assured.Short.{waits}
+use Rattle.cal_policy.specs.Assured.Short.{lacks, waits}
 use Rattle.cal_policy.specs.Assured.Order.{task_in_place}
 use Rattle.cal_policy.specs.Assured.Taking.{choice_for}
 use Rattle.cal_policy.specs.Setting.{Setting, so_far}
@@ -15,15 +15,28 @@ abbrev pub grant_at : Setting → List Action → ℕ → List Action
 grant_at s acts t = if waits s (so_far s acts) t
     then grant_of s t (thread_choice s (so_far s acts) t) (choice_for s acts t) else []
 
+-- how often task t acts at most: once, and a short one as often as it lacks cores
+abbrev pub most_acts : Setting → List Action → ℕ → ℕ
+most_acts s x t = max 1 (lacks s.table x t)
+
+-- the first so many acts of task t in its turn; after one that finds nothing to do all others find
+-- nothing
+abbrev pub acts_of_turn : ℕ → Setting → List Action → ℕ → List Action
+acts_of_turn many s acts t = in_turn (λ made act. grant_at s made t) acts many
+
+-- its turn
+abbrev pub turn_at : Setting → List Action → ℕ → List Action
+turn_at s acts t = acts_of_turn (most_acts s (so_far s acts) t) s acts t
+
 -- the same, of the task in a place of the order, if there is one
-abbrev pub grant_in_place : Setting → List Action → Option ℕ → List Action
-grant_in_place s acts None = []
-grant_in_place s acts (Some t) = grant_at s acts t
+abbrev pub turn_in_place : Setting → List Action → Option ℕ → List Action
+turn_in_place s acts None = []
+turn_in_place s acts (Some t) = turn_at s acts t
 
 -- the turns of the first so many tasks, in the order that is fixed where the part begins
 abbrev pub grants_of_first : ℕ → Setting → List Action → List Action
 grants_of_first many s acts =
-    in_turn (λ made place. grant_in_place s made (task_in_place s (so_far s acts) place)) acts many
+    in_turn (λ made place. turn_in_place s made (task_in_place s (so_far s acts) place)) acts many
 
 -- all tasks
 abbrev pub grants : Setting → List Action → List Action

@@ -5,7 +5,7 @@ use Rattle.cal_machine.specs.TableTasks.{owner_of, thread_of, limit_of, delay_of
 use Rattle.cal_policy.specs.declared.history.action.Action.{Action}
 use Rattle.cal_policy.specs.declared.board.holders.Holder.{Holder}
 use Rattle.cal_policy.specs.declared.board.holders.Holder.TheVariants as holders
-use Rattle.cal_policy.specs.History.{holder_of}
+use Rattle.cal_policy.specs.History.{actions_of, holder_of, sent_to}
 use Rattle.cal_policy.specs.Pass.Choice.{count_below}
 use Rattle.cal_policy.specs.Pass.Grants.{thread_delay, leaves_for}
 use Rattle.cal_policy.specs.Setting.{Setting, kept_now}
@@ -41,6 +41,27 @@ pressing s x t = count_below (λ j. presses s x (thread_of s.table t j)) (limit_
 -- how many threads of task t are in flight and not late
 abbrev pub helpers : Setting → List Action → ℕ → ℕ
 helpers s x t = count_below (λ j. helps s x (thread_of s.table t j)) (limit_of s.table t)
+
+-- the core is held by thread k, by a Run that comes after so many commands to it
+abbrev pub is_run_after : ℕ → ℕ → Holder → Bool
+is_run_after sent k holders.Free = false
+is_run_after sent k (holders.Held placement) = (placement.thread == k) && nat_lt sent placement.number
+is_run_after sent k (holders.Leaving placement cause) = false
+
+-- thread k was granted its core in this pass: it holds one by a Run that comes after all commands that
+-- were sent to it before the pass
+abbrev pub is_granted_now : Setting → List Action → ℕ → Bool
+is_granted_now s x k = not (count_below
+    (λ c. is_run_after (sent_to (actions_of s.history) k) k (holder_of x c)) s.table.cores == 0)
+
+-- thread k helps, and was granted its core in this pass
+abbrev pub helps_now : Setting → List Action → ℕ → Bool
+helps_now s x k = helps s x k && is_granted_now s x k
+
+-- how many helpers of task t were granted their cores in this pass
+abbrev pub new_helpers : Setting → List Action → ℕ → ℕ
+new_helpers s x t =
+    count_below (λ j. helps_now s x (thread_of s.table t j)) (limit_of s.table t)
 
 -- how many cores are being left for task t
 abbrev pub coming : Setting → List Action → ℕ → ℕ

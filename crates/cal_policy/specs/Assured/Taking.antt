@@ -1,22 +1,26 @@
 -- Which core a task takes: an open one that is not kept from it, else one that another task holds.
 use Rattle.std.specs.Prelude.{ℕ, ◌+◌, ◌==◌, ◌&&◌, ◌||◌, Bool, false, not, nat_lt}
 use Rattle.std.specs.Prelude.{List, Option, Some, None, if◌then◌else◌}
-use Rattle.std.specs.Option.{option_or}
+use Rattle.std.specs.Option.{is_some, option_or}
 use Rattle.cal_machine.specs.Machine.{sibling_of}
+use Rattle.cal_machine.specs.Table.{Table}
 use Rattle.cal_machine.specs.TableTasks.{owner_of, is_latency_critical}
 use Rattle.cal_policy.specs.declared.history.action.Action.{Action}
+use Rattle.cal_policy.specs.declared.history.action.Action.TheVariants.{Free, Unban, Ban}
+use Rattle.cal_policy.specs.declared.history.action.Action.TheVariants.{Revoke, Cap, Grant}
 use Rattle.cal_policy.specs.declared.history.core_class.CoreClass.{CoreClass}
 use Rattle.cal_policy.specs.declared.board.holders.Holder.{Holder}
 use Rattle.cal_policy.specs.declared.board.holders.Holder.TheVariants as holders
 use Rattle.cal_policy.specs.declared.pass.choice.Candidate.{Candidate}
 use Rattle.cal_policy.specs.History.CoreClasses.{comes_before}
 use Rattle.cal_policy.specs.History.{holder_of, last_thread}
+use Rattle.cal_policy.specs.History.Lists.{last_of}
 use Rattle.cal_policy.specs.Pass.Choice.{best_below}
-use Rattle.cal_policy.specs.Pass.Grants.{idle_class, preempt_class, is_granted_in}
+use Rattle.cal_policy.specs.Pass.Grants.{idle_class, preempt_class, is_granted_in, is_for}
 use Rattle.cal_policy.specs.Assured.InFlight.{pressing, coming}
 use Rattle.cal_policy.specs.Assured.Owed.{owed_to, is_task, owed_below}
-use Rattle.cal_policy.specs.Assured.Short.{is_short, lacks, is_open, surplus, waits}
-use Rattle.cal_policy.specs.Assured.Short.{waits_short, are_lacked}
+use Rattle.cal_policy.specs.Assured.Short.{is_short, lacks, needs, is_open, surplus}
+use Rattle.cal_policy.specs.Assured.Short.{waits, waits_short}
 use Rattle.cal_policy.specs.Setting.{Setting, so_far, is_held_with_room}
 
 -- a core that is owed to this task is kept from task t, which is not short: the task is another and
@@ -26,18 +30,17 @@ is_kept_for s x t None = false
 is_kept_for s x t (Some u) = not (u == t) && waits s x u
 
 -- core c, which is owed to this task, is kept from task t, which is short: the task is another, is
--- short too and waits, and fewer lower cores are owed to it than it lacks
+-- short too and waits, and fewer lower cores are owed to it than it needs
 abbrev pub is_kept_for_short : Setting → List Action → ℕ → ℕ → Option ℕ → Bool
 is_kept_for_short s x t c None = false
 is_kept_for_short s x t c (Some u) = not (u == t) && waits_short s x u
-    && nat_lt (owed_below x u c) (lacks s.table x u)
+    && nat_lt (owed_below x u c) (needs s x u)
 
--- the open core c is kept from task t: from one that is not short each of them, where they are
--- lacked
+-- the open core c is kept from task t
 abbrev pub is_kept : Setting → List Action → ℕ → ℕ → Bool
 is_kept s x t c =
     if is_short s.table x t then is_kept_for_short s x t c (owed_to x c)
-    else are_lacked s x || is_kept_for s x t (owed_to x c)
+    else is_kept_for s x t (owed_to x c)
 
 -- task t may take core c: it is open, and not kept from the task
 abbrev pub may_take : Setting → List Action → ℕ → ℕ → Bool
@@ -58,13 +61,18 @@ abbrev pub open_choice : Setting → List Action → ℕ → Option (Candidate C
 open_choice s x t = option_or (best_below comes_before (owed_class s x t) s.table.cores)
     (best_below comes_before (open_class s x t) s.table.cores)
 
+-- fewer cores are coming to task t than it lacks: then it is short
+abbrev pub fewer_come : Setting → List Action → ℕ → Bool
+fewer_come s x t = nat_lt (coming s x t) (lacks s.table x t)
+
 -- the class of a core that another task holds: its holder's ring has room, and the core was not
--- granted in this pass
+-- granted in this pass; from a latency-critical task only where fewer cores are coming than are lacked
 abbrev pub held_class : Setting → List Action → ℕ → ℕ → Holder → Option CoreClass
 held_class s acts t c holders.Free = None
 held_class s acts t c (holders.Held placement) =
     if is_held_with_room s (holders.Held placement) && not (is_granted_in acts c)
-    then preempt_class s.table (so_far s acts) t (owner_of s.table placement.thread) else None
+    then preempt_class s.table (so_far s acts) t (fewer_come s (so_far s acts) t)
+    (owner_of s.table placement.thread) else None
 held_class s acts t c (holders.Leaving placement cause) = None
 
 -- of those the one of the least class, the lowest of those
@@ -72,14 +80,34 @@ abbrev pub held_choice : Setting → List Action → ℕ → Option (Candidate C
 held_choice s acts t = best_below comes_before
     (λ c. held_class s acts t c (holder_of (so_far s acts) c)) s.table.cores
 
--- a core may be revoked for task t: it is latency-critical, and more of its threads press than cores
--- are coming to it and helpers on their way
+-- what an action does for task t: a core that it grants to a thread of the task, or revokes for it
+abbrev pub core_for : Table → ℕ → List Action → Action → Option ℕ
+core_for table t before (Grant core thread class) =
+    if owner_of table thread == t then Some core else None
+core_for table t before (Revoke core cause) = if is_for t cause then Some core else None
+core_for table t before (Free core) = None
+core_for table t before (Unban core) = None
+core_for table t before (Ban core thread started) = None
+core_for table t before (Cap task cap) = None
+
+-- task t has acted: among these actions is one for it
+abbrev pub has_acted : Table → List Action → ℕ → Bool
+has_acted table acts t = is_some (last_of (core_for table t) acts)
+
+-- more threads of task t press than cores are coming to it and helpers on their way
+abbrev pub more_press : Setting → List Action → ℕ → Bool
+more_press s x t = nat_lt (coming s x t + surplus s x t) (pressing s x t)
+
+-- a core may be revoked for task t: it is latency-critical, more of its threads press than cores are
+-- coming to it and helpers on their way, and it has not acted in this pass, or fewer are coming than it
+-- lacks
 abbrev pub may_preempt : Setting → List Action → ℕ → Bool
-may_preempt s x t =
-    is_latency_critical s.table t && nat_lt (coming s x t + surplus s x t) (pressing s x t)
+may_preempt s acts t =
+    is_latency_critical s.table t && more_press s (so_far s acts) t
+    && (not (has_acted s.table acts t) || fewer_come s (so_far s acts) t)
 
 -- the choice for task t: a core that it may take; where there is none, and one may be revoked for
 -- it, one that another task holds
 abbrev pub choice_for : Setting → List Action → ℕ → Option (Candidate CoreClass)
 choice_for s acts t = option_or (open_choice s (so_far s acts) t)
-    (if may_preempt s (so_far s acts) t then held_choice s acts t else None)
+    (if may_preempt s acts t then held_choice s acts t else None)

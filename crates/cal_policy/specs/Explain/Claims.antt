@@ -7,7 +7,6 @@ use Rattle.cal_policy.specs.declared.explain.claims.Lateness.{Lateness}
 use Rattle.cal_policy.specs.declared.explain.claims.Shortage.{Shortage}
 use Rattle.cal_policy.specs.declared.explain.keeping.Keeping.{Keeping}
 use Rattle.cal_policy.specs.declared.explain.keeping.Keeping.TheVariants as keepings
-use Rattle.cal_policy.specs.Assured.AtTurn.{is_lacked_by_others}
 use Rattle.cal_policy.specs.Assured.InFlight as flight
 use Rattle.cal_policy.specs.Assured.Owed.{owed_to}
 use Rattle.cal_policy.specs.Assured.Short as short
@@ -34,22 +33,19 @@ pub record IsClaim (s : Setting) (x : List Action) (t : ℕ) (claim : Claim) : T
 pub record IsShortage (s : Setting) (x : List Action) (state : Shortage) : Type 0 where
   pub some_waits : state.some_waits ≡ short.some_waits_short s x
   pub open_cores : state.open_cores ≡ short.open_cores s.table x
-  pub lacking : state.lacking ≡ short.lacking s.table x
+  pub lacking : state.lacking ≡ short.lacking s x
   pub are_lacked : state.are_lacked ≡ short.are_lacked s x
   pub are_wanted : state.are_wanted ≡ short.are_wanted s x
 
 -- the answer says that the core is kept
 abbrev pub keeps : Keeping → Bool
 keeps keepings.NotKept = false
-keeps keepings.Lacked = true
 keeps (keepings.OwedTo task) = true
 
 -- what holds of core c and task t by this answer
 abbrev pub KeptBy : Setting → List Action → ℕ → ℕ → Keeping → Type 0
 KeptBy s x t c keepings.NotKept = Unit {0}
-KeptBy s x t c keepings.Lacked = is_lacked_by_others s x t ≡ true
-KeptBy s x t c (keepings.OwedTo task) =
-    (is_lacked_by_others s x t ≡ false) × (owed_to x c ≡ Some task)
+KeptBy s x t c (keepings.OwedTo task) = owed_to x c ≡ Some task
 
 -- the answer says whether core c, if it is open, is kept from task t, and why
 pub record IsKeeping (s : Setting) (x : List Action) (t c : ℕ) (keeping : Keeping) : Type 0 where

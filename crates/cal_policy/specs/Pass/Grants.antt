@@ -100,15 +100,18 @@ idle_class table t beside last =
     else if is_thread_for table t last then classes.RecentlyUsed else classes.OtherIdle
 
 -- the class of a core that another task holds, as far as that task goes: BestEffortBurstable of a
--- best-effort task; LatencyCriticalBurstable of a latency-critical one that is over, where t has
--- booked less than it is guaranteed
-abbrev pub preempt_class : Table → List Action → ℕ → ℕ → Option CoreClass
-preempt_class table x t other =
+-- best-effort task; LatencyCriticalBurstable of a latency-critical one that is over, where `critical`
+-- says that t may take from such
+abbrev pub preempt_class : Table → List Action → ℕ → Bool → ℕ → Option CoreClass
+preempt_class table x t critical other =
     if not (is_latency_critical table other) then Some classes.BestEffortBurstable
-    else if nat_lt (booked_by table x t)
-    (guaranteed_of table t) && not (other == t) && is_over table x other
+    else if critical && not (other == t) && is_over table x other
     then Some classes.LatencyCriticalBurstable
     else None
+
+-- task t has booked less than it is guaranteed
+abbrev pub books_less : Table → List Action → ℕ → Bool
+books_less table x t = nat_lt (booked_by table x t) (guaranteed_of table t)
 
 -- a held core may be preempted for task t: t is latency-critical, the holder's ring has room, the
 -- core was not granted in this pass, and no core is being left for t
@@ -125,7 +128,8 @@ class_by s acts t c holders.Free =
     (last_thread (so_far s acts) c))
 class_by s acts t c (holders.Held placement) =
     if may_preempt s acts t c (holders.Held placement)
-    then preempt_class s.table (so_far s acts) t (owner_of s.table placement.thread) else None
+    then preempt_class s.table (so_far s acts) t (books_less s.table (so_far s acts) t)
+    (owner_of s.table placement.thread) else None
 class_by s acts t c (holders.Leaving placement cause) = None
 
 -- the class of core c for task t: the first that applies, if any
