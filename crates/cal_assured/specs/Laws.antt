@@ -48,7 +48,7 @@ pub record WaitsBesideOpen (s : Setting) (core t : ℕ) : Type 0 where
   pub legal : IsLegal s.table s.history
   pub input : IsInput s.table s.history s.input
   pub low : core < s.table.cores
-  pub open : is_open (so_far s (pass_of s)) core ≡ true
+  pub spare : is_open (so_far s (pass_of s)) core ≡ true
   pub own : t < length s.table.tasks
   pub waiting : waits s (so_far s (pass_of s)) t ≡ true
   pub ungiven : NoneGrantedTo s.table (pass_of s) t

@@ -6,3 +6,4 @@ pub mod Collecting
 pub mod Outcome
 pub mod Closing
 pub mod Limits
+pub mod Lockstep
