@@ -7,7 +7,7 @@ use Rattle.cal_policy.specs.declared.explain.turn.Turn.{Turn}
 use Rattle.cal_policy.specs.declared.explain.turn.Turn.TheVariants.{Free, Unban, Ban, Bandwidth}
 use Rattle.cal_policy.specs.declared.explain.turn.Turn.TheVariants.{LatencyCritical, BestEffort}
 use Rattle.cal_policy.specs.declared.explain.turn.Turn.TheVariants.{Placed, End}
-use Rattle.cal_policy.specs.Assured.Grants.{grant_in_place, grants_of_first}
+use Rattle.cal_policy.specs.Assured.Grants.{turn_in_place, grants_of_first}
 use Rattle.cal_policy.specs.Assured.Hyperthreads.{unban_at, bans_at, bans}
 use Rattle.cal_policy.specs.Assured.Order.{task_in_place}
 use Rattle.cal_policy.specs.Assured.Pass.{unbanned_of, bounded_of, pass_of}
@@ -55,7 +55,7 @@ made_in s acts (Ban core) = bans_at s acts core
 made_in s acts Bandwidth = bandwidth_part s acts
 made_in s acts (LatencyCritical task) = []
 made_in s acts (BestEffort task) = []
-made_in s acts (Placed place) = grant_in_place s acts (placed_task s place)
+made_in s acts (Placed place) = turn_in_place s acts (placed_task s place)
 made_in s acts End = []
 
 -- the task in each place of the order, as it is where the actions acts of the pass are made
