@@ -17,9 +17,10 @@ mod worked;
 pub use histories::{nothing_is_legal, one_pass_more_is_legal, prefixes_are_legal};
 pub use order::{places_have_their_task, tasks_have_their_place, turns_are_in_order};
 pub use passes::{
-    bans_end_for_what_is_lacked, bans_leave_what_is_lacked, no_core_is_revoked_twice,
-    others_take_what_is_not_lacked, owed_cores_are_kept, revocations_have_cause,
-    the_later_comes_first,
+    bans_end_for_what_is_lacked, bans_give_way_to_what_is_lacked, bans_leave_what_is_lacked,
+    no_core_is_revoked_twice, no_more_is_taken_than_is_lacked, nothing_is_kept_from_everybody,
+    owed_cores_are_kept, revocations_have_cause, short_tasks_act_to_the_end,
+    tasks_act_once_or_while_short, the_fewest_held_comes_first, the_later_comes_first,
 };
 pub use rings::rings_have_room;
 pub use worked::{bans_are_as_worked, flight_is_as_worked, kept_is_as_worked, order_is_as_worked};

@@ -1,27 +1,52 @@
 //! Laws of one pass, each at its own place.
 
-ghost use Rattle.cal_assured.specs.Laws.{OthersTakeWhatIsNotLacked, OwedCoresAreKept};
+ghost use Rattle.cal_assured.specs.Laws.{NothingIsKeptFromEverybody, NoMoreIsTakenThanIsLacked};
+ghost use Rattle.cal_assured.specs.Laws.{TasksActOnceOrWhileShort, ShortTasksActToTheEnd};
+ghost use Rattle.cal_assured.specs.Laws.{BansGiveWayToWhatIsLacked, TheFewestHeldComesFirst};
+ghost use Rattle.cal_assured.specs.Laws.{OwedCoresAreKept};
 ghost use Rattle.cal_assured.specs.Laws.{NoCoreIsRevokedTwice, BansLeaveWhatIsLacked};
 ghost use Rattle.cal_assured.specs.Laws.{BansEndForWhatIsLacked, TheLaterComesFirst};
 ghost use Rattle.cal_assured.specs.Laws.{RevocationsHaveCause};
 
 use cal_policy::laws::action_is_one_more;
 
-/// A task that is not short is granted a core only where no short task waits, or more cores are
-/// open than are lacking.
-pub fn others_take_what_is_not_lacked()
-    ensures { OthersTakeWhatIsNotLacked }
+/// If a core is open after a pass, and a task waits that was granted none in it, then the core is
+/// owed to another task, which was granted one in it.
+pub fn nothing_is_kept_from_everybody()
+    ensures { NothingIsKeptFromEverybody }
+{}
+
+/// A core that a latency-critical task holds is revoked for another only where fewer cores are
+/// coming to this one than it lacks.
+pub fn no_more_is_taken_than_is_lacked()
+    ensures { NoMoreIsTakenThanIsLacked }
+{}
+
+/// A task acts once in a pass, or while it is short; and no core is revoked for one that has acted
+/// unless fewer are coming to it than it lacks.
+pub fn tasks_act_once_or_while_short()
+    ensures { TasksActOnceOrWhileShort }
+{}
+
+/// At the end of its turn a task that was short is not short, does not wait, or finds nothing to do.
+pub fn short_tasks_act_to_the_end()
+    ensures { ShortTasksActToTheEnd }
+{}
+
+/// A ban that its thread still shows ends only where fewer cores are open than are lacking.
+pub fn bans_give_way_to_what_is_lacked()
+    ensures { BansGiveWayToWhatIsLacked }
 {}
 
 /// A core that was revoked for a task and is free is granted to another only where that task does
 /// not wait; or where the other is short, and the task is not, or as many lower cores are owed to
-/// it as it lacks.
+/// it as it needs.
 pub fn owed_cores_are_kept()
     ensures { OwedCoresAreKept }
 {}
 
 /// A core is revoked for a task only where more of its threads are late, and not in flight, than
-/// cores are coming to it.
+/// cores are coming to it and helpers that count are on their way.
 pub fn no_core_is_revoked_twice()
     ensures { NoCoreIsRevokedTwice }
 {}
@@ -44,6 +69,13 @@ pub fn bans_end_for_what_is_lacked()
 /// later one did not wait or might take no open core.
 pub fn the_later_comes_first()
     ensures { TheLaterComesFirst }
+{}
+
+/// Of two best-effort tasks: if one is granted a core, and the other, which held fewer where the
+/// grants began, was granted none before it in this pass, then at its turn that other did not wait or
+/// might take no open core.
+pub fn the_fewest_held_comes_first()
+    ensures { TheFewestHeldComesFirst }
 {}
 
 /// Each revocation of a pass is for what its cause says.

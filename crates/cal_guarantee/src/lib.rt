@@ -11,8 +11,12 @@
 mod guarantee;
 mod one_pass;
 
-pub use guarantee::{first_and_last_are_enough, guarantees_are_given, the_bound_is_reached};
+pub use guarantee::{
+    each_bound_is_reached, first_and_last_are_enough, guarantees_are_given,
+    guarantees_are_given_or_met, guarantees_are_given_whole, honest_waits_stay,
+    the_bound_is_reached,
+};
 pub use one_pass::{
-    few_cores_are_kept, open_cores_come, owed_cores_come, short_lasts_to_the_turn,
-    waits_last_to_the_grants, waits_last_to_the_turn,
+    cores_come_or_none_is_over, nothing_is_left_open, open_cores_come, owed_cores_come,
+    short_lasts_to_the_turn, waits_last_to_the_grants, waits_last_to_the_turn,
 };

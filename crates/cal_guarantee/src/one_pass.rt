@@ -1,8 +1,9 @@
 //! One pass: a short task that waits does so up to its own turn; and how cores come to it.
 
 ghost use Rattle.cal_guarantee.specs.OnePass.{ShortLastsToTheTurn, WaitsLastToTheGrants};
-ghost use Rattle.cal_guarantee.specs.OnePass.{WaitsLastToTheTurn, FewCoresAreKept};
-ghost use Rattle.cal_guarantee.specs.OnePass.{OpenCoresCome, OwedCoresCome};
+ghost use Rattle.cal_guarantee.specs.OnePass.{WaitsLastToTheTurn, OpenCoresCome};
+ghost use Rattle.cal_guarantee.specs.OnePass.{OwedCoresCome, NothingIsLeftOpen};
+ghost use Rattle.cal_guarantee.specs.OnePass.{CoresComeOrNoneIsOver};
 
 /// Whether a task is short is the same after the first part of a pass and at its own turn.
 pub fn short_lasts_to_the_turn()
@@ -20,21 +21,25 @@ pub fn waits_last_to_the_turn()
     ensures { WaitsLastToTheTurn }
 {}
 
-/// If a short task may take no open core, then fewer cores are open than are lacking: of each other
-/// short task that waits, at most as many are kept from it as that one lacks.
-pub fn few_cores_are_kept()
-    ensures { FewCoresAreKept }
-{}
-
-/// A task is short and waits where the grants begin. If as many cores were open as were lacking
-/// after the second part of the pass, the pass grants the task one: no ban takes a core that is
-/// lacking, and neither does a task that is not short.
+/// A task is short and waits where the grants begin, and rings have room. If as many cores are open
+/// there as are lacking, the pass grants the task as many as it needs.
 pub fn open_cores_come()
     ensures { OpenCoresCome }
 {}
 
-/// A task is short and waits where the grants begin. If a core was owed to it after the first part
-/// of the pass, the pass grants the task one.
+/// So it does of the cores that are owed to it, or it grants it all of them.
 pub fn owed_cores_come()
     ensures { OwedCoresCome }
+{}
+
+/// If it still is short and waits at the end of the pass, then no core is open there, and only short
+/// tasks were granted cores.
+pub fn nothing_is_left_open()
+    ensures { NothingIsLeftOpen }
+{}
+
+/// And then cores are coming to it for all that it needed and was not granted, or no task holds more
+/// than it is guaranteed.
+pub fn cores_come_or_none_is_over()
+    ensures { CoresComeOrNoneIsOver }
 {}
