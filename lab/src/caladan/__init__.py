@@ -1,0 +1,46 @@
+"""Many runs of the core scheduler of Caladan: comparisons, sweeps, frames and pictures over the proved programs.
+
+One input has one exact answer, which caladan_view and caladan_sim give. Questions about many runs, such as loads, seeds,
+tables and policies side by side, are asked here.
+
+    table = caladan.Table.read("service.toml", names=["kv", "batch"], tick="us")
+    run = table.run(task="kv", load=0.7, service="90%:1,10%:20", turns=2000, seed=7)
+    run.requests                            a row for each request: when it came, was begun and answered
+    run.numbers.loc["response 99 of 100 [us]"]
+    run.spans, run.series                   which thread had which core; how each task stands in each pass
+    print(run.explain(12))                  why pass 12 does what it does
+    caladan.compare(run, vary={"kv.delay": [10, 40]}).frame
+    answer = caladan.sweep(table, [0.3, 0.6, 0.9], task="kv", seeds=10, slo="kv.p99=400")
+    answer.frame, answer.is_kept, answer.misses
+
+A Table knows what its tasks are called and what a tick is, a Run also its seed and the words that made it; frames say the
+unit with each time, and are made once each. What the program refuses is a caladan.Refusal with its line. The program is
+that of CALADAN_VIEW, else the one of the checkout or the release that the package is in, else the one in the PATH; it
+must be of the same version. caladan.core has the decision core itself, over the C library.
+
+Two things the program does not tell yet, so they are made here: what another table gets of given arrivals (moving.py),
+and the requests of a load in cores that several tables share (drawing.py). Where thousandths leave the share of best
+effort open, it is counted from the run's spans (shares.py)."""
+from __future__ import annotations
+
+from typing import TYPE_CHECKING, Any
+
+__version__ = "4"
+__all__ = ["Answer", "Refusal", "Run", "Table", "compare", "core", "sweep"]
+
+if TYPE_CHECKING:
+    from . import core
+    from .lab import Answer, Run, Table, compare, sweep
+    from .refusal import Refusal
+
+
+def __getattr__(name: str) -> Any:
+    """What is imported once it is used: the command line needs none of it."""
+    import importlib
+    if name == "core":
+        return importlib.import_module(".core", __name__)
+    if name == "Refusal":
+        return importlib.import_module(".refusal", __name__).Refusal
+    if name in __all__:
+        return getattr(importlib.import_module(".lab", __name__), name)
+    raise AttributeError(f"module {__name__!r} has no attribute {name!r}")

@@ -1,0 +1,98 @@
+"""Arrivals that the program has accepted, and files of when their requests came."""
+from __future__ import annotations
+
+import csv
+import io
+from dataclasses import dataclass
+from typing import Iterable, Iterator, NamedTuple, Optional, Sequence
+
+
+class Request(NamedTuple):
+    """A request: its thread, the turn before which it comes, its id, its turns of work and their misses."""
+
+    thread: int
+    turn: int
+    id: int
+    work: int
+    misses: int
+
+
+@dataclass(frozen=True)
+class Arrivals:
+    """The passes, each with its clock and its bandwidth figure; the clocks of the turns; and the requests, by threads and
+    then by turns."""
+
+    passes: tuple[tuple[int, int], ...]
+    turns: tuple[int, ...]
+    requests: tuple[Request, ...]
+
+    @property
+    def have_misses(self) -> bool:
+        return any(it.misses for it in self.requests)
+
+    def text(self) -> bytes:
+        """The arrivals as the program writes them."""
+        rows = [f"pass,{clock},{figure}" for clock, figure in self.passes]
+        rows += [f"turn,{clock}" for clock in self.turns]
+        rows += [f"request,{it.thread},{it.turn},{it.id},{it.work},{it.misses}" for it in self.requests]
+        return "\n".join(["caladan-arrivals,1", *rows, f"end,{len(rows)}", ""]).encode()
+
+
+def rows_of(text: bytes) -> Iterator[list[str]]:
+    """The rows of a CSV of the program's kind; blank lines are none."""
+    told = text.removeprefix(b"\xef\xbb\xbf").decode("latin-1")
+    if '"' in told or "\r" in told:
+        yield from filter(None, csv.reader(io.StringIO(told, newline="")))
+        return
+    yield from (line.split(",") for line in told.split("\n") if line)
+
+
+def arrivals_of(text: bytes) -> Arrivals:
+    """The arrivals of a text."""
+    rows: dict[str, list[list[int]]] = {"pass": [], "turn": [], "request": [], "end": []}
+    for word, *fields in list(rows_of(text))[1:]:
+        rows[word].append([int(it) for it in fields])
+    passes = tuple((clock, figure) for clock, figure in rows["pass"])
+    return Arrivals(passes, tuple(clock for clock, in rows["turn"]), tuple(map(Request._make, rows["request"])))
+
+
+@dataclass(frozen=True)
+class Comings:
+    """To which turn each request of some arrivals came, in their order, and how many of each task are left out."""
+
+    turns: tuple[int, ...]
+    left_out: dict[int, int]
+
+    def text(self, requests: Iterable[Request]) -> bytes:
+        """The file that tells it."""
+        rows = [f"{it.id},{turn}" for it, turn in zip(requests, self.turns)]
+        rows += [f"left out,{task},{many}" for task, many in sorted(self.left_out.items()) if many]
+        return "\n".join(["id,turn", *rows, ""]).encode()
+
+
+def own_comings(arrivals: Arrivals) -> Comings:
+    """Each request as one that came to the turn that it is given for."""
+    return Comings(tuple(it.turn for it in arrivals.requests), {})
+
+
+def comings_of(text: bytes) -> Comings:
+    """The comings of a file that the program has accepted."""
+    turns: list[int] = []
+    left_out: dict[int, int] = {}
+    for row in list(rows_of(text))[1:]:
+        if row[0] == "left out":
+            left_out.setdefault(int(row[1]), int(row[2]))
+        else:
+            turns.append(int(row[1]))
+    return Comings(tuple(turns), left_out)
+
+
+def is_some_within(arrivals: Arrivals, comings: Comings, first: Optional[int], after: Optional[int]) -> bool:
+    """Whether a request came from one turn on and before another, by their clocks; from a turn that there is not none
+    did."""
+    clocks: Sequence[int] = arrivals.turns
+    if first is not None and first >= len(clocks):
+        return False
+    begin = 0 if first is None else clocks[first]
+    end = clocks[after] if after is not None and after < len(clocks) else None
+    return any(begin <= clocks[it] and (end is None or clocks[it] < end) for it in comings.turns)

@@ -1,0 +1,98 @@
+"""The command line: `caladan_lab compare`, `sweep` and `timeline`."""
+from __future__ import annotations
+
+import os
+import signal
+import sys
+from types import FrameType
+from typing import Optional, Sequence
+
+from .files import of_file, say, write_all
+from .programs import ASKING, Interrupted
+from .refusal import Refusal
+from .words.asked import LAB
+from .words.help import help_of
+from .words.parsing import Asked, read_words
+from .words.refusals import Mistake, Shown
+
+NOT_TEXT = "\ufffd"
+
+
+def answer(asked: Asked) -> int:
+    """Does what the words ask for."""
+    word = asked.command.name
+    if word == "sweep":
+        from .sweeps.command import sweep
+        return sweep(asked)
+    if word == "compare":
+        from .comparisons.command import compare
+        return compare(asked)
+    if word == "timeline":
+        from .timeline import timeline
+        return timeline(asked)
+    say(help_of(LAB, False))
+    return 2
+
+
+def is_text(word: str) -> bool:
+    """Whether a word is text. Where one is not, the words are refused, whichever stands before it."""
+    try:
+        word.encode()
+    except UnicodeEncodeError:
+        return False
+    return True
+
+
+def shown(text: str) -> int:
+    """Writes help or the version."""
+    try:
+        write_all(1, text.encode())
+    except OSError as fault:
+        raise of_file("write", fault, 3) from None
+    return 0
+
+
+def run(words: Sequence[str]) -> int:
+    """Does what the command line says; what is refused is told on the standard error."""
+    try:
+        try:
+            return answer(read_words(LAB, words if all(map(is_text, words)) else [NOT_TEXT]))
+        except Shown as it:
+            return shown(str(it))
+    except Mistake as mistake:
+        say(str(mistake))
+        return 2
+    except Refusal as refusal:
+        say(refusal.said)
+        return refusal.status
+    except MemoryError:
+        say(Refusal("memory").said)
+        return 3
+
+
+def stop(number: int, _: Optional[FrameType]) -> None:
+    """What a signal does: all that runs is ended, and then this program by that signal."""
+    raise Stopped(number)
+
+
+class Stopped(BaseException):
+    """A signal that ends the program."""
+
+    def __init__(self, number: int) -> None:
+        super().__init__(number)
+        self.number = number
+
+
+def main() -> int:
+    """Does what the command line says. A signal leaves no process and no file."""
+    for each in (signal.SIGINT, signal.SIGTERM, signal.SIGHUP):
+        if signal.getsignal(each) is not signal.SIG_IGN:
+            signal.signal(each, stop)
+    try:
+        return run(sys.argv[1:])
+    except (Stopped, Interrupted) as fault:
+        ASKING.end()
+        number = fault.number if isinstance(fault, Stopped) else signal.SIGINT
+        signal.signal(number, signal.SIG_DFL)
+        os.kill(os.getpid(), number)
+        return 3

@@ -1,0 +1,1 @@
+"""Runs of several tables on the same arrivals."""

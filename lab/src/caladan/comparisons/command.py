@@ -1,0 +1,139 @@
+"""The word `compare`."""
+from __future__ import annotations
+
+from dataclasses import replace
+from typing import Optional, Sequence
+
+from ..arrivals import is_some_within
+from ..files import STANDARD, Output, Source, joined, read_named
+from ..labels import Labels, names_of, table_names
+from ..moving import Given, HandMover, Mover, NoTask
+from ..plans import plan_of
+from ..pool import each
+from ..programs import viewer
+from ..refusal import Refusal
+from ..tables import SEPARATOR, Machine
+from ..varying import Variations, setting_text, varied, variations_of
+from ..words.parsing import Asked
+from ..words.refusals import Mistake, with_usage
+from .given import Reading, parts_of
+from .runs import Runs, Terms
+from .sheet import CompareSheet
+
+VARY = "--vary <KEY=V1,V2,..>"
+ARRIVALS = "--arrivals <FILE>"
+NONE_CAME = "no request came within the turns of --from and --to"
+
+
+def mistake(asked: Asked) -> Optional[Mistake]:
+    """Why words that stand one by one make no comparison, if they make none."""
+    files, has_arrivals, vary = len(asked.all("tables")), asked.has("arrivals"), asked.all("vary")
+    if any("=" not in it for it in vary):
+        return with_usage(asked.command, f"the value of '{VARY}' has no '='")
+    if not has_arrivals and files > 1:
+        return with_usage(asked.command, f"several files are tables, and '{ARRIVALS}' is not there")
+    if has_arrivals and not files:
+        return with_usage(asked.command, f"'{ARRIVALS}' is there, and no file of a table")
+    if files > 1 and vary:
+        return with_usage(asked.command, f"the argument '{VARY}' cannot be used with several tables")
+    return None
+
+
+def refuse_two_inputs(names: Sequence[Optional[str]]) -> None:
+    """Refuses two files that are the standard input."""
+    if sum(it is None or it == STANDARD for it in names) > 1:
+        raise Refusal("two of the files are the standard input")
+
+
+class Comparison:
+    """A comparison that words ask for: its input is opened as soon as the words are read, as is its output."""
+
+    def __init__(self, asked: Asked) -> None:
+        self.asked = asked
+        self.names = names_of(asked.one("names"))
+        arrivals, files = asked.one("arrivals"), asked.all("tables")
+        self.files = files if arrivals is not None else []
+        self.came_name = asked.one("came")
+        named = arrivals if arrivals is not None else asked.one("tables")
+        self.input_name = None if named == STANDARD else named
+        refuse_two_inputs([self.input_name, *([self.came_name] if self.came_name else []), *self.files])
+        self.front = joined(self.files)
+        self.source = Source(self.input_name)
+        output = asked.one("output")
+        self.output = Output(None if output == STANDARD else output)
+
+    def text(self) -> bytes:
+        """The answer."""
+        variations = variations_of(self.asked.all("vary"), self.names)
+        given = self.source.read(self.front)
+        came = None if self.came_name is None else (self.came_name, read_named(self.came_name))
+        parts = parts_of(given, bool(variations), self.files, self.input_name)
+        labels = Labels(self.names, self.asked.one("tick") or "", table_names(self.files))
+        return answer(self.asked, Reading(viewer(self.asked.one("program")), given, parts, bool(variations)),
+                      variations, labels, came)
+
+
+def terms_of(asked: Asked) -> Terms:
+    """By what runs are made and counted."""
+    return Terms(tuple(asked.all("policy") or ["caladan"]), plan_of(asked), asked.one("from"), asked.one("to"))
+
+
+def refuse_empty_window(asked: Asked, given: Given) -> None:
+    """Refuses turns to which no request came."""
+    first, after = asked.number("from"), asked.number("to")
+    if first is None and after is None:
+        return
+    if not is_some_within(given.arrivals, given.comings, first, after):
+        raise Refusal(NONE_CAME)
+
+
+def answer(asked: Asked, reading: Reading, variations: Variations, labels: Labels,
+           came: Optional[tuple[str, bytes]] = None) -> bytes:
+    """What is written of a comparison of an input, with the file of when its requests came, by its name."""
+    terms = terms_of(asked)
+    machines, arrivals = reading.read(labels.names, terms.plan)
+    if variations:
+        machines = varied(reading.view, machines[0], variations, each)
+    table = asked.number("write-input")
+    if table is not None:
+        return input_text(machines, arrivals, variations, table)
+    if came is not None:
+        reading.check_comings(*came)
+        arrivals = replace(arrivals, came=came[1])
+    refuse_empty_window(asked, arrivals)
+    names = [table_name(variations, it) for it in range(len(machines))]
+    runs = Runs(reading.view, terms, machines, HandMover(arrivals), names).all()
+    sheet = CompareSheet(runs, terms.policies, variations, labels, came is not None, asked.has("csv"))
+    return sheet.written().encode("utf-8", "surrogateescape")
+
+
+def table_name(variations: Variations, table: int) -> str:
+    """What a fault calls a table."""
+    return setting_text(variations, table) if variations else f"table {table}"
+
+
+def input_text(machines: Sequence[Machine], given: Given, variations: Variations, table: int) -> bytes:
+    """The input of the run of one of the tables, with the arrivals that it gets."""
+    if table >= len(machines):
+        raise Refusal(f"table {table} is not there: there are {len(machines)}, from 0")
+    mover: Mover = HandMover(given)
+    try:
+        moved = mover.moved(machines[table])
+    except NoTask as fault:
+        raise Refusal(f"{table_name(variations, table)} {fault.line}") from None
+    arrivals = given.arrivals.text() if moved.arrivals == given.text else moved.arrivals
+    return machines[table].text() + SEPARATOR + arrivals
+
+
+def compare(asked: Asked) -> int:
+    """Does what the words after `compare` ask for; answers the exit status."""
+    wrong = mistake(asked)
+    if wrong is not None:
+        raise wrong
+    comparison = Comparison(asked)
+    text = comparison.text()
+    if comparison.output.is_later:
+        comparison.output.keep(text)
+    else:
+        comparison.output.put(text)
+    return 0

@@ -1,0 +1,237 @@
+"""Runs for a notebook: a Table makes a Run, several are compared or swept, and what came of them are frames. Each value
+carries its unit, its seed and the words by which the program made it; every number is the program's, read once."""
+from __future__ import annotations
+
+import functools
+import io
+import os
+from dataclasses import dataclass, field, replace
+from typing import TYPE_CHECKING, Iterable, Mapping, Optional, Sequence, Union
+
+from .comparisons.command import answer as compared
+from .comparisons.given import Reading, parts_of
+from .files import read_named
+from .labels import Labels, names_of
+from .programs import Came, Text, Viewer, Word, simulator, viewer
+from .sweeps.command import answer as swept
+from .sweeps.command import asked_of, table_of
+from .tables import SEPARATOR, Machine, table_part
+from .varying import variations_of
+from .words.asked import LAB
+from .words.parsing import Asked, read_words
+
+if TYPE_CHECKING:
+    import pandas
+
+Value = Union[str, int, float]
+Option = Union[Value, bool, None, Iterable[Value]]
+Keys = Mapping[str, Iterable[Value]]
+
+
+def words_of(options: Mapping[str, Option]) -> list[str]:
+    """The words of options: a list is given again for each, True is a flag, and None is not there."""
+    words: list[str] = []
+    for name, value in options.items():
+        flag = f"--{name.replace('_', '-')}"
+        if value is True:
+            words.append(flag)
+        elif value is None or value is False:
+            continue
+        elif isinstance(value, (str, int, float)):
+            words += [flag, str(value)]
+        else:
+            words += [word for it in value for word in (flag, str(it))]
+    return words
+
+
+def vary_words(vary: Optional[Keys]) -> list[str]:
+    """The words for keys with their values. A kind is written in quotes."""
+    def shown(key: str, value: Value) -> str:
+        return f'"{value}"' if key.endswith(".kind") and not str(value).startswith('"') else str(value)
+    return [word for key, values in (vary or {}).items()
+            for word in ("--vary", f"{key}={','.join(shown(key, it) for it in values)}")]
+
+
+def frame_of(csv: bytes, tick: str, index: Optional[str] = None) -> pandas.DataFrame:
+    """A frame of the program's CSV, in which ticks have their unit."""
+    import pandas
+    text = csv.decode().replace("[ticks]", f"[{tick}]") if tick else csv.decode()
+    frame = pandas.read_csv(io.StringIO(text))
+    return frame.set_index(index) if index else frame
+
+
+@dataclass(frozen=True)
+class Table:
+    """A task table: its text, what its tasks are called, the unit of a tick (ns, us, ms or s; none where that is not
+    said), and the program that runs it. Refusal where the program refuses it."""
+
+    text: bytes
+    names: tuple[str, ...] = ()
+    tick: str = ""
+    program: str = ""
+
+    @classmethod
+    def read(cls, file: Union[str, "os.PathLike[str]"], names: Sequence[str] = (), tick: str = "",
+             program: str = "") -> "Table":
+        """The table of a file; of an input what stands before its first line ---."""
+        return cls(table_part(read_named(os.fspath(file))), tuple(names), tick, program)
+
+    @functools.cached_property
+    def view(self) -> Viewer:
+        return viewer(self.program)
+
+    @functools.cached_property
+    def machine(self) -> Machine:
+        """The cores, the bandwidth limit and the tasks, as the program read them."""
+        return table_of(self.view, self.text)
+
+    def __repr__(self) -> str:
+        tasks = ", ".join(f"{self.labels.task(n)} {it.kind} limit {it.limit}" for n, it in enumerate(self.machine.tasks))
+        return f"<Table, {self.machine.cores} cores: {tasks}>"
+
+    @property
+    def labels(self) -> Labels:
+        return Labels(self.names, self.tick)
+
+    def with_values(self, values: Mapping[str, Value]) -> "Table":
+        """The table with these values at keys, as `task.0.delay`."""
+        return replace(self, text=self.machine.text({key: str(it) for key, it in values.items()}))
+
+    def run(self, policy: str = "caladan", plan: Optional[Mapping[str, Option]] = None, **arrivals: Option) -> "Run":
+        """The run on the arrivals that `caladan_view arrivals` makes by these options, such as task=0, load=0.7,
+        service="90%:1,10%:20", turns=2000, seed=7; or log=.., unit=.., turn=.. for those of a log."""
+        words = ["arrivals", *words_of({**({"names": ",".join(self.names)} if self.names else {}), **arrivals})]
+        ran = self.view.told([*words, "--came", Came()], self.text)
+        return Run(self, ran.out, ran.came, tuple(words), policy, tuple(words_of(plan or {})))
+
+    def run_of(self, arrivals: Union[str, "os.PathLike[str]"], policy: str = "caladan",
+               plan: Optional[Mapping[str, Option]] = None) -> "Run":
+        """The run on the arrivals of a file."""
+        return Run(self, read_named(os.fspath(arrivals)), None, (), policy, tuple(words_of(plan or {})))
+
+
+@dataclass(frozen=True)
+class Run:
+    """A run of a table: its arrivals, when their requests came, the words that made them, its policy, and the words of
+    its plan. The frames are made once each."""
+
+    table: Table
+    arrivals: bytes
+    came: Optional[bytes]
+    words: tuple[str, ...] = ()
+    policy: str = "caladan"
+    plan: tuple[str, ...] = field(default=())
+
+    def __repr__(self) -> str:
+        return f"<Run of {self.table!r} by {self.policy}: {' '.join(self.words) or 'arrivals of a file'}>"
+
+    @property
+    def tick(self) -> str:
+        """The unit of a tick."""
+        return self.table.tick
+
+    @property
+    def seed(self) -> Optional[int]:
+        """The seed of the arrivals; none where they are not made by one."""
+        if not self.words or "--log" in self.words:
+            return None
+        return int(self.words[self.words.index("--seed") + 1]) if "--seed" in self.words else 1
+
+    @property
+    def input(self) -> bytes:
+        """The input of the programs: the table, the line ---, the arrivals."""
+        return self.table.text.rstrip(b"\n") + b"\n" + SEPARATOR + self.arrivals
+
+    def told(self, word: str, *more: Word) -> bytes:
+        """What the program says of the run."""
+        return self.table.view.told([word, "--policy", self.policy, *self.plan, *more], self.input).out
+
+    def counted(self) -> list[Word]:
+        return [] if self.came is None else ["--came", Text(self.came)]
+
+    @functools.cached_property
+    def requests(self) -> pandas.DataFrame:
+        """How each request fared, from when it came."""
+        return frame_of(self.told("requests", *self.counted()), self.tick)
+
+    @functools.cached_property
+    def spans(self) -> pandas.DataFrame:
+        """Which thread had which core when, and the bans."""
+        return frame_of(self.told("spans"), self.tick)
+
+    @functools.cached_property
+    def series(self) -> pandas.DataFrame:
+        """How each task stands in each pass."""
+        return frame_of(self.told("series"), self.tick)
+
+    @functools.cached_property
+    def numbers(self) -> pandas.DataFrame:
+        """The numbers of the run: a row for each measure, and for each task its number, whether there is more than that,
+        and of how many times a rank is."""
+        names: list[Word] = ["--names", ",".join(self.table.names)] if self.table.names else []
+        tick: list[Word] = ["--tick", self.tick] if self.tick else []
+        return frame_of(self.told("measure", "--csv", *self.counted(), *names, *tick), "", "measure")
+
+    def explain(self, number: int, task: Optional[int] = None, core: Optional[int] = None) -> str:
+        """Why a pass, from 0, does what it does."""
+        more = words_of({"pass": number, "task": task, "core": core})
+        history = simulator(self.table.view).told(["lockstep", "--table", "--policy", self.policy], self.input).out
+        return self.table.view.told(["explain", "--policy", self.policy, *more], history).out.decode()
+
+
+@dataclass(frozen=True)
+class Answer:
+    """What came of many runs: the CSV, the words that asked for it, the unit of a tick, and the lines about objectives
+    that are not kept."""
+
+    csv: str
+    words: tuple[str, ...]
+    tick: str
+    misses: tuple[str, ...] = ()
+
+    @functools.cached_property
+    def frame(self) -> pandas.DataFrame:
+        """A row for each row of the CSV."""
+        import pandas
+        return pandas.read_csv(io.StringIO(self.csv.partition("\n\n")[0]))
+
+    @property
+    def is_kept(self) -> bool:
+        """Whether every objective is kept at the last load."""
+        return not self.misses
+
+    def __repr__(self) -> str:
+        return f"<Answer to {' '.join(self.words)}>"
+
+
+def _asked(word: str, table: Table, vary: Optional[Keys], options: Mapping[str, Option]) -> tuple[list[str], Asked]:
+    """The words of a command line, and what they ask for."""
+    more: dict[str, Option] = {"names": ",".join(table.names) or None, "tick": table.tick or None, **options}
+    words = [word, "--csv", *vary_words(vary), *words_of(more)]
+    return words, read_words(LAB, words)
+
+
+def compare(runs: Union[Run, Sequence[Run]], vary: Optional[Keys] = None, **options: Option) -> Answer:
+    """The numbers of several tables on the same arrivals: of one run with keys of its table varied; or of several runs,
+    whose first has the arrivals. Options are those of `caladan_lab compare`, as policy="caladan,assured"."""
+    given = [runs] if isinstance(runs, Run) else list(runs)
+    first = given[0]
+    words, asked = _asked("compare", first.table, vary, options)
+    variations = variations_of(asked.all("vary"), first.table.names)
+    tables = b"".join(it.table.machine.text() + SEPARATOR for it in given)
+    text = tables + first.arrivals
+    reading = Reading(first.table.view, text, parts_of(text, bool(variations)), bool(variations))
+    came = None if first.came is None else ("the comings", first.came)
+    csv = compared(asked, reading, variations, first.table.labels, came).decode()
+    return Answer(csv, tuple(words), first.tick)
+
+
+def sweep(table: Table, load: Union[Value, Sequence[Value], None] = None, vary: Optional[Keys] = None,
+          **options: Option) -> Answer:
+    """The response of a task at rising loads. Options are those of `caladan_lab sweep`, as task=0, service=10, turns=2000,
+    seeds=5, slo="task.0.p99=400"."""
+    loads = None if load is None else str(load) if isinstance(load, (str, int, float)) else ",".join(map(str, load))
+    words, asked = _asked("sweep", table, vary, {"load": loads, **options})
+    names_of(asked.one("names"))
+    csv, lines = swept(asked_of(asked), table.text, table.view)
+    return Answer(csv, tuple(words), table.tick, tuple(lines.splitlines()))

@@ -1,0 +1,1 @@
+"""Runs of a table, or of several, at one load after the other."""

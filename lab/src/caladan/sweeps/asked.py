@@ -1,0 +1,89 @@
+"""What a sweep is of, as words say it."""
+from __future__ import annotations
+
+from dataclasses import dataclass
+from typing import Optional
+
+from ..labels import Labels
+from ..numbers import WORD, number_of
+from ..plans import Plan, plan_of
+from ..refusal import Refusal
+from ..varying import Variation, variations_of
+from ..words.parsing import Asked
+from .loads import Loads, asked_loads
+from .objectives import Objective, objective_of
+
+MOST_SEEDS = 1000
+
+
+@dataclass(frozen=True)
+class SweepAsked:
+    """What comes to tasks; the objectives; the keys that are varied; the window, from its first turn up to the one after
+    it; the seeds, the turns of a run and the ticks of a turn; the policies, the plan, what is written, and how many runs
+    are made at a time."""
+
+    loads: Loads
+    objectives: tuple[Objective, ...]
+    variations: tuple[Variation, ...]
+    first: int
+    after: int
+    seeds: tuple[int, ...]
+    turns: int
+    ticks: int
+    policies: tuple[str, ...]
+    plan: Plan
+    labels: Labels
+    is_csv: bool
+    is_cheapest: bool
+    jobs: Optional[int]
+    is_quiet: bool
+
+    @property
+    def shown_tasks(self) -> list[int]:
+        """The tasks that have rows: those of the objectives where they name several, else the one that is swept."""
+        tasks = list(dict.fromkeys(it.task for it in self.objectives))
+        return tasks if len(tasks) > 1 else [self.loads.task]
+
+
+def _turn(flag: str, word: Optional[str], turns: int, otherwise: int) -> int:
+    """The turn of a word, of so many and their end."""
+    if word is None:
+        return otherwise
+    turn = number_of(word)
+    if turn is None or turn > turns:
+        raise Refusal(f"{flag} {word}: a turn is a number up to {turns}, the run's end")
+    return turn
+
+
+def _window(asked: Asked, turns: int) -> tuple[int, int]:
+    """The turns of the window; without words all but the first and the last tenth."""
+    tenth, from_word, to_word = turns // 10, asked.one("from"), asked.one("to")
+    first = _turn("--from", from_word, turns, tenth)
+    after = _turn("--to", to_word, turns, turns - tenth)
+    if first < after:
+        return first, after
+    flag, word = ("--to", to_word or "") if from_word is None else ("--from", from_word)
+    raise Refusal(f"{flag} {word}: no turns are from {first} up to {after}")
+
+
+def _seeds(word: Optional[str], first: int) -> tuple[int, ...]:
+    """The seeds that a word asks for, from this one on: one without a word."""
+    most = min(WORD - first, MOST_SEEDS)
+    many = 1 if word is None else number_of(word)
+    if many is None or not 1 <= many <= most:
+        raise Refusal(f"--seeds {word}: a number of seeds is from 1 to {most}")
+    return tuple(range(first, first + many))
+
+
+def sweep_asked(asked: Asked, labels: Labels) -> SweepAsked:
+    """What words ask for, where they need no table; the first that is refused is told of."""
+    loads = asked_loads(asked, labels.names)
+    tasks = [it.task for it in loads.tasks]
+    objectives = tuple(objective_of(it, labels.names, tasks) for it in asked.all("slo"))
+    variations = tuple(variations_of(asked.all("vary"), labels.names))
+    turns = asked.number("turns") or 0
+    first, after = _window(asked, turns)
+    return SweepAsked(
+        loads, objectives, variations, first, after, _seeds(asked.one("seeds"), asked.number("seed") or 0), turns,
+        asked.number("ticks") or 0, tuple(asked.all("policy") or ["caladan"]), plan_of(asked), labels,
+        asked.has("csv"), asked.has("cheapest"), asked.number("jobs"), asked.has("quiet"))

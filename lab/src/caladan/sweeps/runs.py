@@ -1,0 +1,116 @@
+"""The runs of a sweep, measured: of each load with each seed one of each table by each policy."""
+from __future__ import annotations
+
+import threading
+from dataclasses import dataclass
+from typing import Optional, Sequence
+
+from ..figures import MaybeFigure
+from ..measured import Measured, measured_of
+from ..programs import Text, Viewer, Word, refused
+from ..progress import Progress
+from ..shares import held_in_series, held_in_spans, share_of
+from ..tables import SEPARATOR, Machine
+from .asked import SweepAsked
+from .making import Count, Made, Maker
+
+NONE_CAME = "no request came within the turns"
+
+
+@dataclass(frozen=True)
+class SweptRun:
+    """A run: what came to each task that has a load, from which turn on requests were left out, whether some that came
+    before the end of the window were, the numbers, whether a request came within the window, and the share of the
+    best-effort tasks."""
+
+    counts: dict[int, Count]
+    left_from: Optional[int]
+    is_cut: bool
+    measured: Measured
+    is_ranked: bool
+    share: MaybeFigure
+
+    def response(self, label: str, task: int) -> MaybeFigure:
+        """A row of a task's responses in the window."""
+        return self.measured.of(label, task) if self.is_ranked else None
+
+
+class Point:
+    """A load with a seed: its arrivals, which tables with the same limits have in common, are kept until the last of its
+    runs is made."""
+
+    def __init__(self, load: int, seed: int, runs: int, parts: dict[str, int]) -> None:
+        self.load, self.seed, self.runs, self.parts = load, seed, runs, parts
+        self.lock = threading.Lock()
+        self.kept: dict[tuple[int, ...], Made] = {}
+
+    def made(self, maker: Maker, machine: Machine) -> Made:
+        with self.lock:
+            if machine.limits not in self.kept:
+                self.kept[machine.limits] = maker.made(machine, self.load, self.seed)
+            return self.kept[machine.limits]
+
+    def ended(self, policy: str) -> bool:
+        """Notes that a run is made; whether it is the last by its policy."""
+        with self.lock:
+            self.runs -= 1
+            if not self.runs:
+                self.kept.clear()
+            self.parts[policy] -= 1
+            return not self.parts[policy]
+
+
+@dataclass(frozen=True)
+class Unit:
+    """One run that is to be made."""
+
+    point: Point
+    machine: Machine
+    policy: str
+
+
+class Runs:
+    """What makes the runs of a sweep."""
+
+    def __init__(self, view: Viewer, asked: SweepAsked, machines: Sequence[Machine], progress: Progress) -> None:
+        self.view, self.asked, self.progress = view, asked, progress
+        self.maker = Maker(view, asked, machines)
+
+    def run(self, unit: Unit) -> SweptRun:
+        """Makes a run."""
+        made = unit.point.made(self.maker, unit.machine)
+        run = self.measured(unit, made)
+        if unit.point.ended(unit.policy):
+            self.progress.made()
+        return run
+
+    def words_of(self, unit: Unit, made: Made) -> list[str]:
+        """The words for how the run goes. Where no request has misses, a plan has none to bear or to show."""
+        asked = self.asked
+        some = any(it.has_misses and made.counts[it.task].came > made.counts[it.task].left_out
+                   for it in asked.loads.tasks)
+        plan = asked.plan if some else asked.plan.without_misses()
+        return ["--policy", unit.policy, *plan.words()]
+
+    def measured(self, unit: Unit, made: Made) -> SweptRun:
+        asked = self.asked
+        words, given = self.words_of(unit, made), unit.machine.text() + SEPARATOR + made.arrivals
+        measure: list[Word] = ["measure", "--csv", "--came", Text(made.came), *words]
+        ran = self.view.ask([*measure, "--from", str(asked.first), "--to", str(asked.after)], given)
+        is_ranked = not (ran.status == 2 and NONE_CAME in ran.err)
+        if not is_ranked:
+            ran = self.view.ask(measure, given)
+        if ran.status:
+            raise refused(ran)
+        numbers = measured_of(ran.out)
+        in_lockstep = not asked.plan.words()
+
+        def held() -> int:
+            if in_lockstep:
+                spans = self.view.told(["spans", *words], given).out
+                return held_in_spans(spans, unit.machine.best_effort, asked.ticks * asked.turns)
+            return held_in_series(self.view.told(["series", *words], given).out, unit.machine.best_effort)
+        cut_from = made.left_from if made.is_cut else None
+        is_cut = cut_from is not None and cut_from < asked.after
+        share = share_of(unit.machine, numbers, asked.ticks if in_lockstep else 1, held)
+        return SweptRun(made.counts, cut_from, is_cut, numbers, is_ranked, share)

@@ -1,0 +1,63 @@
+"""Whether an answer is the one that is kept, but for the program's name."""
+import re
+
+from .case import Answer
+
+KEPT_NAME = "caladan_view"
+
+
+def fronts(text: str, name: str) -> str:
+    """A text of the kept program as one of this name writes it: the name in front of a fault, and of how it is
+    used."""
+    return re.sub(rf"(?m)^(Usage: )?{KEPT_NAME}(?=[: ])", lambda it: f"{it[1] or ''}{name}", text)
+
+
+def neutral(text: str, name: str) -> str:
+    """A text in which the name may be either, where it stands within a line, as a text names what reads an input."""
+    either = f"(?:{re.escape(name)}|{KEPT_NAME})"
+    return re.sub(rf"(?m)(?<!^)(?<!^Usage: )(?<![\w./-]){either}(?![\w-])", "PROGRAM", text)
+
+
+def first_difference(wanted: str, given: str) -> "tuple[int, str, str] | None":
+    """The first line in which two texts differ, its number from 1, and what stands in each. Line ends count."""
+    if wanted == given:
+        return None
+    of_wanted, of_given = wanted.splitlines(keepends=True), given.splitlines(keepends=True)
+    for n in range(max(len(of_wanted), len(of_given))):
+        line, other = (it[n] if n < len(it) else "" for it in (of_wanted, of_given))
+        if line != other:
+            return n + 1, line, other
+    return None
+
+
+def shown(line: str) -> str:
+    return f"{line[:200]!r}" if line else "nothing"
+
+
+def text_differs(what: str, kept: str, given: str, name: str) -> "list[str]":
+    """The first line of a text that is not as the kept one."""
+    differs = first_difference(neutral(fronts(kept, name), name), neutral(given, name))
+    if differs is None:
+        return []
+    line, was, now = differs
+    return [f"{what}, line {line}:\n    kept  {shown(was)}\n    given {shown(now)}"]
+
+
+def file_differs(file: str, wanted: Answer, given: Answer, name: str) -> "list[str]":
+    """What of a file of the folder is not as it is kept: it is as it was, has this text, or went."""
+    if (file in wanted.files) != (file in given.files):
+        return [f"file {file} is {'changed' if file in given.files else 'as it was'}, unlike the kept one"]
+    kept, other = wanted.files[file], given.files[file]
+    if kept is None or other is None:
+        return [] if kept == other else [f"file {file} is {'there' if other is not None else 'not there'} at the end"]
+    return text_differs(f"file {file}", kept, other, name)
+
+
+def differences(wanted: Answer, given: Answer, name: str) -> "list[str]":
+    """What of an answer is not as the kept one, in lines: of each text the first line that differs."""
+    found = [f"status {given.status}, and {wanted.status} is kept"] if wanted.status != given.status else []
+    found += text_differs("standard output", wanted.wrote, given.wrote, name)
+    found += text_differs("standard error", wanted.said, given.said, name)
+    for file in sorted({*wanted.files, *given.files}):
+        found += file_differs(file, wanted, given, name)
+    return found

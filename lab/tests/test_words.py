@@ -1,0 +1,120 @@
+"""What words ask for, how they are refused, and what help says."""
+from __future__ import annotations
+
+import pytest
+from conftest import TOP, Run
+
+from caladan.words.arg import Number
+from caladan.words.asked import LAB
+from caladan.words.likeness import alike, jaro
+from caladan.words.parsing import Asked, read_words
+from caladan.words.refusals import Mistake, Shown
+
+TRY = "\n\nFor more information, try '--help'.\n"
+
+
+def asked(*words: str) -> Asked:
+    return read_words(LAB, words)
+
+
+def refusal(*words: str) -> str:
+    with pytest.raises(Mistake) as it:
+        asked(*words)
+    return str(it.value)
+
+
+def help_text(words: str) -> str:
+    """What docs/HELP.txt keeps of the program's help."""
+    lines = (TOP / "docs" / "HELP.txt").read_text().split("\n")
+    at = lines.index(f"==== caladan_view {words}")
+    while lines[at].startswith("===="):
+        at += 1
+    end = next(n for n in range(at, len(lines)) if lines[n].startswith("====") or n == len(lines) - 1)
+    return "\n".join(lines[at:end - 1]) + "\n"
+
+
+@pytest.mark.parametrize("word", ["compare", "sweep", "timeline"])
+@pytest.mark.parametrize("flag", ["-h", "--help"])
+def test_help_is_that_of_the_program(word: str, flag: str) -> None:
+    with pytest.raises(Shown) as it:
+        asked(word, flag)
+    said = str(it.value)
+    if "Pictures:\n" in said:
+        front, _, rest = said.partition("Pictures:\n")
+        said = front + rest.partition("\n\nInput:")[1].lstrip("\n") + rest.partition("\n\nInput:")[2]
+    assert said == help_text(f"{word} {flag}").replace(f"caladan_view {word}", f"caladan_lab {word}")
+
+
+def test_options_have_their_words() -> None:
+    it = asked("sweep", "--load", "0.1,0.2", "--task=1", "-j4", "-q", "--policy", "caladan,assured", "-ofile", "table")
+    assert it.all("load") == ["0.1,0.2"] and it.all("task") == ["1"] and it.number("jobs") == 4
+    assert it.has("quiet") and it.all("policy") == ["caladan", "assured"]
+    assert it.one("output") == "file" and it.one("input") == "table"
+    assert it.all("service") == ["1"] and not it.has("service") and it.number("turns") == 1000
+
+
+def test_files_stand_after_two_dashes() -> None:
+    assert asked("compare", "a", "--csv", "--", "-b", "--csv").all("tables") == ["a", "-b", "--csv"]
+    assert asked("compare", "-").all("tables") == ["-"]
+
+
+@pytest.mark.parametrize("words, said", [
+    (["--frob"], f"error: unexpected argument '--frob' found\n\nUsage: caladan_lab [COMMAND]{TRY}"),
+    (["swep"], "error: unrecognized subcommand 'swep'\n\n  tip: a similar subcommand exists: 'sweep'\n\n"
+               f"Usage: caladan_lab [COMMAND]{TRY}"),
+    (["sweep", "--laod", "1"], "error: unexpected argument '--laod' found\n\n  tip: a similar argument exists: "
+                               f"'--load'\n\nUsage: caladan_lab sweep --load <LOAD> [FILE]{TRY}"),
+    (["sweep", "--load"], f"error: a value is required for '--load <LOAD>' but none was supplied{TRY}"),
+    (["sweep"], "error: the following required arguments were not provided:\n  --load <LOAD>\n\n"
+                f"Usage: caladan_lab sweep --load <LOAD> [FILE]{TRY}"),
+    (["sweep", "--cheapest"], "error: the following required arguments were not provided:\n  --slo <OBJECTIVE>\n"
+                              "  --load <LOAD>\n\nUsage: caladan_lab sweep --slo <OBJECTIVE> --cheapest --load <LOAD> "
+                              f"[FILE]{TRY}"),
+    (["sweep", "--load", "1", "--turns", "0"],
+     f"error: invalid value '0' for '--turns <N>': 0 is not in 1..=174762{TRY}"),
+    (["sweep", "--load", "1", "--policy", "fifo"],
+     f"error: invalid value 'fifo' for '--policy <NAME,..>'\n  [possible values: caladan, assured]{TRY}"),
+    (["sweep", "a", "b"], "error: unexpected argument 'b' found\n\nUsage: caladan_lab sweep [OPTIONS] "
+                          f"[FILE]{TRY}"),
+    (["sweep", "-x"], "error: unexpected argument '-x' found\n\n  tip: to pass '-x' as a value, use '-- -x'\n\n"
+                      f"Usage: caladan_lab sweep [OPTIONS] [FILE]{TRY}"),
+    (["compare", "--csv", "--csv"], "error: the argument '--csv' cannot be used multiple times\n\n"
+                                    f"Usage: caladan_lab compare [OPTIONS] [FILE]...{TRY}"),
+    (["compare", "--csv", "--write-input", "1"],
+     "error: the argument '--csv' cannot be used with '--write-input <N>'\n\n"
+     f"Usage: caladan_lab compare --csv [FILE]...{TRY}"),
+    (["compare", "--csv=1"], "error: unexpected value '1' for '--csv' found; no more were expected\n\n"
+                             f"Usage: caladan_lab compare --csv [FILE]...{TRY}"),
+])
+def test_words_are_refused(words: list[str], said: str) -> None:
+    assert refusal(*words) == said
+
+
+@pytest.mark.parametrize("text, why", [
+    ("", "cannot parse integer from empty string"), ("-1", "invalid digit found in string"),
+    ("18446744073709551616", "number too large to fit in target type"), ("18446744073709551615", ""), ("+7", ""),
+    ("1x", "invalid digit found in string"), ("\u0661", "invalid digit found in string")])
+def test_numbers(text: str, why: str) -> None:
+    assert Number().fault(text) == why
+
+
+def test_likeness() -> None:
+    assert jaro("", "") == 1 and jaro("", "a") == 0 and jaro("abc", "xyz") == 0
+    assert abs(jaro("dixon", "dicksonx") - 0.767) < 0.001 and abs(jaro("martha", "marhta") - 0.944) < 0.001
+    assert alike("laod", ["load", "slo", "vary"]) == ["slo", "load"]
+
+
+def test_words_that_make_no_comparison(lab: Run) -> None:
+    usage = f"\n\nUsage: caladan_lab compare [OPTIONS] [FILE]...{TRY}"
+    for words, said in ((["a", "b"], "several files are tables, and '--arrivals <FILE>' is not there"),
+                        (["--arrivals", "x"], "'--arrivals <FILE>' is there, and no file of a table"),
+                        (["--vary", "cores"], "the value of '--vary <KEY=V1,V2,..>' has no '='"),
+                        (["a", "b", "--arrivals", "x", "--vary", "cores=2"],
+                         "the argument '--vary <KEY=V1,V2,..>' cannot be used with several tables")):
+        assert lab("compare", *words) == (2, "", f"error: {said}{usage}")
+
+
+def test_no_word_is_no_job(lab: Run) -> None:
+    status, out, err = lab()
+    assert (status, out) == (2, "") and err.startswith("Many runs of the core scheduler")
+    assert lab("--version") == (0, "caladan_lab 4\n", "")
