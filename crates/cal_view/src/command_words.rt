@@ -3,6 +3,7 @@
 pub mod arrival_words;
 pub mod command_line;
 pub mod count_words;
+pub mod gone_words;
 pub mod help_texts;
 pub mod log_words;
 pub mod plan_words;

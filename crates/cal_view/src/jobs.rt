@@ -14,4 +14,3 @@ pub mod recording;
 pub mod sweeping;
 pub mod table_names;
 pub mod telling;
-pub mod timing;

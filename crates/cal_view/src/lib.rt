@@ -1,9 +1,9 @@
 //! The subcommands of `caladan_view`, over standard input and output or files by name: what an input
-//! is, passes explained, histories, arrivals and trace events made, and the facts and the numbers of
-//! runs, of several tables and of a load that rises.
+//! is, passes explained, histories and arrivals made, and the facts and the numbers of runs, of several
+//! tables and of a load that rises.
 //!
-//! Facts are those of `cal_facts`, trace events those of `cal_timeline`, numbers those of `cal_tables`
-//! and `cal_sweep`. How trace events and numbers are written is only tested.
+//! Facts are those of `cal_facts`, numbers those of `cal_tables` and `cal_sweep`. How numbers are written
+//! is only tested.
 #![tactic(auto)]
 
 mod command_words;

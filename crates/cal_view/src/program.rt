@@ -5,6 +5,7 @@ ghost use Rattle.std.specs.Prelude.{◌≡◌, ◌≢◌, IfErr};
 
 use crate::command_words::command_line::{InputJob, Job, Request, help, words};
 use crate::command_words::count_words::CountWords;
+use crate::command_words::gone_words::gone_word;
 use crate::edge::beside::{open_beside, write_beside};
 use crate::edge::failure::Failure;
 use crate::edge::noted::Noted;
@@ -22,8 +23,7 @@ use crate::jobs::recording::record;
 use crate::jobs::sweeping::Sweeping;
 use crate::jobs::table_names::table_names;
 use crate::jobs::telling::tell;
-use crate::jobs::timing::answer_timeline;
-use crate::refusing::{end_refusal, refuse_two_standards, refuse_word, refused_input};
+use crate::refusing::{end_refusal, refuse_gone, refuse_two_standards, refuse_word, refused_input};
 use cal_came::{CameFile, CountAsked};
 use cal_engine::{refuse_words, words_after_first};
 use cal_input::{RunFault, read_input};
@@ -55,6 +55,9 @@ pub fn run_program<
         Ok(given) => given,
         Err(_) => return Failure::from(RunFault::Memory).end(errors),
     };
+    if let Some(word) = gone_word(given.as_slice()) {
+        return refuse_gone(word, errors);
+    }
     let mut output = Noted::new(&mut *output);
     match words(alloc, given.as_slice()) {
         Ok(request) => run_asked(rt, alloc, &request, reader, &mut output, errors),
@@ -379,7 +382,6 @@ fn answer_read<W: Write, E: Write>(
         InputJob::Explain { asked } => return answer_explain(input, asked, output, errors),
         InputJob::Compare { asked } => return answer_compare(input, asked.form, output, errors),
         InputJob::Measure { form } => return answer_measure(input, form, output, errors),
-        InputJob::Timeline => return answer_timeline(input, output, errors),
         InputJob::Facts { facts } => return tell(input, facts, output, errors),
         InputJob::History { front } => record(alloc, input.policy(), bytes, front, output)?,
     }

@@ -110,6 +110,17 @@ pub fn refuse_word<E: Write>(fault: &WordFault<'_>, errors: &mut E) -> u8
     2
 }
 
+/// Says where a word is that was one of the program, and answers the exit status, 2.
+pub fn refuse_gone<E: Write>(word: &str, errors: &mut E) -> u8
+    ensures { result ≡ 2 }
+{
+    let _ = writeln!(
+        errors,
+        "caladan_view: {word} is a word of caladan_lab now: caladan_lab {word}"
+    );
+    2
+}
+
 /// The traces that a job reads: where a run alone is asked for, by a plan or to count its requests,
 /// arrivals.
 fn traces_of(job: InputJob, alone: bool) -> &'static [TraceKind] {
@@ -120,9 +131,9 @@ fn traces_of(job: InputJob, alone: bool) -> &'static [TraceKind] {
         InputJob::History { .. } => &[TraceKind::Signals],
         InputJob::Compare { .. }
         | InputJob::Facts {
-            facts: Facts::Requests,
+            facts: Facts::Requests | Facts::Turns,
         } => &[TraceKind::Arrivals],
-        InputJob::Measure { .. } | InputJob::Timeline | InputJob::Facts { .. } => &[
+        InputJob::Measure { .. } | InputJob::Facts { .. } => &[
             TraceKind::Arrivals,
             TraceKind::History,
         ],
