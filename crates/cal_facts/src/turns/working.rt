@@ -1,6 +1,6 @@
 //! The turns at work of the kernel threads of a run, found in what their journals tell.
 
-ghost use Rattle.std.specs.Prelude.{◌≡◌, ◌≤◌, ◌+◌, ◌<◌, ◌^◌, ◌++◌, ℕ, List, IfOk, OnOk, length};
+ghost use Rattle.std.specs.Prelude.{◌≡◌, ◌≤◌, ◌+◌, ◌<◌, ◌^◌, ◌++◌, ℕ, List, IfOk, OnOk, length, slice_get};
 ghost use Rattle.cal_machine.specs.declared.numbering.TheConstants.{MOST_THREADS};
 ghost use Rattle.cal_measure.specs.Requests.{left_at};
 ghost use Rattle.cal_measure.specs.Turns.{one_of};
@@ -83,6 +83,13 @@ fn all_begun(alloc: Global, turns: &[TimedTurn], left: Option<u64>) -> Result<Ve
     Ok(requests)
 }
 
+/// The request at a place among these, if there is one.
+fn request_at(requests: &[u64], place: usize) -> Option<u64>
+    ensures { result ≡ slice_get requests.now place }
+{
+    requests.get(place).copied()
+}
+
 /// A turn of a thread that is at this request, if it worked.
 fn work_of(thread: u8, turn: TimedTurn, request: Option<u64>) -> Option<WorkTurn>
     ensures { one_of result ≡ work_at thread turn request }
@@ -124,7 +131,7 @@ fn put_works(
     let requests = all_begun(alloc, turns, left)?;
     let mut served = 0usize;
     for turn in turns {
-        let request = requests.as_slice().get(served).copied();
+        let request = request_at(requests.as_slice(), served);
         put_one(works, work_of(thread, *turn, request))?;
         served = with_served(served, *turn);
     }
