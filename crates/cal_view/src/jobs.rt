@@ -13,4 +13,3 @@ pub mod naming;
 pub mod pacing;
 pub mod recording;
 pub mod telling;
-pub mod timing;

@@ -1,9 +1,9 @@
 //! The subcommands of `caladan_view`, over standard input and output or files by name: what an input
-//! is, passes explained, histories, arrivals and trace events made, arrivals moved to another table,
-//! and the facts and the numbers of runs.
+//! is, passes explained, histories and arrivals made, arrivals moved to another table, and the facts
+//! and the numbers of runs.
 //!
-//! Facts are those of `cal_facts`, trace events those of `cal_timeline`, numbers and moved arrivals
-//! those of `cal_tables`. How trace events and numbers are written is only tested.
+//! Facts are those of `cal_facts`, numbers and moved arrivals those of `cal_tables`. How numbers are
+//! written is only tested.
 #![tactic(auto)]
 
 mod command_words;

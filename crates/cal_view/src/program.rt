@@ -21,7 +21,6 @@ use crate::jobs::naming::{names_of, refuse_count, refuse_words_of_names};
 use crate::jobs::pacing::refuse_memory;
 use crate::jobs::recording::record;
 use crate::jobs::telling::tell;
-use crate::jobs::timing::answer_timeline;
 use crate::refusing::{end_refusal, refuse_gone, refuse_two_standards, refused_input};
 use cal_came::{CameFile, CountAsked};
 use cal_engine::{refuse_words, words_after_first};
@@ -348,7 +347,6 @@ fn answer_read<W: Write, E: Write>(
         InputJob::Check => return answer_check(alloc, bytes, output),
         InputJob::Explain { asked } => return answer_explain(input, asked, output, errors),
         InputJob::Measure { form } => return answer_measure(input, form, output, errors),
-        InputJob::Timeline => return answer_timeline(input, output, errors),
         InputJob::Facts { facts } => return tell(input, facts, output, errors),
         InputJob::History { front } => record(alloc, input.policy, bytes, front, output)?,
     }

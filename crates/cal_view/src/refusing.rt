@@ -118,9 +118,9 @@ fn traces_of(job: InputJob, alone: bool) -> &'static [TraceKind] {
     match job {
         InputJob::History { .. } => &[TraceKind::Signals],
         InputJob::Facts {
-            facts: Facts::Requests,
+            facts: Facts::Requests | Facts::Turns,
         } => &[TraceKind::Arrivals],
-        InputJob::Measure { .. } | InputJob::Timeline | InputJob::Facts { .. } => &[
+        InputJob::Measure { .. } | InputJob::Facts { .. } => &[
             TraceKind::Arrivals,
             TraceKind::History,
         ],

@@ -48,8 +48,6 @@ pub enum InputJob {
         /// What goes in front.
         front: Front,
     },
-    /// Write a history, or the run that arrivals make, as trace events.
-    Timeline,
     /// Write facts of a history, or of the run that arrivals make, as CSV.
     Facts {
         /// Which facts.
@@ -108,7 +106,6 @@ pub fn help(alloc: Global) -> Result<String, AllocError> {
 fn program<'a>(alloc: Global) -> Result<Command<'a>, AllocError> {
     let program = bare_program(alloc)?;
     let program = program.subcommand(history_word(alloc)?)?;
-    let program = program.subcommand(timeline_word(alloc)?)?;
     let about = "Write which thread had which core when, and the bans, as CSV";
     let program = program.subcommand(facts_word(alloc, "spans", about, help_texts::SPANS)?)?;
     let about = "Write how each task stands in each pass, as CSV";
@@ -116,6 +113,8 @@ fn program<'a>(alloc: Global) -> Result<Command<'a>, AllocError> {
     let about = "Write how each request of a run fared, as CSV";
     let requests = facts_word(alloc, "requests", about, help_texts::REQUESTS)?;
     let program = program.subcommand(requests.arg(own_came_word(alloc))?)?;
+    let about = "Write the turns in which threads worked at requests, as CSV";
+    let program = program.subcommand(facts_word(alloc, "turns", about, help_texts::TURNS)?)?;
     let program = program.subcommand(measure_word(alloc)?)?;
     let program = program.subcommand(explain_word(alloc)?)?;
     let check = Command::new(alloc, "check")
@@ -160,18 +159,6 @@ fn history_word<'a>(alloc: Global) -> Result<Command<'a>, AllocError> {
         .arg(input_word(alloc))?
         .arg(table_word(alloc))?
         .arg(policy_word(alloc))?
-        .arg(output_word(alloc))
-}
-
-fn timeline_word<'a>(alloc: Global) -> Result<Command<'a>, AllocError> {
-    let command = Command::new(alloc, "timeline")
-        .about("Write a history or a run as trace events, for Perfetto")
-        .after_long_help(help_texts::TIMELINE)
-        .arg(input_word(alloc))?
-        .arg(policy_word(alloc))?;
-    with_plan_words(alloc, command)?
-        .arg(names_word(alloc))?
-        .arg(tick_word(alloc))?
         .arg(output_word(alloc))
 }
 
@@ -333,8 +320,6 @@ fn input_job(name: &str, own: &ArgMatches<'_>) -> InputJob {
     if name == "history" {
         let front = front_of(own.get_flag("table"));
         InputJob::History { front }
-    } else if name == "timeline" {
-        InputJob::Timeline
     } else if let Some(facts) = Facts::named(name) {
         InputJob::Facts { facts }
     } else if name == "measure" {

@@ -22,7 +22,7 @@ pub const HISTORY: &str = help_with_a_run!(
 Input: a task table (TOML), the line ---, and signals (CSV), as
 `caladan_sim decide` reads.
 Output: the history that they lead to; with --table an input of
-`timeline` and of `caladan_sim audit`.
+`spans` and of `caladan_sim audit`.
 Exit status: 0 done, 2 rejected input, 3 memory or output was refused.",
     "caladan_view history",
     "\
@@ -39,30 +39,6 @@ pass,111,0
 whole,0,1,1,0,0,1,100,0,0,105,0,0
 grant,0,0,3
 end,1"
-);
-
-/// Of the subcommand `timeline`.
-pub const TIMELINE: &str = help_with_a_run!(
-    "\
-Input: a task table (TOML), the line ---, and a history (CSV), or
-arrivals (CSV), as `caladan_sim lockstep` reads.
-Output: trace events (JSON), which https://ui.perfetto.dev and
-chrome://tracing open. For arrivals they show the run that
-`caladan_sim lockstep` makes: its history, each request from arrival to answer,
-the turns that worked at it, and arrows from the request to these turns.
-With --pace, --beside, --memory or --figure there must be arrivals, and their
-run is like a machine: docs/VIEWER.md, \"Runs like a machine\".
-Exit status: 0 done, 2 rejected input, 3 memory or output was refused.",
-    "caladan_view timeline > timeline.json",
-    "\
-caladan-history,2
-pass,111,0
-whole,0,1,1,0,0,1,100,0,0,105,0,0
-grant,0,0,3
-pass,121,0
-whole,0,1,2,1,1,0,0,112,0,112,0,0
-end,2
-END"
 );
 
 /// Of the subcommand `spans`.
@@ -165,6 +141,39 @@ id,task,thread,arrived [ticks],work [turns],by thread,begun [ticks],
 answered [ticks],worked [ticks],pending [ticks]
 1,0,0,105,1,0,125,145,20,
 2,0,0,145,5,,,,,0"
+);
+
+/// Of the subcommand `turns`.
+pub const TURNS: &str = help_with_a_run!(
+    "\
+Input: a task table (TOML), the line ---, and arrivals (CSV), as
+`caladan_sim lockstep` reads. A history has no turns.
+Output: CSV with a row for each turn in which a kernel thread worked at a
+request, thread by thread: the thread, its task, and the request's id; the clock
+at which the turn began, and the one at which it ended, which is that of the
+thread's next turn or, after the last one, the run's last clock; and 1 if the
+turn did the last of the request's work, else 0.
+With --pace, --beside, --memory or --figure the run is like a machine:
+docs/VIEWER.md, \"Runs like a machine\".
+Exit status: 0 done, 2 rejected input, 3 memory or output was refused.",
+    "caladan_view turns",
+    "\
+caladan-arrivals,1
+pass,100,0
+pass,120,0
+turn,105
+turn,125
+turn,145
+request,0,0,1,1,0
+request,0,2,2,5,0
+end,7
+END
+
+It writes:
+
+thread,task,request,from clock [ticks],to clock [ticks],served
+0,0,1,125,145,1
+0,0,2,145,145,0"
 );
 
 /// Of the subcommand `measure`.
