@@ -12,6 +12,7 @@ import os
 import re
 import subprocess
 import sys
+import tempfile
 import time
 
 TOP = os.path.dirname(os.path.dirname(os.path.dirname(os.path.abspath(__file__))))
@@ -25,8 +26,8 @@ SECONDS = 600
 # peak.
 Measured = collections.namedtuple("Measured", "status wrote said processor clock peak")
 # The run to copy that a word's help shows: its input, whether what it writes varies, what it writes (None: that is not
-# shown), and the words after the word.
-Shown = collections.namedtuple("Shown", "given varies wrote flags")
+# shown), the words after the word, and the files that are made before it, by their names.
+Shown = collections.namedtuple("Shown", "given varies wrote flags files")
 
 
 def named(*names):
@@ -105,7 +106,18 @@ def shown_run(text, name, word):
     """The run to copy that the help of a program's word shows; None where it shows none."""
     shown = rf"^{name} {word}((?: [-\w.,=]+)*)(?: > \S+)? <<'END'\n(.*?\n)END\n(?:\nIt (may write|writes):\n\n(.*))?"
     found = re.search(shown, text, re.S | re.M)
-    return found and Shown(found[2].encode(), found[3] == "may write", found[4] and found[4].encode(), found[1].split())
+    files = {file: made.encode() for file, made in re.findall(r"^cat > (\S+) <<'END'\n(.*?\n)END\n", text, re.S | re.M)}
+    return found and Shown(found[2].encode(), found[3] == "may write", found[4] and found[4].encode(), found[1].split(),
+                           files)
+
+
+def run_shown(program, word, shown):
+    """Runs what a word's help shows, in a folder that has the files which are made before it."""
+    with tempfile.TemporaryDirectory() as folder:
+        for name, text in shown.files.items():
+            with open(f"{folder}/{name}", "wb") as it:
+                it.write(text)
+        return run(program, [word, *shown.flags], shown.given, cwd=folder)
 
 
 def called(name, error):
