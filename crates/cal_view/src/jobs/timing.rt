@@ -13,7 +13,7 @@ pub fn answer_timeline<W: Write, E: Write>(
     output: &mut W,
     errors: &mut E,
 ) -> Result<u8, RunFault> {
-    let (alloc, policy, bytes, labels) = (input.alloc, input.policy(), input.bytes(), input.labels);
+    let (alloc, policy, bytes, labels) = (input.alloc, input.policy, input.bytes(), input.labels);
     let wrote = write_timeline(alloc, policy, input.plan, bytes, labels, output);
     end_paced(wrote, errors)
 }
