@@ -7,6 +7,8 @@ import site
 import sys
 import tempfile
 
+# Python has just compiled this file; that is not left either.
+shutil.rmtree(f"{os.path.dirname(os.path.abspath(__file__))}/__pycache__", ignore_errors=True)
 # pip builds without the packages of the system. They go last, so that what pip fetched is used first.
 sys.path += [it for it in site.getsitepackages() if it not in sys.path and os.path.isdir(it)]
 
