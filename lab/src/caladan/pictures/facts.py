@@ -1,13 +1,12 @@
 """The facts of a run: the rows of `caladan_view spans`, `series` and `requests`."""
 from __future__ import annotations
 
-import csv
-import io
 import re
 from dataclasses import dataclass
-from typing import Callable, Iterator, Optional, Sequence, TypeVar
+from typing import Callable, Optional, Sequence, TypeVar
 
-from .refusal import Refusal
+from ..refusal import Refusal
+from ..rows import Row, head_of, rows_of
 from .tables import Table, Task
 
 HEADS = {
@@ -74,47 +73,10 @@ def kind_of(text: str) -> str:
             return kind
     if head.startswith(("load", "offered")) and re.search(r",p50( \[\w+\])?,p50 bound,", head):
         return "sweep"
-    cells = next(csv.reader([head]), [])
+    cells = head_of(text)
     if "seed" in cells[1:-1]:
         return "seeds"
     return "compare" if len(cells) > 3 and cells[2:4] == [f"{cells[1]} bound", f"{cells[1]} of"] else ""
-
-
-class Row:
-    """A row of a CSV, whose cells are read by the names of their columns, without units; a cell that is not what it
-    must be is refused with its line."""
-
-    def __init__(self, name: str, line: int, head: Sequence[str], cells: Sequence[str]) -> None:
-        if len(cells) != len(head):
-            raise Refusal(f"{name}: line {line} has {len(cells)} fields, and its head has {len(head)}")
-        self.name, self.line = name, line
-        self.cells = {column.partition(" [")[0]: cell for column, cell in zip(head, cells)}
-
-    def wrong(self, column: str, wanted: str) -> Refusal:
-        return Refusal(f"{self.name}: line {self.line}: `{column}` is `{self.cells[column]}`; wanted: {wanted}")
-
-    def number(self, column: str) -> int:
-        cell = self.cells[column]
-        if not (cell.isascii() and cell.isdigit()):
-            raise self.wrong(column, "a number")
-        return int(cell)
-
-    def maybe(self, column: str) -> Optional[int]:
-        return self.number(column) if self.cells[column] else None
-
-    def word(self, column: str, words: Sequence[str]) -> str:
-        if self.cells[column] not in words:
-            raise self.wrong(column, " or ".join(it or "nothing" for it in words))
-        return self.cells[column]
-
-
-def rows_of(text: str, name: str) -> Iterator[Row]:
-    """The rows below the head of a CSV."""
-    lines = csv.reader(io.StringIO(text))
-    head = next(lines)
-    for cells in lines:
-        if cells:
-            yield Row(name, lines.line_num, head, cells)
 
 
 def span_of(row: Row) -> Span:
@@ -160,7 +122,7 @@ def read_facts(text: str, name: str, kind: str, make: Callable[[Row], Made]) -> 
     """The rows of a CSV of this kind; another head is refused with the one that is wanted."""
     if kind_of(text) != kind:
         raise Refusal(f"{name}: not the CSV of `caladan_view {kind}`, whose first line is {HEADS[kind]}")
-    return [make(row) for row in rows_of(text, name)]
+    return [make(row) for row in rows_of(text, name)[1]]
 
 
 @dataclass(frozen=True)
@@ -194,12 +156,16 @@ def by_pass(standings: Sequence[Standing], name: str) -> tuple[tuple[Standing, .
     return tuple(map(tuple, passes))
 
 
-def table_of(spans: Sequence[Span], standings: Sequence[Standing]) -> Table:
-    """What the facts alone say of the table, by how tasks stand after one pass: tasks without guarantee, and cores up
-    to the last pair that had a span."""
-    tasks = [Task(it.task, "lc" if it.cap is None else "be", it.limit) for it in standings]
+def tasks_in(standings: Sequence[Standing]) -> tuple[Task, ...]:
+    """What how tasks stand after one pass says of them: they have no guarantee."""
+    return tuple(Task(it.task, "lc" if it.cap is None else "be", it.limit) for it in standings)
+
+
+def table_in(spans: Sequence[Span], standings: Sequence[Standing]) -> Table:
+    """What the facts alone say of the table: its tasks by how they stand after one pass, and cores up to the last pair
+    that had a span."""
     last = max((it.core for it in spans), default=0)
-    return Table(last // 2 * 2 + 2, tuple(tasks))
+    return Table(last // 2 * 2 + 2, tasks_in(standings))
 
 
 def run_of(spans: Sequence[Span], standings: Sequence[Standing], table: Optional[Table], name: str,
@@ -208,7 +174,7 @@ def run_of(spans: Sequence[Span], standings: Sequence[Standing], table: Optional
     passes = by_pass(standings, name)
     if not passes:
         raise Refusal(f"{name}: the run has no passes: there is nothing to draw")
-    table = table or table_of(spans, passes[0])
+    table = table or table_in(spans, passes[0])
     if len(passes[0]) != len(table.tasks):
         raise Refusal(f"{name}: {len(passes[0])} tasks in each pass, and the table has {len(table.tasks)}")
     for it in spans:

@@ -14,14 +14,15 @@ import subprocess
 import tempfile
 from typing import Any, Iterator
 
-HERE = os.path.dirname(os.path.abspath(__file__))
-TOP = os.path.dirname(os.path.dirname(HERE))
-
 from matplotlib.artist import Artist
 
-from caladan_draw.command import parser_of
-from caladan_draw.drawing import drawn as drawn_of
-from caladan_draw.paper import Paper
+from caladan.pictures.asked import PictureAsked, picture_of
+from caladan.pictures.drawing import drawn as drawn_of
+from caladan.pictures.paper import Paper
+from caladan.words.asked import LAB
+from caladan.words.parsing import read_words
+
+TOP = os.path.dirname(os.path.dirname(os.path.dirname(os.path.dirname(os.path.abspath(__file__)))))
 
 VIEW = os.environ.get("CALADAN_VIEW", f"{TOP}/crates/caladan_view/out/caladan_view")
 # Inputs of every kind: arrivals, signals, a history, and signals of 128 cores.
@@ -48,6 +49,15 @@ def viewed(*words: str, given: str = "") -> str:
     """What caladan_view prints."""
     ran = subprocess.run([VIEW, *words], input=given, capture_output=True, text=True, check=False)
     assert ran.returncode in (0, 1), ran.stderr
+    return ran.stdout
+
+
+@functools.lru_cache(maxsize=None)
+def compared(*words: str, given: str = "") -> str:
+    """What caladan_lab compare prints."""
+    ran = subprocess.run(["/usr/bin/python3", f"{TOP}/caladan_lab", "compare", *words, "--program", VIEW], input=given,
+                         capture_output=True, text=True, check=False)
+    assert ran.returncode == 0, ran.stderr
     return ran.stdout
 
 
@@ -90,11 +100,16 @@ def table_of(name: str) -> dict[str, Any]:
     return tomllib.loads(text_of(example(name)).partition("---\n")[0])
 
 
+def asked(*words: str) -> PictureAsked:
+    """The picture that words of caladan_lab ask for."""
+    program = [] if words[0] == "seeds" else ["--program", VIEW]
+    return picture_of(read_words(LAB, [*words, "-o", "picture.svg", *program]))
+
+
 @functools.lru_cache(maxsize=None)
 def drawn(*words: str, dark: bool = False) -> Paper:
-    """The picture that the words ask for."""
-    ground = ["--dark"] if dark else []
-    return drawn_of(parser_of().parse_args([*words, *ground, "-o", "picture.svg", "--program", VIEW])).paper
+    """The same, drawn."""
+    return drawn_of(asked(*words, *(["--dark"] if dark else []))).paper
 
 
 @functools.lru_cache(maxsize=None)

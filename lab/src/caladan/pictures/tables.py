@@ -1,12 +1,15 @@
-"""The task table of a run: what TOML says of the machine and its tasks."""
+"""The task table of a run, as it is drawn: tasks with names, and without what facts alone do not say."""
 from __future__ import annotations
 
+import tomllib
 from dataclasses import dataclass, replace
 from typing import Optional, Sequence
 
-from .refusal import Refusal
+from ..labels import MOST_NAME, refuse_bad
+from ..refusal import Refusal
+from ..tables import Machine, machine_of, table_part
 
-MOST_NAME, MOST_UNIT = 40, 10
+MOST_UNIT = 10
 
 
 @dataclass(frozen=True)
@@ -41,35 +44,31 @@ class Table:
     tasks: tuple[Task, ...]
 
 
-def table_text(given: str) -> str:
-    """What stands above the first line `---` of an input, or all of it where there is none."""
-    lines = given.splitlines()
-    return "\n".join(lines[:lines.index("---")] if "---" in lines else lines)
-
-
 def read_table(given: str, name: str) -> Table:
     """The table of an input, which caladan_view has accepted or will judge."""
     try:
-        import tomllib
-    except ImportError:
-        raise Refusal(f"{name}: a task table is read by Python 3.11 or later") from None
-    try:
-        read = tomllib.loads(table_text(given))
-        tasks, first = [], 0
-        for number, it in enumerate(read["task"]):
-            tasks.append(Task(number, it["kind"], int(it["limit"]), int(it["guaranteed"]), first))
-            first += int(it["limit"])
-        return Table(int(read["cores"]), tuple(tasks))
+        return table_of(machine_of(table_part(given.encode())))
     except (tomllib.TOMLDecodeError, KeyError, TypeError, ValueError):
         raise Refusal(f"{name}: no task table: `caladan_view check` says why") from None
 
 
-def checked(option: str, words: Sequence[str], most: int) -> None:
+def table_of(machine: Machine) -> Table:
+    """The table of a machine."""
+    limits = [int(it.limit) for it in machine.tasks]
+    return Table(int(machine.cores), tuple(
+        Task(number, it.kind, limit, int(it.guaranteed), sum(limits[:number]))
+        for number, (it, limit) in enumerate(zip(machine.tasks, limits))))
+
+
+def is_plain(letter: str) -> bool:
+    """Whether a letter can stand in a picture."""
+    return letter.isprintable()
+
+
+def checked(names: Sequence[str], tick: str) -> None:
     """Refuses a name or a unit that is too long or empty, or has a control letter."""
-    for word in words:
-        if not 1 <= len(word) <= most or not word.isprintable():
-            shown = "".join(it if it.isprintable() else "?" for it in word)
-            raise Refusal(f"{option} '{shown}': 1 to {most} letters are asked for, none of them a control letter")
+    refuse_bad("--names", names, MOST_NAME, is_plain)
+    refuse_bad("--tick", [tick] if tick else [], MOST_UNIT, is_plain)
 
 
 def named_tasks(tasks: Sequence[Task], names: Sequence[str]) -> tuple[Task, ...]:
@@ -82,3 +81,9 @@ def named_tasks(tasks: Sequence[Task], names: Sequence[str]) -> tuple[Task, ...]
 def count(number: int, what: str, many: str = "") -> str:
     """`1 core`, `2 cores`, `2 passes`."""
     return f"{number:,} {what if number == 1 else many or what + 's'}"
+
+
+def refuse_no_task(task: Optional[int], tasks: int) -> None:
+    """Refuses the number of a task that is not there."""
+    if task is not None and task >= tasks:
+        raise Refusal(f"no such task: there {'is' if tasks == 1 else 'are'} {tasks}, from 0")

@@ -6,7 +6,7 @@ import unittest
 
 import numpy
 
-from caladan_draw.colours import DARK, LIGHT, colours_of
+from caladan.pictures.colours import DARK, LIGHT, colours_of
 
 # Machado, Oliveira and Fernandes, 2009, full strength: linear RGB as it is seen without one kind of cones.
 SEEN = {
@@ -61,7 +61,3 @@ class Colours(unittest.TestCase):
     def test_each_colour_of_a_ground_has_its_own_value(self):
         self.assertEqual(len(set(colours_of(LIGHT))), len(colours_of(LIGHT)))
         self.assertFalse(set(colours_of(LIGHT)) & set(colours_of(DARK)))
-
-
-if __name__ == "__main__":
-    unittest.main()

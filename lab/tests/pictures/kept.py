@@ -1,9 +1,11 @@
 """The pictures of docs/pictures, each with the words that draw it, but for host.svg: that is of a record of a machine.
 
-    PYTHONPATH=draw /usr/bin/python3 draw/tests/pictures.py     draws them anew; `tools/draw_tests --write` runs it"""
+    PYTHONPATH=lab/src:lab/tests /usr/bin/python3 -m pictures.kept
+
+draws them anew; `tools/lab_tests --write` runs it."""
 from __future__ import annotations
 
-from given import DELAYS, KEPT_RUNS, TOP, as_csv, drawn, example, file, text_of
+from .given import DELAYS, KEPT_RUNS, TOP, as_csv, drawn, example, file, text_of
 
 FOLDER = f"{TOP}/docs/pictures"
 NAMES = {"memory": "the service,the batch job", "siblings": "the service,the batch job",
@@ -23,6 +25,6 @@ def pictures() -> dict[str, list[str]]:
 
 
 if __name__ == "__main__":
-    from caladan_draw.saving import save
+    from caladan.pictures.saving import save
     for name, words in pictures().items():
         save(drawn(*words), f"{FOLDER}/{name}.svg")

@@ -6,7 +6,7 @@ import unittest
 
 import numpy
 
-from given import DELAYS, drawn, example, file, input_of, named, pairs, rows_in, task_values, viewed, words_of
+from .given import DELAYS, compared, drawn, example, file, input_of, named, pairs, rows_in, task_values, viewed, words_of
 
 
 class Compared:
@@ -17,13 +17,13 @@ class Compared:
     @classmethod
     def setUpClass(cls):
         given = input_of(cls.NAME)
-        own = [viewed("compare", *cls.WORDS, "--write-input", str(it), given=given) for it in range(3)]
+        own = [compared(*cls.WORDS, "--write-input", str(it), given=given) for it in range(3)]
         facts = {word: [viewed(word, given=it) for it in own] for word in ("requests", "series")}
-        cls.compared = file(f"{cls.__name__}.csv", viewed("compare", *cls.WORDS, "--csv", given=given))
+        cls.compared = file(f"{cls.__name__}.csv", compared(*cls.WORDS, "--csv", given=given))
         cls.files = [cls.compared, *(file(f"{cls.__name__}-{word}{n}.csv", text)
                                      for word, texts in facts.items() for n, text in enumerate(texts))]
         cls.paper = drawn("compare", *cls.files)
-        cls.rows = rows_in(viewed("compare", *cls.WORDS, "--csv", given=given))
+        cls.rows = rows_in(compared(*cls.WORDS, "--csv", given=given))
         cls.requests, cls.series = (list(map(rows_in, facts[word])) for word in ("requests", "series"))
 
     def number(self, task, measure, table):
@@ -105,8 +105,7 @@ class Compared:
 
     def test_rows_that_say_the_unit_are_read(self):
         given = input_of(self.NAME)
-        told = file(f"{self.NAME.replace('/', '-')}-ms.csv", viewed("compare", *self.WORDS, "--csv", "--tick", "ms",
-                                                                    given=given))
+        told = file(f"{self.NAME.replace('/', '-')}-ms.csv", compared(*self.WORDS, "--csv", "--tick", "ms", given=given))
         words = words_of(drawn("compare", told, *self.files[1:]))
         self.assertEqual(words, words_of(drawn("compare", *self.files, "--tick", "ms")))
 
@@ -130,18 +129,14 @@ class Shares(unittest.TestCase):
     """How high shares stand."""
 
     def test_the_marks_are_those_that_requests_can_tell_apart(self):
-        from caladan_draw.scales import ShareScale
+        from caladan.pictures.scales import ShareScale
         for requests, marks in ((3, [0.5]), (10, [0.5, 0.9]), (99, [0.5, 0.9]), (100, [0.5, 0.9, 0.99]),
                                 (1000, [0.5, 0.9, 0.99, 0.999])):
             self.assertEqual(ShareScale(requests).marks, marks)
 
     def test_each_step_up_leaves_a_tenth(self):
-        from caladan_draw.scales import ShareScale
+        from caladan.pictures.scales import ShareScale
         scale = ShareScale(10000)
         numpy.testing.assert_allclose(scale.to_place([0, 0.9, 0.99, 0.999]), [0, 1, 2, 3])
         numpy.testing.assert_allclose(scale.to_share(scale.to_place([0, 0.5, 0.9, 0.999, 1])), [0, 0.5, 0.9, 0.999, 1])
         self.assertTrue(math.isfinite(float(scale.to_place(1.0))))
-
-
-if __name__ == "__main__":
-    unittest.main()

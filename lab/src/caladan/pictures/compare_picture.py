@@ -10,12 +10,13 @@ from typing import Sequence
 import numpy
 from matplotlib.axes import Axes
 
+from ..refusal import Refusal
+from ..sweeps.objectives import RANKS
 from .colours import Palette
 from .curves import grid, look, sample_rows, samples, shorts
 from .facts import Request, Standing
-from .numbers import RANKS, Cell, Comparison
+from .numbers import Cell, Comparison
 from .paper import SMALL, Paper, cut, heading, wrapped
-from .refusal import Refusal
 from .scales import ShareScale, TimeScale, core_scale
 from .tables import Task, count
 

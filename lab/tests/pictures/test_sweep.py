@@ -6,8 +6,9 @@ import unittest
 
 import numpy
 
-from caladan_draw.colours import LIGHT
-from given import as_csv, drawn, example, file, named, pairs, rows_in, table_of, text_of, words_of
+from caladan.pictures.colours import LIGHT
+
+from .given import as_csv, drawn, example, file, named, pairs, rows_in, table_of, text_of, words_of
 
 # Its output is the CSV itself; the other one's is drawn with the objective of its words.
 CSV = "sweep/team_csv"
@@ -105,7 +106,7 @@ class Team(unittest.TestCase):
             self.assertIn(f"task.0.delay={delay}", words_of(self.paper))
 
     def test_nine_tables_have_nine_looks(self):
-        from caladan_draw.curves import look
+        from caladan.pictures.curves import look
         looks = {(it["color"], it["marker"]) for it in (look(n, 16, LIGHT) for n in range(16))}
         self.assertEqual(len(looks), 16)
 
@@ -150,7 +151,7 @@ class Times(unittest.TestCase):
     """The scale of times."""
 
     def test_it_begins_at_0_where_there_is_such_a_time(self):
-        from caladan_draw.scales import TimeScale
+        from caladan.pictures.scales import TimeScale
         self.assertTrue(TimeScale([0, 20, 30]).has_zero)
         self.assertFalse(TimeScale([20, 30]).has_zero)
         for times, ticks in (([20, 500], [20, 50, 100, 200, 500]), ([30, 420], [20, 50, 100, 200, 500]),
@@ -158,7 +159,7 @@ class Times(unittest.TestCase):
             self.assertEqual(TimeScale(times).ticks, ticks)
 
     def test_there_and_back(self):
-        from caladan_draw.scales import TimeScale
+        from caladan.pictures.scales import TimeScale
         scale = TimeScale([0, 10, 1000])
         for time in (0, 3, 10, 20, 777):
             self.assertAlmostEqual(float(scale.to_time(scale.to_place(time))), time)
@@ -189,7 +190,3 @@ class Seeds(unittest.TestCase):
             self.assertIn(f"{which} of 4 seeds", words_of(paper))
             asked = [(float(it["load"]), math.nan if it["p50"] == "-" else answered(it, "p50")) for it in rows_of_it]
             self.assertEqual(repr(pairs(named(paper, f"p50-{number}")[f"p50-{number}"].get_xydata())), repr(asked))
-
-
-if __name__ == "__main__":
-    unittest.main()

@@ -4,10 +4,10 @@ from __future__ import annotations
 import math
 import unittest
 
-from caladan_draw.command import parser_of
-from caladan_draw.drawing import drawn as drawn_of
-from caladan_draw.refusal import Refusal
-from given import KEPT_RUNS, drawn, file, named, pairs, rows_in, text_of, words_of
+from caladan.pictures.drawing import drawn as drawn_of
+from caladan.refusal import Refusal
+
+from .given import KEPT_RUNS, asked, drawn, file, named, pairs, rows_in, text_of, words_of
 
 HEAD = "loads,passes,policy,seed,task 0 response 99 of 100,task 1 requests served\n"
 # With three seeds, whose median is: 20; 30; >40, pending above all numbers; and where nothing came, of one run alone.
@@ -92,9 +92,5 @@ class Refused(unittest.TestCase):
                 ("load,seed,a,b,c,d,e\n1,1,1,1,1,1,1\n", "5 measures; wanted: no more than 4"),
                 ("core,thread\n1,2\n", "wanted: the rows of runs with several seeds")):
             with self.subTest(line), self.assertRaises(Refusal) as refused:
-                drawn_of(parser_of().parse_args(["seeds", file("wrong.csv", text), "-o", "x.svg"]))
+                drawn_of(asked("seeds", file("wrong.csv", text)))
             self.assertIn(line, str(refused.exception))
-
-
-if __name__ == "__main__":
-    unittest.main()

@@ -1,19 +1,16 @@
 """The rows of `caladan_view compare --csv` and `sweep --csv`."""
 from __future__ import annotations
 
-import csv
-import io
 import re
 from dataclasses import dataclass
-from typing import Iterable, Optional
+from typing import Iterable, Optional, Sequence
 
+from ..refusal import Refusal
+from ..rows import Row, rows_of
 from .facts import kind_of
-from .refusal import Refusal
 
 TIMES = ("p50", "p90", "p99", "p99.9", "mean")
 COLUMNS = ("came", "later", "left out", "served", "mean cores", "best-effort share")
-RANKS = {"p50": "response median", "p90": "response 90 of 100", "p99": "response 99 of 100",
-         "p99.9": "response 99.9 of 100", "max": "response greatest"}
 FIRST_MEASURE = "requests given"
 UNIT = re.compile(r" \[(ns|us|ms|s)\]$")
 EXPECTED = {
@@ -52,12 +49,13 @@ class Comparison:
 @dataclass(frozen=True)
 class SweptRun:
     """A run of a sweep, or one of the three rows of several seeds: its load, the value that is varied and which of
-    these rows it is, its times by rank, and its counts by column."""
+    these rows it is, its times by rank, its counts by column, and the cores of its table, where they are varied."""
 
     load: float
     value: str
     times: dict[str, Cell]
     counts: dict[str, Optional[float]]
+    cores: Optional[int] = None
 
 
 @dataclass(frozen=True)
@@ -75,6 +73,11 @@ class Sweep:
     def values(self) -> list[str]:
         """The values that are varied, each once, in their order; of several seeds each with each of its rows."""
         return list(dict.fromkeys(it.value for it in self.runs))
+
+    def cores(self, otherwise: int) -> tuple[int, ...]:
+        """The cores of the table of each value: where these are not varied, so many."""
+        found = {it.value: it.cores for it in self.runs}
+        return tuple(found[it] or otherwise for it in self.values)
 
     def label(self, value: str) -> str:
         return f"{self.key}={value}" if self.key else value or "the table"
@@ -99,7 +102,7 @@ def number(text: str, where: str) -> Optional[float]:
         raise Refusal(f"{where}: `{text}`; wanted: a number or -") from None
 
 
-def cell(texts: list[str], where: str) -> Cell:
+def cell(texts: Sequence[str], where: str) -> Cell:
     """A number with its bound and its count."""
     value, bound, of = texts
     if bound not in ("", ">"):
@@ -108,54 +111,75 @@ def cell(texts: list[str], where: str) -> Cell:
     return Cell(number(value, where), bound == ">", None if few is None else int(few))
 
 
-def lines_of(text: str, name: str, kind: str) -> tuple[list[str], list[tuple[str, list[str]]]]:
-    """The head of a CSV of this kind, and its rows, each with where it stands."""
+def rows_of_kind(text: str, name: str, kind: str) -> tuple[list[str], list[Row]]:
+    """The head of a CSV of this kind, and its rows."""
     if kind_of(text) != kind:
         raise Refusal(f"{name}: {EXPECTED[kind]}")
-    head, *rows = [it for it in csv.reader(io.StringIO(text)) if it]
-    for line, row in enumerate(rows, 2):
-        if len(row) != len(head):
-            raise Refusal(f"{name}: line {line} has {len(row)} fields, and its head has {len(head)}")
-    return head, [(f"{name}: line {line}", row) for line, row in enumerate(rows, 2)]
+    return rows_of(text, name)
 
 
 def read_comparison(text: str, name: str) -> Comparison:
     """A comparison; its tables are the columns beside which a bound stands."""
-    head, lines = lines_of(text, name, "compare")
+    head, lines = rows_of_kind(text, name, "compare")
     places = [n for n, it in enumerate(head[:-1]) if n and head[n + 1] == f"{it} bound"]
-    rows = {bare(row[0]): tuple(cell(row[n:n + 3], where) for n in places) for where, row in lines}
+    rows = {bare(it.fields[0]): tuple(cell(it.fields[n:n + 3], it.where) for n in places) for it in lines}
     given = f" {FIRST_MEASURE}"
     tasks = tuple(it[:-len(given)] for it in rows if it.endswith(given))
     key = "" if head[0] == "measure" else f"{head[0]}="
-    return Comparison(tuple(key + head[n] for n in places), tasks, rows, unit_in(row[0] for _, row in lines))
+    return Comparison(tuple(key + head[n] for n in places), tasks, rows, unit_in(it.fields[0] for it in lines))
+
+
+class SweepRows:
+    """What reads the rows of a sweep: the columns between its load and its times are of what is varied, and the last of
+    these of seeds. Where several keys are varied, each value stands with its key."""
+
+    def __init__(self, titles: Sequence[str], name: str) -> None:
+        self.head = [titles[0], *map(bare, titles[1:])]
+        missing = [it for it in (*TIMES, *COLUMNS) if it not in self.head]
+        if missing:
+            raise Refusal(f"{name}: {EXPECTED['sweep']}: it has no column {missing[0]}")
+        self.between = self.head[1:self.head.index("p50")]
+        has_seeds = bool(self.between) and re.fullmatch(r"of \d+ seeds", self.between[-1]) is not None
+        self.seeds = self.between.pop() if has_seeds else ""
+        self.has_several = len([it for it in self.between if it not in ("policy", "task")]) > 1
+
+    @property
+    def key(self) -> str:
+        """What is varied, where the values stand without it."""
+        return "" if self.has_several else " ".join(self.between)
+
+    def value(self, fields: Sequence[str]) -> str:
+        """What is varied in a row, and which of the seeds' rows it is."""
+        values = list(fields[1:len(self.between) + 1])
+        if self.has_several:
+            values = [" ".join(f"{key}={value}" for key, value in zip(self.between, values))]
+        return ", ".join([*values, *([f"{fields[len(self.between) + 1]} {self.seeds}"] if self.seeds else [])])
+
+    def cores(self, fields: Sequence[str]) -> Optional[int]:
+        """How many cores the table of a row has, where these are varied. A lone key shares its column with the
+        policy."""
+        found = [value.partition(" ")[0] for key, value in zip(self.between, fields[1:])
+                 if key.partition(" ")[0] == "cores"]
+        return int(found[0]) if found and found[0].isdigit() else None
+
+    def run(self, row: Row) -> SweptRun:
+        """The run of a row."""
+        fields, head = row.fields, self.head
+        load = number(fields[0], row.where)
+        if load is None:
+            raise Refusal(f"{row.where}: its load is `{fields[0]}`; wanted: a number")
+        times = {it: cell(fields[head.index(it):head.index(it) + 3], row.where) for it in TIMES}
+        counts = {it: number(fields[head.index(it)], row.where) for it in COLUMNS}
+        return SweptRun(load, self.value(fields), times, counts, self.cores(fields))
 
 
 def read_sweep(text: str, name: str) -> Sweep:
-    """A sweep; the columns between its load and its times are of what is varied, and the last of these of seeds. Where
-    several keys are varied, each value stands with its key."""
-    titles, lines = lines_of(text, name, "sweep")
-    head = [titles[0], *map(bare, titles[1:])]
-    missing = [it for it in (*TIMES, *COLUMNS) if it not in head]
-    if missing:
-        raise Refusal(f"{name}: {EXPECTED['sweep']}: it has no column {missing[0]}")
-    between = head[1:head.index("p50")]
-    seeds = between.pop() if between and re.fullmatch(r"of \d+ seeds", between[-1]) else ""
-    has_several = len([it for it in between if it not in ("policy", "task")]) > 1
-    key = "" if has_several else " ".join(between)
-    runs = []
-    for where, row in lines:
-        times = {it: cell(row[head.index(it):head.index(it) + 3], where) for it in TIMES}
-        counts = {it: number(row[head.index(it)], where) for it in COLUMNS}
-        load = number(row[0], where)
-        if load is None:
-            raise Refusal(f"{where}: its load is `{row[0]}`; wanted: a number")
-        which = [f"{row[len(between) + 1]} {seeds}"] if seeds else []
-        values = row[1:len(between) + 1]
-        if has_several:
-            values = [" ".join(f"{key_of}={value}" for key_of, value in zip(between, values))]
-        runs.append(SweptRun(load, ", ".join([*values, *which]), times, counts))
+    """A sweep."""
+    titles, lines = rows_of_kind(text, name, "sweep")
+    rows = SweepRows(titles, name)
+    runs = tuple(map(rows.run, lines))
     if not runs:
         raise Refusal(f"{name}: it has no runs below its head")
-    in_cores = head[0].startswith("offered")
-    task = head[0].partition("offered to " if in_cores else "load of ")[2]
-    return Sweep(task, key, tuple(runs), unit_in(titles[1:]), in_cores)
+    in_cores = titles[0].startswith("offered")
+    task = titles[0].partition("offered to " if in_cores else "load of ")[2]
+    return Sweep(task, rows.key, runs, unit_in(titles[1:]), in_cores)

@@ -5,8 +5,8 @@ import os
 import unittest
 import xml.etree.ElementTree as tree
 
-from given import drawn, parts_of, words_of
-from pictures import FOLDER, pictures
+from .given import drawn, parts_of, words_of
+from .kept import FOLDER, pictures
 
 SVG = "{http://www.w3.org/2000/svg}"
 
@@ -30,7 +30,3 @@ class Pages(unittest.TestCase):
 
     def test_no_other_is_there(self):
         self.assertEqual(set(os.listdir(FOLDER)), {f"{it}.svg" for it in (*pictures(), "host")})
-
-
-if __name__ == "__main__":
-    unittest.main()

@@ -8,11 +8,11 @@ from dataclasses import dataclass
 from matplotlib.axes import Axes
 from matplotlib.ticker import MaxNLocator
 
+from ..refusal import Refusal
 from .colours import Palette
 from .curves import grid, look, sample_rows, samples
 from .numbers import Cell
 from .paper import SMALL, Paper, cut, heading, wrapped
-from .refusal import Refusal
 from .seeds import Seeds, Spread, words_for
 from .tables import count
 

@@ -1,28 +1,19 @@
 """A figure as a file: SVG, PNG or PDF, by the file's ending."""
 from __future__ import annotations
 
-import contextlib
 import io
-import os
-import shutil
 import xml.etree.ElementTree as tree
+from typing import cast
 
+from ..files import write_beside
+from ..refusal import Refusal
+from ..words.drawn import format_of
 from .colours import other_ground
 from .paper import Paper
-from .refusal import Refusal
 
 SVG = "http://www.w3.org/2000/svg"
-FORMATS = {".svg": "svg", ".png": "png", ".pdf": "pdf"}
 DOTS_PER_INCH = 192
-NO_DATE = {"svg": {"Date": None}, "pdf": {"CreationDate": None, "ModDate": None}, "png": {}}
-
-
-def format_of(file: str) -> str:
-    """What the ending of a file asks for."""
-    ending = os.path.splitext(file)[1].lower()
-    if ending not in FORMATS:
-        raise Refusal(f"-o {file}: a file that ends in .svg, .png or .pdf is asked for")
-    return FORMATS[ending]
+NO_DATE: dict[str, dict[str, None]] = {"svg": {"Date": None}, "pdf": {"CreationDate": None, "ModDate": None}, "png": {}}
 
 
 def dark_rules(changes: dict[str, str]) -> str:
@@ -77,32 +68,9 @@ def as_bytes(paper: Paper, kind: str) -> bytes:
 
 
 def save(paper: Paper, file: str) -> None:
-    """Writes the figure, which is made whole before."""
+    """Writes the figure, which is made whole before: whole or not at all."""
     written = as_bytes(paper, format_of(file))
     try:
-        put(file, written)
+        write_beside(file, written)
     except OSError as fault:
         raise Refusal(f"{file}: {fault.strerror}", 3) from None
-
-
-def put(file: str, written: bytes) -> None:
-    """Writes a file whole or not at all, also where it is interrupted: under a name of its own beside its place, which
-    it takes at the end. What is there and is no file, as a device, is written in its place."""
-    place = os.path.realpath(file)
-    is_there = os.path.exists(place)
-    if is_there:
-        with open(place, "ab") as it:
-            if not os.path.isfile(place):
-                it.write(written)
-                return
-    beside = f"{place}.part{os.getpid()}"
-    try:
-        with open(beside, "xb") as it:
-            it.write(written)
-        if is_there:
-            shutil.copymode(place, beside)
-        os.replace(beside, place)
-    except BaseException:
-        with contextlib.suppress(OSError):
-            os.remove(beside)
-        raise

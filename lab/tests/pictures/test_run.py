@@ -8,9 +8,10 @@ from random import Random
 
 import numpy
 
-from caladan_draw.colours import LIGHT
-from caladan_draw.facts import HEADS
-from given import (RUNS, drawn, example, facts, file, named, rows_in, run_files, table_of, task_values, text_of,
+from caladan.pictures.colours import LIGHT
+from caladan.pictures.facts import HEADS
+
+from .given import (RUNS, drawn, example, facts, file, named, rows_in, run_files, table_of, task_values, text_of,
                    words_of)
 
 CORES = "cores"
@@ -371,7 +372,3 @@ class Coarse(unittest.TestCase):
         figures = task_values(self.series, 0, "bandwidth")
         greatest = [max(figures[a:b]) for a, b in self.columns()]
         self.assertEqual(list(named(self.paper, "bandwidth")["bandwidth"].get_data().values), greatest)
-
-
-if __name__ == "__main__":
-    unittest.main()

@@ -7,8 +7,8 @@ from typing import Optional
 
 import numpy
 
+from ..refusal import Refusal
 from .facts import Run
-from .refusal import Refusal
 
 WHOLE, PART = 80, 64
 NARROWEST, WIDEST = 0.5, 4.0

@@ -1,16 +1,24 @@
-"""The command line: `caladan_draw run`, `compare` and `sweep`."""
+"""The command line of caladan_draw, a name under which `caladan_lab run`, `compare`, `sweep` and `seeds` go on for a
+version, with the words, the texts and the statuses that it had."""
 from __future__ import annotations
 
 import argparse
-import logging
-import sys
+import re
 from typing import Any, Callable, NoReturn, Optional, Sequence
 
-from . import __version__
-from .refusal import Refusal
-from .tables import MOST_NAME, MOST_UNIT, checked
+from .. import __version__
+from ..files import is_terminal, say
+from ..refusal import NAME as LAB_NAME
+from ..refusal import Refusal
+from ..words.asked import LAB
+from ..words.drawn import LEAST_WIDTH, MOST_WIDTH, WIDTH, format_of
+from ..words.parsing import read_words
+from ..words.refusals import Mistake
+from .asked import Look, PictureAsked, RunsRefused, draw
+from .goals import goal_of
+from .tables import checked
 
-NAME, LEAST_WIDTH, MOST_WIDTH, MOST = "caladan_draw", 480, 6000, 2 ** 63
+NAME, VIEW, MOST = "caladan_draw", "caladan_view", 2 ** 63
 SWEEP_OPTIONS = {
     "--task": ("T", "a task that requests come to; again for each further one"),
     "--load": ("L", "its load; for one task several, by commas, as 0.1,0.3,..,0.9"),
@@ -44,7 +52,7 @@ class Kept(argparse.Action):
     """Keeps an option with its value for caladan_view, in the order of the command line."""
 
     def __call__(self, parser: Any, space: argparse.Namespace, value: Any, option: Optional[str] = None) -> None:
-        space.words = [*space.words, option, value]
+        space.words = [*space.words, f"{option}={value}"]
 
 
 def whole(least: int, most: int) -> Callable[[str], int]:
@@ -69,7 +77,7 @@ def word_of(words: Any, name: str, what: str, files: str) -> Parser:
     add("--tick", default="", metavar="UNIT", help="what a clock tick is, as us")
     add("--dark", action="store_true",
         help="on a dark ground; without it an SVG is light or dark as its reader has it")
-    add("--width", type=whole(LEAST_WIDTH, MOST_WIDTH), default=800, metavar="PIXELS",
+    add("--width", type=whole(LEAST_WIDTH, MOST_WIDTH), default=WIDTH, metavar="PIXELS",
         help="how wide it is; 800 without it, as wide as a README shows it")
     add("--program", default="", metavar="FILE",
         help="the caladan_view that reads an input; without it the one beside this, or in the PATH")
@@ -111,28 +119,48 @@ def parser_of() -> Parser:
     return parser
 
 
+def picture_of(space: argparse.Namespace) -> PictureAsked:
+    """The picture that words ask for."""
+    names = tuple(space.names)
+    checked(names, space.tick)
+    format_of(space.output)
+    look, files = Look(space.width, space.dark, names, space.tick), tuple(space.files)
+    shared: dict[str, Any] = {"program": space.program, "table": getattr(space, "table", None)}
+    if space.word == "run":
+        return PictureAsked("run", space.output, look, files, **shared, first=space.first, passes=space.passes,
+                            task=space.task)
+    if space.word == "seeds":
+        return PictureAsked("seeds", space.output, look, files)
+    more = [f"--arrivals={space.arrivals}"] if getattr(space, "arrivals", None) else []
+    if goal := getattr(space, "slo", ""):
+        goal_of(goal, names)
+        more.append(f"--slo={goal}")
+    runs = read_words(LAB, [space.word, *space.words, *more, "-o", space.output])
+    return PictureAsked(space.word, space.output, look, files, **shared, runs=runs)
+
+
+def as_before(text: str) -> str:
+    """What is said of runs, under the name of the program that once said it."""
+    return re.sub(rf"^(Usage: )?{LAB_NAME}\b", rf"\1{VIEW}", text, flags=re.M)
+
+
 def answer(words: Sequence[str]) -> int:
     """Draws what the words ask for; answers the status."""
     space = parser_of().parse_args(words)
     if not space.word:
         raise Refusal(f"no word; there are run, compare, sweep and seeds; {NAME} --help says more")
-    checked("--names", space.names, MOST_NAME)
-    checked("--tick", [space.tick] if space.tick else [], MOST_UNIT)
-    logging.getLogger("matplotlib").setLevel(logging.ERROR)
-    try:
-        from . import drawing
-    except ImportError as missing:
-        name = missing.name or "matplotlib"
-        raise Refusal(f"{name} is not installed; on Debian: apt-get install python3-matplotlib") from None
-    return drawing.draw(space)
+    return draw(picture_of(space), lambda told: say(as_before(told)))
 
 
-def main() -> int:
+def run(words: Sequence[str]) -> int:
     """Does what the command line says; what cannot be drawn is one line on standard error."""
+    if is_terminal():
+        say(f"{NAME}: it is {LAB_NAME} now, with the same words\n")
     try:
-        return answer(sys.argv[1:])
+        return answer(words)
+    except Mistake as mistake:
+        say(as_before(str(mistake)))
+        return 2
     except Refusal as refusal:
-        sys.stderr.write(f"{refusal.said or f'{NAME}: {refusal}'}\n")
+        say(refusal.told_by(VIEW if isinstance(refusal, RunsRefused) else NAME))
         return refusal.status
-    except KeyboardInterrupt:
-        return 130

@@ -9,35 +9,18 @@ from typing import Optional, Sequence
 
 from matplotlib.axes import Axes
 
+from ..refusal import Refusal
+from ..sweeps.objectives import Objective
 from .colours import Palette
 from .curves import STYLES, grid, look, sample_rows, samples
-from .numbers import RANKS, Cell, Sweep, SweptRun
+from .numbers import Cell, Sweep, SweptRun
 from .paper import SMALL, Paper, heading, wrapped
-from .refusal import Refusal
 from .scales import TimeScale, core_scale
 
 MARGIN, AXIS, PLOT, BAND = 14, 76, 300, 16
 # The part of the cost plot's width on each side that is kept for the loads at the ends of a line.
 ENDS = 0.3
 FEW = 0.45
-
-
-@dataclass(frozen=True)
-class Objective:
-    """A rank of a task's response, and the ticks that it may take at most."""
-
-    task: int
-    rank: str
-    ticks: int
-
-
-def objective_of(word: str) -> Objective:
-    """The objective of a word as task.0.p99=250."""
-    key, _, ticks = word.partition("=")
-    parts = key.split(".", 2)
-    if len(parts) == 3 and parts[0] == "task" and parts[1].isdigit() and parts[2] in RANKS and ticks.isdigit():
-        return Objective(int(parts[1]), parts[2], int(ticks))
-    raise Refusal(f"--slo {word}: an objective is task.T.R=N, and R is p50, p90, p99, p99.9 or max")
 
 
 @dataclass(frozen=True)

@@ -5,15 +5,16 @@ import contextlib
 import io
 import os
 import subprocess
-import sys
 import unittest
 import unittest.mock
 import xml.etree.ElementTree as tree
 
-from caladan_draw.colours import DARK, LIGHT, colours_of
-from caladan_draw.command import main
-from caladan_draw.saving import as_svg, put, save
-from given import (DELAYS, KEPT_RUNS, RUNS, TOP, VIEW, as_csv, drawn, example, facts, file, path_of, run_files, text_of,
+from caladan.files import write_beside
+from caladan.pictures import old_words
+from caladan.pictures.colours import DARK, LIGHT, colours_of
+from caladan.pictures.saving import as_svg, save
+
+from .given import (DELAYS, KEPT_RUNS, RUNS, TOP, VIEW, as_csv, drawn, example, facts, file, path_of, run_files, text_of,
                    words_of)
 
 DRAW = os.path.join(TOP, "caladan_draw")
@@ -22,10 +23,10 @@ SVG = "{http://www.w3.org/2000/svg}"
 
 def run(*words: str) -> tuple[int, str, str]:
     """The status of the command line in this process, and what it writes on both outputs."""
-    out, error = io.StringIO(), io.StringIO()
-    with unittest.mock.patch.object(sys, "argv", [DRAW, *words]), contextlib.redirect_stdout(out), \
-            contextlib.redirect_stderr(error):
-        return main(), out.getvalue(), error.getvalue()
+    out, said = io.StringIO(), list[str]()
+    with unittest.mock.patch.object(old_words, "say", said.append), contextlib.redirect_stdout(out), \
+            unittest.mock.patch.object(old_words, "is_terminal", lambda: False):
+        return old_words.run(words), out.getvalue(), "".join(said)
 
 
 def run_alone(*words: str, **more: str) -> tuple[int, str, str]:
@@ -50,21 +51,13 @@ class Written(unittest.TestCase):
         os.makedirs(folder)
         with open(f"{folder}/old", "wb") as it:
             it.write(b"old")
-        really = open
-
-        def halfway(*words):
-            if words[1] == "xb":
-                really(*words).close()
-                raise KeyboardInterrupt
-            return really(*words)
-
-        for what, how in (("os.replace", KeyboardInterrupt), ("open", halfway)):
+        for what in ("os.replace", "write_all"):
             for name in ("old", "new"):
-                with unittest.mock.patch(f"caladan_draw.saving.{what}", side_effect=how, create=True), \
+                with unittest.mock.patch(f"caladan.files.{what}", side_effect=KeyboardInterrupt), \
                         self.assertRaises(KeyboardInterrupt):
-                    put(f"{folder}/{name}", b"new")
+                    write_beside(f"{folder}/{name}", b"new")
                 self.assertEqual((os.listdir(folder), text_of(f"{folder}/old")), (["old"], "old"))
-        put(f"{folder}/old", b"new")
+        write_beside(f"{folder}/old", b"new")
         self.assertEqual((os.listdir(folder), text_of(f"{folder}/old")), (["old"], "new"))
 
     def test_an_svg_has_words_stories_and_the_other_ground(self):
@@ -179,7 +172,3 @@ class Refused(unittest.TestCase):
 
     def test_a_place_that_cannot_be_written(self):
         self.refused(run("run", *run_files("lockstep/tour"), "-o", "/proc/x.svg"), "/proc/x.svg: ", 3)
-
-
-if __name__ == "__main__":
-    unittest.main()

@@ -5,13 +5,18 @@ from __future__ import annotations
 import math
 import re
 from dataclasses import dataclass
+from typing import Sequence
 
-from .numbers import RANKS, Cell, lines_of, number
-from .refusal import Refusal
+from ..refusal import Refusal
+from ..rows import Row
+from ..sweeps.objectives import RANKS
+from .numbers import Cell, number, rows_of_kind
 
 BY_RANK = {row: rank for rank, row in RANKS.items()}
 OTHERS = {"requests served": "requests served of {}", "mean cores held": "cores held by {}"}
 OF_ALL = {"lost to tasks": "cores revoked for tasks"}
+# What is set in a run: from left to right, from line to line, and from row to row.
+Setting = tuple[str, str, str]
 
 
 @dataclass(frozen=True)
@@ -57,22 +62,29 @@ def cell_of(text: str, where: str) -> Cell:
     return Cell(number(text.removeprefix(">"), where), text.startswith(">"))
 
 
-def settings_of(cells: list[str]) -> tuple[str, str, str]:
+def settings_of(cells: Sequence[str]) -> Setting:
     """What is set, from left to right, from line to line, and from row to row."""
     *rest, across, line = ["", *cells] if cells[1:] else ["", *cells, ""]
     return across, line, ", ".join(it for it in rest if it)
 
 
+def runs_by_setting(rows: Sequence[Row], at: int) -> dict[Setting, dict[str, list[Cell]]]:
+    """For each setting the measures of its runs, by their seeds, which stand in this column."""
+    found: dict[Setting, dict[str, list[Cell]]] = {}
+    for row in rows:
+        runs = found.setdefault(settings_of(row.fields[:at]), {})
+        seed = row.fields[at]
+        if seed in runs:
+            raise Refusal(f"{row.where}: its seed stands above; wanted: one row for each seed")
+        runs[seed] = [cell_of(it, row.where) for it in row.fields[at + 1:]]
+    return found
+
+
 def read_seeds(text: str, name: str) -> Seeds:
     """Such rows; every setting has a row for each seed."""
-    head, lines = lines_of(text, name, "seeds")
+    head, rows = rows_of_kind(text, name, "seeds")
     at = head.index("seed")
-    measures, found = tuple(head[at + 1:]), {}
-    for where, row in lines:
-        runs = found.setdefault(settings_of(row[:at]), {})
-        if row[at] in runs:
-            raise Refusal(f"{where}: its seed stands above; wanted: one row for each seed")
-        runs[row[at]] = [cell_of(it, where) for it in row[at + 1:]]
+    measures, found = tuple(head[at + 1:]), runs_by_setting(rows, at)
     if not found:
         raise Refusal(f"{name}: it has no runs below its head")
     counts = {len(runs) for runs in found.values()}
