@@ -7,7 +7,7 @@ from typing import Optional, Sequence
 from ..arrivals import is_some_within
 from ..files import STANDARD, Output, Source, joined, read_named
 from ..labels import Labels, names_of, table_names
-from ..moving import Given, HandMover, Mover, NoTask
+from ..moving import Given, NoTask, ProgramMover
 from ..plans import plan_of
 from ..pool import each
 from ..programs import viewer
@@ -83,7 +83,7 @@ def refuse_empty_window(asked: Asked, given: Given) -> None:
     first, after = asked.number("from"), asked.number("to")
     if first is None and after is None:
         return
-    if not is_some_within(given.arrivals, given.comings, first, after):
+    if not is_some_within(given.comings, first, after):
         raise Refusal(NONE_CAME)
 
 
@@ -96,13 +96,13 @@ def answer(asked: Asked, reading: Reading, variations: Variations, labels: Label
         machines = varied(reading.view, machines[0], variations, each)
     table = asked.number("write-input")
     if table is not None:
-        return input_text(machines, arrivals, variations, table)
+        return input_text(ProgramMover(reading.view, arrivals), machines, variations, table)
     if came is not None:
         reading.check_comings(*came)
         arrivals = replace(arrivals, came=came[1])
     refuse_empty_window(asked, arrivals)
     names = [table_name(variations, it) for it in range(len(machines))]
-    runs = Runs(reading.view, terms, machines, HandMover(arrivals), names).all()
+    runs = Runs(reading.view, terms, machines, ProgramMover(reading.view, arrivals), names).all()
     sheet = CompareSheet(runs, terms.policies, variations, labels, came is not None, asked.has("csv"))
     return sheet.written().encode("utf-8", "surrogateescape")
 
@@ -112,17 +112,15 @@ def table_name(variations: Variations, table: int) -> str:
     return setting_text(variations, table) if variations else f"table {table}"
 
 
-def input_text(machines: Sequence[Machine], given: Given, variations: Variations, table: int) -> bytes:
+def input_text(mover: ProgramMover, machines: Sequence[Machine], variations: Variations, table: int) -> bytes:
     """The input of the run of one of the tables, with the arrivals that it gets."""
     if table >= len(machines):
         raise Refusal(f"table {table} is not there: there are {len(machines)}, from 0")
-    mover: Mover = HandMover(given)
     try:
-        moved = mover.moved(machines[table])
+        moved = mover.asked(machines[table])
     except NoTask as fault:
         raise Refusal(f"{table_name(variations, table)} {fault.line}") from None
-    arrivals = given.arrivals.text() if moved.arrivals == given.text else moved.arrivals
-    return machines[table].text() + SEPARATOR + arrivals
+    return machines[table].text() + SEPARATOR + moved.arrivals
 
 
 def compare(asked: Asked) -> int:
