@@ -6,7 +6,7 @@ import errno
 import os
 import stat
 import sys
-from typing import Optional, Sequence
+from typing import Iterable, Optional, Sequence
 
 from .refusal import Refusal
 
@@ -82,17 +82,22 @@ def separator(text: bytes) -> Optional[tuple[int, int]]:
     return None
 
 
-def joined(names: Sequence[str]) -> bytes:
-    """The task tables of these files as they stand in an input: in order, each with the line --- below it."""
+def tables_joined(tables: Iterable[tuple[str, bytes]]) -> bytes:
+    """Task tables, each with the name of its file, as they stand in an input: in order, each with the line --- below
+    it."""
     text = b""
-    for name in names:
-        table = read_named(name)
+    for name, table in tables:
         front = table + (b"" if table.endswith(b"\n") else b"\n") + b"---\n"
         cut = separator(front)
         if cut is None or cut[1] != len(front):
             raise Refusal(f"{name}: a line --- in a task table")
         text += front
     return text
+
+
+def joined(names: Sequence[str]) -> bytes:
+    """The task tables of these files as they stand in an input."""
+    return tables_joined((it, read_named(it)) for it in names)
 
 
 class Output:

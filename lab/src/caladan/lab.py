@@ -8,8 +8,9 @@ import os
 from dataclasses import dataclass, field, replace
 from typing import TYPE_CHECKING, Iterable, Mapping, Optional, Sequence, Union
 
-from .comparisons.command import answer as compared
+from .comparisons.command import runs_of, sheet_of
 from .comparisons.given import Reading, parts_of
+from .comparisons.runs import Runs
 from .files import read_named
 from .labels import Labels, names_of
 from .programs import Came, Text, Viewer, Word, simulator, viewer
@@ -22,6 +23,9 @@ from .words.parsing import Asked, read_words
 
 if TYPE_CHECKING:
     import pandas
+
+    from .pictures.asked import Look
+    from .pictures.picture import File, Picture
 
 Value = Union[str, int, float]
 Option = Union[Value, bool, None, Iterable[Value]]
@@ -92,6 +96,11 @@ class Table:
     @property
     def labels(self) -> Labels:
         return Labels(self.names, self.tick)
+
+    def look(self, width: int, dark: bool) -> Look:
+        """How pictures of it look: so many pixels wide, and whether on a dark ground."""
+        from .pictures.asked import Look
+        return Look(width, dark, self.names, self.tick)
 
     def with_values(self, values: Mapping[str, Value]) -> "Table":
         """The table with these values at keys, as `task.0.delay`."""
@@ -179,15 +188,29 @@ class Run:
         return self.table.view.told(["explain", "--policy", self.policy, *more], history).out.decode()
 
 
+    def picture(self, file: File = None, first: int = 0, passes: Optional[int] = None, task: Optional[int] = None,
+                width: int = 800, dark: bool = False) -> Picture:
+        """The lanes of the run, as `caladan_lab run` draws them: so many passes from one on, of a task alone where one
+        is named, so many pixels wide. It is written to the file, if one is named: SVG, PNG or PDF by its ending."""
+        from .pictures.picture import of_run
+        return of_run(self.told, self.table.machine, self.table.look(width, dark), file, first, passes, task)
+
+
 @dataclass(frozen=True)
 class Answer:
-    """What came of many runs: the CSV, the words that asked for it, the unit of a tick, and the lines about objectives
-    that are not kept."""
+    """What came of many runs: the CSV, the words that asked for it, its table, the lines about objectives that are not
+    kept, and of a comparison its runs."""
 
     csv: str
     words: tuple[str, ...]
-    tick: str
+    table: Table
     misses: tuple[str, ...] = ()
+    runs: Optional[Runs] = field(default=None, repr=False, compare=False)
+
+    @property
+    def tick(self) -> str:
+        """The unit of a tick."""
+        return self.table.tick
 
     @functools.cached_property
     def frame(self) -> pandas.DataFrame:
@@ -202,6 +225,16 @@ class Answer:
 
     def __repr__(self) -> str:
         return f"<Answer to {' '.join(self.words)}>"
+
+    def picture(self, file: File = None, width: int = 800, dark: bool = False) -> Picture:
+        """What `caladan_lab sweep` or `compare` draws of it, so many pixels wide; written to the file, if one is named:
+        SVG, PNG or PDF by its ending."""
+        from .pictures.picture import of_compare, of_sweep
+        look, csv = self.table.look(width, dark), self.csv.partition("\n\n")[0]
+        if self.runs is not None:
+            return of_compare(csv, self.runs, look, file)
+        asked = read_words(LAB, self.words)
+        return of_sweep(csv, self.table.machine, asked_of(asked).loads.task, asked.all("slo"), look, file)
 
 
 def _asked(word: str, table: Table, vary: Optional[Keys], options: Mapping[str, Option]) -> tuple[list[str], Asked]:
@@ -222,8 +255,10 @@ def compare(runs: Union[Run, Sequence[Run]], vary: Optional[Keys] = None, **opti
     text = tables + first.arrivals
     reading = Reading(first.table.view, text, parts_of(text, bool(variations)), bool(variations))
     came = None if first.came is None else ("the comings", first.came)
-    csv = compared(asked, reading, variations, first.table.labels, came).decode()
-    return Answer(csv, tuple(words), first.tick)
+    labels = first.table.labels
+    made = runs_of(asked, reading, variations, labels, came)
+    csv = sheet_of(made, variations, labels, came is not None, True).decode()
+    return Answer(csv, tuple(words), first.table, runs=made)
 
 
 def sweep(table: Table, load: Union[Value, Sequence[Value], None] = None, vary: Optional[Keys] = None,
@@ -234,4 +269,4 @@ def sweep(table: Table, load: Union[Value, Sequence[Value], None] = None, vary: 
     words, asked = _asked("sweep", table, vary, {"load": loads, **options})
     names_of(asked.one("names"))
     csv, lines = swept(asked_of(asked), table.text, table.view)
-    return Answer(csv, tuple(words), table.tick, tuple(lines.splitlines()))
+    return Answer(csv, tuple(words), table, tuple(lines.splitlines()))
