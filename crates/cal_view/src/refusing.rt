@@ -5,7 +5,7 @@ ghost use Rattle.std.specs.Prelude.{◌≡◌, IfErr, IfOk};
 use crate::command_words::command_line::{InputJob, Job, Request};
 use crate::edge::sources::STANDARD;
 use crate::jobs::telling::Facts;
-use cal_input::RunFault;
+use cal_input::{RunFault, status};
 use cal_load::WordFault;
 use cal_why::{RefusedInput, TraceKind, end_explained};
 use std::alloc::Global;
@@ -23,6 +23,8 @@ pub fn end_refusal<E: Write>(
     ensures kind { IfErr result (λ other. other ≡ fault) }
 {
     match fault {
+        // Memory that was refused to a part is no fault of the part.
+        fault if status(&fault) != 2 => Err(fault),
         RunFault::Separator | RunFault::Config(_) | RunFault::Trace(_) => {
             end_explained(alloc, "caladan_view", refused, &fault, errors);
             Ok(2)
