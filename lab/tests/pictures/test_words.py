@@ -152,7 +152,7 @@ def test_each_policy_has_its_curve(lab: Run, tmp_path: Path) -> None:
     file = tmp_path / "x.svg"
     words = ["compare", example("compare/tour"), "--policy", "caladan,assured", "--names", "a,b,c"]
     assert lab(*words, "-o", str(file), view=VIEW) == (0, "", "")
-    for name in ("table 0 caladan", "table 0 assured", "table 2 assured", "a", "b"):
+    for name in ("3 tables by 2 policies on the same arrivals", "table 0 caladan", "table 2 assured", "a", "b"):
         assert name in texts_in(file)
 
 
