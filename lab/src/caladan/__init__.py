@@ -25,7 +25,7 @@ from __future__ import annotations
 
 from typing import TYPE_CHECKING, Any
 
-__version__ = "4"
+__version__ = "5"
 __all__ = ["Answer", "Refusal", "Run", "Table", "compare", "core", "sweep"]
 # Functions of caladan.core which, as its classes and constants, go by `caladan.` too for a version more.
 OF_CORE = ("action_row", "machine_of", "recorded", "taken", "text_of", "text_of_rows", "written")

@@ -57,7 +57,7 @@ def head_of(text: str) -> list[str]:
 def rows_of(text: str, name: str) -> tuple[list[str], list[Row]]:
     """The head of a CSV, and the rows below it, which have as many fields; empty lines are none."""
     lines = csv.reader(io.StringIO(text))
-    head = next(lines, [])
+    head: list[str] = next(lines, [])
     columns = tuple(it.partition(" [")[0] for it in head)
     rows = []
     for fields in lines:

@@ -11,13 +11,14 @@ from matplotlib.path import Path
 from .bands import MARGIN, Scene
 from .cores import CoreLanes
 from .paper import Paper, swatch
+from .scales import Array
 
 FREE, BANNED = -1, -2
 CAUSES = (("preempt", "for a task"), ("bandwidth", "for bandwidth"), ("ban", "for a ban"))
 PALE = 0.5
 
 
-def holders(scene: Scene, cores: list[int]) -> numpy.ndarray:
+def holders(scene: Scene, cores: list[int]) -> Array:
     """Of each core, in each pass that is shown, the task that held or left it, or that it was banned or free."""
     window, places = scene.window, {core: n for n, core in enumerate(cores)}
     had = numpy.full((len(cores), window.shown), FREE)
@@ -29,7 +30,7 @@ def holders(scene: Scene, cores: list[int]) -> numpy.ndarray:
     return had
 
 
-def most_of(scene: Scene, had: numpy.ndarray) -> tuple[numpy.ndarray, numpy.ndarray]:
+def most_of(scene: Scene, had: Array) -> tuple[Array, Array]:
     """Of each core and column who had it in the most passes, and in what part of them."""
     starts = [begin - scene.window.first for begin, _ in scene.buckets]
     lasts = numpy.array([end - begin for begin, end in scene.buckets])
@@ -38,7 +39,7 @@ def most_of(scene: Scene, had: numpy.ndarray) -> tuple[numpy.ndarray, numpy.ndar
     return whose[counts.argmax(axis=0)], counts.max(axis=0) / lasts
 
 
-def runs_in(row: numpy.ndarray) -> list[tuple[int, int]]:
+def runs_in(row: Array) -> list[tuple[int, int]]:
     """Where a row of truths is true: from which place to before which."""
     steps = numpy.flatnonzero(numpy.diff(numpy.concatenate([[0], row.astype(int), [0]])))
     return list(zip(steps[::2].tolist(), steps[1::2].tolist()))
@@ -57,7 +58,7 @@ class CoarseLanes(CoreLanes):
                 if which.any():
                     self.patch(axes, paper, whose, which, is_sure)
 
-    def patch(self, axes: Axes, paper: Paper, whose: int, which: numpy.ndarray, is_sure: bool) -> None:
+    def patch(self, axes: Axes, paper: Paper, whose: int, which: Array, is_sure: bool) -> None:
         """All columns of one task, or of bans, as one shape; after the eighth task with a line in it."""
         edges, colours = self.scene.edges, paper.palette
         bars = [(self.tops[core], edges[begin], edges[end])
@@ -85,9 +86,9 @@ class RevokedLane:
     def __init__(self, scene: Scene) -> None:
         self.scene = scene
         self.counts = {cause: self.count(cause) for cause, _ in CAUSES}
-        self.most = sum(self.counts.values()).max()
+        self.most = numpy.sum(list(self.counts.values()), axis=0).max()
 
-    def count(self, cause: str) -> numpy.ndarray:
+    def count(self, cause: str) -> Array:
         """How many revocations of this cause each column has."""
         scene = self.scene
         passes = Counter(it.from_pass for it in scene.run.spans

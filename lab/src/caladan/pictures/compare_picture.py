@@ -132,7 +132,7 @@ class SharePlot:
 
     def same(self) -> str:
         """Which tables have the curve of an earlier one."""
-        first: dict[tuple, str] = {}
+        first: dict[tuple[tuple[float, ...], tuple[float, ...]], str] = {}
         words = []
         for curve, label in zip(self.curves, self.scene.shorts):
             earlier = first.setdefault((curve.times, curve.shares), label)

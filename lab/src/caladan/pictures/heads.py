@@ -2,6 +2,7 @@
 from __future__ import annotations
 
 from collections import Counter
+from typing import Iterator
 
 import numpy
 from matplotlib.patches import Rectangle
@@ -186,7 +187,7 @@ class Passes:
             axes.text(number + 0.5, 38, "//", fontsize=SMALL * 0.75, color=colours.second, ha="center", va="center")
 
 
-def steps():
+def steps() -> Iterator[int]:
     """1, 2, 5, 10, 20, 50 and so on."""
     power = 1
     while True:

@@ -66,7 +66,7 @@ def whole(least: int, most: int) -> Callable[[str], int]:
 
 def word_of(words: Any, name: str, what: str, files: str) -> Parser:
     """A word with what every word takes."""
-    parser = words.add_parser(name, help=what, description=f"Draws {what}.",
+    parser: Parser = words.add_parser(name, help=what, description=f"Draws {what}.",
                               usage=f"{NAME} {name} [OPTIONS] -o PICTURE [FILE]..")
     parser.set_defaults(words=[])
     parser.add_argument_group("Arguments").add_argument(

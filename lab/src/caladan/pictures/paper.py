@@ -38,7 +38,7 @@ matplotlib.rcParams.update(SETTINGS)
 def width_of(words: str, size: float = PLAIN, weight: str = "normal") -> float:
     """How many pixels words take."""
     font = FontProperties(size=size * POINTS, weight=weight)
-    return text_to_path.get_text_width_height_descent(words, font, False)[0] / POINTS
+    return float(text_to_path.get_text_width_height_descent(words, font, False)[0]) / POINTS
 
 
 class Paper:

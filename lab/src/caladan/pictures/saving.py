@@ -3,7 +3,6 @@ from __future__ import annotations
 
 import io
 import xml.etree.ElementTree as tree
-from typing import cast
 
 from ..files import write_beside
 from ..refusal import Refusal
@@ -54,7 +53,7 @@ def as_svg(paper: Paper) -> bytes:
             part.text = words
             picture.insert(0, part)
     picture.set("role", "img")
-    return tree.tostring(picture, encoding="utf-8", xml_declaration=True)
+    return bytes(tree.tostring(picture, encoding="utf-8", xml_declaration=True))
 
 
 def as_bytes(paper: Paper, kind: str) -> bytes:

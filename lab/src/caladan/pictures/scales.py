@@ -2,12 +2,14 @@
 from __future__ import annotations
 
 import math
-from typing import Iterable, Sequence
+from typing import Any, Iterable, Sequence
 
 import numpy
+import numpy.typing
 from matplotlib.axes import Axes
 from matplotlib.ticker import MaxNLocator
 
+Array = numpy.typing.NDArray[Any]
 MARKS = (0.5, 0.9, 0.99, 0.999)
 
 
@@ -37,12 +39,12 @@ class TimeScale:
             nice = MaxNLocator(4, steps=[1, 2, 5, 10]).tick_values(self.low, self.most)
             self.named = [float(it) for it in nice if self.least <= it <= self.most]
 
-    def to_place(self, times: numpy.ndarray) -> numpy.ndarray:
+    def to_place(self, times: Array) -> Array:
         times = numpy.asarray(times, dtype=float)
         safe = numpy.maximum(times, self.low)
         return numpy.where(times >= self.low, numpy.log2(safe / self.low) + 1, times / self.low)
 
-    def to_time(self, places: numpy.ndarray) -> numpy.ndarray:
+    def to_time(self, places: Array) -> Array:
         places = numpy.asarray(places, dtype=float)
         return numpy.where(places >= 1, self.low * 2.0 ** (numpy.maximum(places, 1) - 1), places * self.low)
 
@@ -87,11 +89,12 @@ class ShareScale:
         self.least = 0.5 / max(requests, 1)
         self.marks = [it for it in MARKS if round((1 - it) * requests, 6) >= 1]
 
-    def to_place(self, shares: numpy.ndarray) -> numpy.ndarray:
-        left = 1 - numpy.asarray(shares, dtype=float)
-        return -numpy.log10(numpy.maximum(left, self.least))
+    def to_place(self, shares: Array) -> Array:
+        left: Array = 1 - numpy.asarray(shares, dtype=float)
+        place: Array = -numpy.log10(numpy.maximum(left, self.least))
+        return place
 
-    def to_share(self, places: numpy.ndarray) -> numpy.ndarray:
+    def to_share(self, places: Array) -> Array:
         places = numpy.asarray(places, dtype=float)
         return numpy.where(places >= -math.log10(self.least), 1.0, 1 - 10.0 ** -places)
 

@@ -77,7 +77,7 @@ class SeedsPlot:
         axes.set_ylim(0, ticks[-1])
         if any(it == it for it in found):
             axes.set_yticks(ticks, [f"{it:,.10g}" for it in ticks])
-        return ticks[-1]
+        return float(ticks[-1])
 
     def draw(self, paper: Paper, left: float, top: float, across: float) -> None:
         scene, colours = self.scene, paper.palette

@@ -5,7 +5,7 @@ from __future__ import annotations
 import math
 from dataclasses import dataclass
 from functools import cached_property
-from typing import Optional, Sequence
+from typing import Any, Optional, Sequence
 
 from matplotlib.axes import Axes
 
@@ -85,7 +85,7 @@ def answered(cell: Cell) -> float:
     return math.nan if cell.pending or cell.value is None else cell.value
 
 
-def curve(axes: Axes, places: Sequence[float], cells: Sequence[Cell], name: str, how: dict) -> None:
+def curve(axes: Axes, places: Sequence[float], cells: Sequence[Cell], name: str, how: dict[str, Any]) -> None:
     """A line through the times that were answered, broken at what is pending; markers are pale where too few requests
     came for the rank."""
     times = [answered(it) for it in cells]

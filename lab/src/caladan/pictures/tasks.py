@@ -10,12 +10,13 @@ from matplotlib.patches import Rectangle
 from .bands import LABELS, MARGIN, Scene
 from .facts import Standing
 from .paper import SMALL, Paper, cut
+from .scales import Array
 from .tables import Task
 
 HATCH, DASHES, ROOM, LATE = "/////", (0, (5, 3)), 15, 5
 
 
-def steps_of(scene: Scene, values: Sequence[float], of: Callable[[Sequence[float]], float]) -> numpy.ndarray:
+def steps_of(scene: Scene, values: Sequence[float], of: Callable[[Sequence[float]], float]) -> Array:
     """A value for each column: that of its pass, or what `of` makes of those of its passes."""
     first = scene.window.first
     return numpy.array([of(values[begin - first:end - first]) for begin, end in scene.buckets], dtype=float)
@@ -90,7 +91,7 @@ class TaskLane:
         names = {task.limit: ["limit"]}
         if task.guaranteed:
             names.setdefault(task.guaranteed, []).append("guar.")
-        if cap not in (None, task.limit):
+        if cap is not None and cap != task.limit:
             names.setdefault(cap, []).append("cap")
         above = -12.0
         for value, kinds in sorted(names.items(), reverse=True):

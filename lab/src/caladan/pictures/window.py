@@ -3,16 +3,19 @@ from __future__ import annotations
 
 from dataclasses import dataclass
 from statistics import median
-from typing import Optional
+from typing import Callable, Optional
 
 import numpy
 
 from ..refusal import Refusal
 from .facts import Run
+from .scales import Array
 
 WHOLE, PART = 80, 64
 NARROWEST, WIDEST = 0.5, 4.0
 COARSE_COLUMN = 3.0
+# From passes to places, or back.
+Scale = Callable[[Array], Array]
 
 
 @dataclass(frozen=True)
@@ -67,7 +70,7 @@ class Columns:
         self.not_to_scale = [window.first + n for n, (it, had) in enumerate(zip(asked, widths)) if it != had]
 
     @property
-    def functions(self) -> tuple:
+    def functions(self) -> tuple[Scale, Scale]:
         """From a pass to its place and back, as matplotlib takes a scale."""
         return (lambda passes: numpy.interp(passes, self.numbers, self.edges),
                 lambda places: numpy.interp(places, self.edges, self.numbers))
@@ -75,7 +78,8 @@ class Columns:
     def width(self, begin: float, end: float, pixels: float) -> float:
         """How many pixels lie between two passes."""
         to_place = self.functions[0]
-        return float(to_place(end) - to_place(begin)) / self.edges[-1] * pixels
+        left, right = to_place(numpy.array([begin, end]))
+        return float(right - left) / float(self.edges[-1]) * pixels
 
 
 def bucket_size(window: Window, pixels: float) -> int:
