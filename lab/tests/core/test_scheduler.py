@@ -26,8 +26,8 @@ def test_a_look_that_does_not_fit_is_named(library: str, lie: Look, waits: Look)
     with Scheduler(TABLE, library=library) as it:
         with pytest.raises(Unfit) as why:
             it.run(111, 0, [lie])
-        assert str(why.value) == ("a look does not fit: thread 0, Look(room=1, number=1, running=129): misshapen: running "
-                                  "or misses is out of range")
+        assert str(why.value) == ("a look does not fit: thread 0, Look(room=1, number=1, running=129): misshapen: "
+                                  "running or misses is out of range")
         assert (why.value.thread, why.value.look, why.value.answer) == (0, lie, core.UNFIT)
         assert (it.first_unfit([lie]), it.first_unfit([waits])) == (0, None)
         assert it.run_each(111, 0, [lie]) == ([core.MISSHAPEN], [])
