@@ -24,8 +24,9 @@ def facts(it: Scheduler | Guard, sent: int, taken: int) -> None:
 
 def test_a_look_that_does_not_fit_is_named(library: str, lie: Look, waits: Look) -> None:
     with Scheduler(TABLE, library=library) as it:
-        with pytest.raises(Unfit, match=r"^a look does not fit: thread 0, Look\(room=1, number=1, running=129\)") as why:
+        with pytest.raises(Unfit) as why:
             it.run(111, 0, [lie])
+        assert str(why.value) == "a look does not fit: thread 0, Look(room=1, number=1, running=129)"
         assert (why.value.thread, why.value.look, why.value.answer) == (0, lie, core.UNFIT)
         assert (it.first_unfit([lie]), it.first_unfit([waits])) == (0, None)
         assert it.run_each(111, 0, [lie]) == ([core.MISSHAPEN], [])
@@ -113,8 +114,10 @@ def test_a_table_is_bytes_or_a_text(library: str, table: str | bytes) -> None:
 
 
 @pytest.mark.parametrize("table, fault, told", [
-    ("cores = 3\n", Answer.MISSING_KEY, "the table lacks a key"), ("# \u2713\n", Answer.MISSING_KEY, "the table lacks a key"),
-    (TABLE + "colour = 1\n", Answer.UNKNOWN_KEY, "the table has an unknown key"), ("=", Answer.NOT_TOML, "the table is not TOML")])
+    ("cores = 3\n", Answer.MISSING_KEY, "the table lacks a key"),
+    ("# \u2713\n", Answer.MISSING_KEY, "the table lacks a key"),
+    (TABLE + "colour = 1\n", Answer.UNKNOWN_KEY, "the table has an unknown key"),
+    ("=", Answer.NOT_TOML, "the table is not TOML")])
 def test_a_table_that_is_none_is_refused(library: str, table: str, fault: Answer, told: str) -> None:
     with pytest.raises(CallRefused) as why:
         Scheduler(table, library=library)

@@ -24,8 +24,8 @@ CAUSES = {"ban": Cause.FOR_BAN, "bandwidth": Cause.FOR_BANDWIDTH, "preempt": Cau
 
 
 class Pass(NamedTuple):
-    """A pass of a file: its clock in ticks, its bandwidth figure, a look and a judgement for each thread, and its actions,
-    of which signals have none."""
+    """A pass of a file: its clock in ticks, its bandwidth figure, a look and a judgement for each thread, and its
+    actions, of which signals have none."""
 
     now: int
     bandwidth: int
@@ -160,8 +160,8 @@ def look_row(thread: int, look: Look, judged: int) -> str:
 
 def written(each: bool, now: int, bandwidth: int, looks: Iterable[Look], judged: Iterable[int],
             actions: Iterable[Action]) -> Iterator[str]:
-    """The rows of a pass in a history, version 2; `each`: it took looks one by one, and of a refused look the busy one is
-    written that was taken. The line HISTORY_HEADER stands before the first, and `end,N` behind the last of N."""
+    """The rows of a pass in a history, version 2; `each`: it took looks one by one, and of a refused look the busy one
+    is written that was taken. The line HISTORY_HEADER stands before the first, and `end,N` behind the last of N."""
     yield f"pass,{now},{bandwidth}"
     for thread, (look, it) in enumerate(zip(looks, judged)):
         was_refused = each and it > BUSY

@@ -36,8 +36,8 @@ class Unfit(CallRefused):
 
 class NotPermitted(CallRefused):
     """An action is not permitted: its place among those of the pass, from 0; the action, or None where the pass may not
-    end after them; why not, and of WHY_BANNED_HELD the core and of WHY_OVER_CAP the task that it names. `judged` has what
-    was judged of each look, where the pass took them one by one. Nothing has changed: hand the pass in again."""
+    end after them; why not, and of WHY_BANNED_HELD the core and of WHY_OVER_CAP the task that it names. `judged` has
+    what was judged of each look, where the pass took them one by one. Nothing has changed: hand it in again."""
 
     def __init__(self, refused: Refused, action: Optional[Action], judged: Sequence[Judgement]) -> None:
         self.refused, self.action, self.judged = refused, action, list(judged)
