@@ -14,10 +14,11 @@ from .comparisons.runs import Runs
 from .files import read_named
 from .labels import Labels, names_of
 from .programs import Came, Text, Viewer, Word, simulator, viewer
+from .refusal import Refusal
 from .sweeps.command import answer as swept
 from .sweeps.command import asked_of, table_of
-from .tables import SEPARATOR, Machine, table_part
-from .varying import variations_of
+from .tables import KEYS, SEPARATOR, UNKNOWN_KEY, Machine, table_part
+from .varying import key_of, variations_of
 from .words.asked import LAB
 from .words.parsing import Asked, read_words
 
@@ -48,19 +49,26 @@ def words_of(options: Mapping[str, Option]) -> list[str]:
     return words
 
 
+def in_table(key: str, value: Value) -> str:
+    """A value as a table has it at a key: a kind is written in quotes."""
+    return f'"{value}"' if key.endswith("kind") and not str(value).startswith('"') else str(value)
+
+
 def vary_words(vary: Optional[Keys]) -> list[str]:
-    """The words for keys with their values. A kind is written in quotes."""
-    def shown(key: str, value: Value) -> str:
-        return f'"{value}"' if key.endswith(".kind") and not str(value).startswith('"') else str(value)
+    """The words for keys with their values."""
     return [word for key, values in (vary or {}).items()
-            for word in ("--vary", f"{key}={','.join(shown(key, it) for it in values)}")]
+            for word in ("--vary", f"{key}={','.join(in_table(key, it) for it in values)}")]
+
+
+def read_frame(csv: str) -> pandas.DataFrame:
+    """The frame of a CSV, in which an empty cell and a dash are nothing."""
+    import pandas
+    return pandas.read_csv(io.StringIO(csv), keep_default_na=False, na_values=["", "-"])
 
 
 def frame_of(csv: bytes, tick: str, index: Optional[str] = None) -> pandas.DataFrame:
     """A frame of the program's CSV, in which ticks have their unit."""
-    import pandas
-    text = csv.decode().replace("[ticks]", f"[{tick}]") if tick else csv.decode()
-    frame = pandas.read_csv(io.StringIO(text))
+    frame = read_frame(csv.decode().replace("[ticks]", f"[{tick}]") if tick else csv.decode())
     return frame.set_index(index) if index else frame
 
 
@@ -103,8 +111,12 @@ class Table:
         return Look(width, dark, self.names, self.tick)
 
     def with_values(self, values: Mapping[str, Value]) -> "Table":
-        """The table with these values at keys, as `task.0.delay`."""
-        return replace(self, text=self.machine.text({key: str(it) for key, it in values.items()}))
+        """The table with these values at keys, as `task.0.delay`, or with a name `kv.delay`. Refusal of another key."""
+        given = {key_of(key, self.names): in_table(key, it) for key, it in values.items()}
+        unknown = next((key for key in given if not self.machine.has_key(key)), None)
+        if unknown is not None:
+            raise Refusal(f"{unknown} {UNKNOWN_KEY}", below=KEYS)
+        return replace(self, text=self.machine.text(given))
 
     def run(self, policy: str = "caladan", plan: Optional[Mapping[str, Option]] = None, **arrivals: Option) -> "Run":
         """The run on the arrivals that `caladan_view arrivals` makes by these options, such as task=0, load=0.7,
@@ -215,8 +227,7 @@ class Answer:
     @functools.cached_property
     def frame(self) -> pandas.DataFrame:
         """A row for each row of the CSV."""
-        import pandas
-        return pandas.read_csv(io.StringIO(self.csv.partition("\n\n")[0]))
+        return read_frame(self.csv.partition("\n\n")[0])
 
     @property
     def is_kept(self) -> bool:

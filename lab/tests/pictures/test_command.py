@@ -14,8 +14,8 @@ from caladan.pictures import old_words
 from caladan.pictures.colours import DARK, LIGHT, colours_of
 from caladan.pictures.saving import as_svg, save
 
-from .given import (DELAYS, KEPT_RUNS, RUNS, TOP, VIEW, as_csv, drawn, example, facts, file, path_of, run_files, text_of,
-                   words_of)
+from .given import (DELAYS, KEPT_RUNS, RUNS, TOP, VIEW, as_csv, drawn, example, facts, file, path_of, run_files,
+                    text_of, words_of)
 
 DRAW = os.path.join(TOP, "caladan_draw")
 SVG = "{http://www.w3.org/2000/svg}"

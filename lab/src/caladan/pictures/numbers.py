@@ -1,6 +1,7 @@
 """The rows of `caladan_view compare --csv` and `sweep --csv`."""
 from __future__ import annotations
 
+import math
 import re
 from dataclasses import dataclass
 from typing import Iterable, Optional, Sequence
@@ -30,6 +31,11 @@ class Cell:
     value: Optional[float]
     pending: bool = False
     of: Optional[int] = None
+
+    @property
+    def answered(self) -> float:
+        """The number, of what is not pending; else no number."""
+        return math.nan if self.pending or self.value is None else self.value
 
 
 @dataclass(frozen=True)
