@@ -1,6 +1,7 @@
-"""The rows of `caladan_view spans`, `series` and `requests`, counted by hand from a run's table, arrivals, history and
-journals, as docs/FORMATS.md tells of them. It shares no code with the programs, and has each rule in its plainest
-form."""
+"""The rows of `caladan_view spans`, `series`, `requests` and `turns`, counted by hand from a run's table, arrivals,
+history and journals, as docs/FORMATS.md tells of them. It shares no code with the programs, and has each rule in its
+plainest form."""
+import collections
 import re
 
 from .core_counts import passes_of
@@ -12,6 +13,7 @@ SERIES = ("pass,clock [ticks],bandwidth,bandwidth limit,task,delay [ticks],conge
           "booked [cores],cap [cores],limit [cores]")
 REQUESTS = ("id,task,thread,arrived [ticks],work [turns],by thread,begun [ticks],answered [ticks],worked [ticks],"
             "pending [ticks]")
+TURNS = "thread,task,request,from clock [ticks],to clock [ticks],served"
 
 
 def line(*cells):
@@ -105,3 +107,30 @@ def requests(given, served, last, came_to=None):
             of_it = [*served[name], None] if name in served else [None, None, None, None, last - came]
             rows.append(line(name, owner[thread], thread, came, work, *of_it))
     return text(REQUESTS, rows)
+
+
+def worked(journals, last):
+    """What the journals say of work: of each turn that worked the thread, the request, the clock, how long it took and
+    whether it served the request. A thread is at one request until it has served it; the first that was left with it
+    is the one at work, where it worked after that. `last` is the run's last clock."""
+    turns, served, left = collections.defaultdict(list), collections.defaultdict(list), {}
+    for what, thread, *rest in (it.split(",") for it in journals.splitlines()):
+        if what == "left":
+            left.setdefault(thread, int(rest[0]))
+        elif what == "served":
+            served[thread].append((len(turns[thread]), int(rest[0])))
+        elif what == "published":
+            turns[thread].append((int(rest[2]), int(rest[1]) > 0))
+    for thread, own in turns.items():
+        for n, (clock, works) in enumerate(own):
+            if works:
+                at, request = next((it for it in served[thread] if it[0] >= n), (None, left.get(thread)))
+                end = own[n + 1][0] if own[n + 1:] else max(last, clock)
+                yield int(thread), request, clock, end - clock, at == n
+
+
+def turns(table, journals, last):
+    """A row for each turn in which a thread worked at a request, by what the journals say."""
+    owner, work = owners(table)[0], sorted(worked(journals, last), key=lambda it: it[0])
+    return text(TURNS, [line(thread, owner[thread], request, clock, clock + lasts, int(serves))
+                        for thread, request, clock, lasts, serves in work])

@@ -1,6 +1,8 @@
+pub mod Counted
 pub mod LineLemmas
 pub mod MoveLemmas
 pub mod ServedLemmas
+pub mod TurnLemmas
 pub mod PointLemmas
 pub mod RangeLemmas
 pub mod WrittenLemmas

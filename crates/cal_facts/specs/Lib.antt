@@ -1,4 +1,5 @@
 pub mod Cells
+pub mod Counting
 pub mod Bans
 pub mod StateCells
 pub mod Stretches
@@ -6,4 +7,5 @@ pub mod Series
 pub mod PassAt
 pub mod Served
 pub mod RequestRows
+pub mod WorkTurns
 pub mod Telling

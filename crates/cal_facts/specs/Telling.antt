@@ -7,6 +7,7 @@ use Rattle.cal_came.specs.declared.came.Came.{Came}
 use Rattle.cal_input.specs.Parts.{RunInput, run_input_of}
 use Rattle.cal_input.specs.declared.fault.RunFault.{RunFault}
 use Rattle.cal_machine.specs.Table.{Table}
+use Rattle.cal_measure.specs.Clocks.{run_end}
 use Rattle.cal_paced.specs.declared.plan.Plan.{Plan}
 use Rattle.cal_policy.specs.declared.history.entry.PassEntry.{PassEntry}
 use Rattle.cal_policy.specs.declared.policy.Policy.{Policy}
@@ -21,6 +22,7 @@ use Rattle.cal_trace.specs.declared.arrivals.Arrivals.{Arrivals}
 use Rattle.cal_trace.specs.declared.comings.Comings.{Comings}
 use Rattle.cal_facts.specs.RequestRows.{AreClocksTold, requests_text}
 use Rattle.cal_facts.specs.Served.{IsRunServed}
+use Rattle.cal_facts.specs.WorkTurns.{turns_text}
 use Rattle.cal_facts.specs.declared.requests.writing.RunRequests.{RunRequests}
 
 -- a run on these arrivals, by the plan or in lockstep, came to some outcome, and this is the text of
@@ -100,3 +102,23 @@ pub record IsRunOn (asked : MeasuredInput) (table : Table) (arrivals : Arrivals)
 abbrev pub IsAskedRun : MeasuredInput → Result RunInput RunFault → RunRequests → Type 0
 IsAskedRun asked (Err f) run = ⊥
 IsAskedRun asked (Ok input) run = IsRunOn asked input.table input.arrivals run
+
+-- a run on these arrivals, by the plan or in lockstep, came to some outcome, and this is the text of
+-- the turns at work of its threads
+pub record IsTurnsText (plan : Option Plan) (policy : Policy) (input : RunInput)
+    (written : List ℕ) : Type 0 where
+  pub given : Arrivals
+  pub outcome : Outcome
+  pub run : IsRunGiven plan policy input.table input.arrivals given outcome
+  pub same : written ≡ turns_text input.table (run_end given) outcome.journals outcome.left
+
+-- there are arrivals, and this is the text of the turns at work of a run on them
+abbrev pub IsAskedTurns : Option Plan → Policy → Result RunInput RunFault → List ℕ → Type 0
+IsAskedTurns plan policy (Err f) written = ⊥
+IsAskedTurns plan policy (Ok input) written = IsTurnsText plan policy input written
+
+-- it was written and nothing else, or the fault says what it must of what is asked for
+abbrev pub TellsTurns : {T : Type 0} → Option Plan → Policy → Result T PlannedFault →
+    Result RunInput RunFault → Option (List ℕ) → Option (List ℕ) → Type 0
+TellsTurns plan policy (Ok _) input old new = Wrote (IsAskedTurns plan policy input) old new
+TellsTurns plan policy (Err fault) input old new = FailedBy plan fault (asked_run input)

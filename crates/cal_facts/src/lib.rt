@@ -1,5 +1,6 @@
 //! The facts of a run or of a recorded history, as rows of CSV: who had which core from when to
-//! when, what each pass found of each task and left it with, and what came of each request.
+//! when, what each pass found of each task and left it with, what came of each request, and in which
+//! turns the threads worked at which; and how many passes a recorded history has.
 //!
 //! What is written is exactly the text of these facts (`specs/`), over the definitions of
 //! cal_measure and cal_policy; or the fault is the input's first. What is written, and in which
@@ -7,10 +8,13 @@
 #![tactic(auto)]
 
 mod cells;
+mod counting;
 mod requests;
 mod series;
 mod spans;
+mod turns;
 
+pub use counting::count_passes;
 pub use requests::served::{Served, ServedRequests};
 pub use requests::write_requests;
 pub use series::point::Point;
@@ -18,3 +22,5 @@ pub use series::write_series;
 pub use spans::facts::SpanFacts;
 pub use spans::stretch::{State, Stretch};
 pub use spans::write_spans;
+pub use turns::work::WorkTurn;
+pub use turns::write_turns;

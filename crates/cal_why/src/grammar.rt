@@ -49,8 +49,8 @@ const SIGNALS: Grammar = Grammar {
 const ARRIVALS: Grammar = Grammar {
     header: "caladan-arrivals",
     headers: "`caladan-arrivals,1`",
-    readers: "`caladan_sim lockstep` and `sim`, `caladan_view measure`, `compare`, `timeline`, \
-              `spans`, `series` and `requests`",
+    readers: "`caladan_sim lockstep` and `sim`, `caladan_view measure`, `spans`, `series`, \
+              `requests`, `turns` and `move`, and `caladan_lab compare` and `timeline`",
     words: "pass turn request end",
     rows: ARRIVAL_ROWS,
 };
@@ -58,8 +58,8 @@ const ARRIVALS: Grammar = Grammar {
 const HISTORY: Grammar = Grammar {
     header: "caladan-history",
     headers: "`caladan-history,2` or `caladan-history,1`",
-    readers: "`caladan_sim audit`, `caladan_view measure`, `timeline`, `spans`, `series` and \
-              `explain`",
+    readers: "`caladan_sim audit`, `caladan_view measure`, `spans`, `series` and `explain`, and \
+              `caladan_lab timeline`",
     words: "pass whole busy ahead foreign free unban ban revoke cap grant end",
     rows: HISTORY_ROWS,
 };

@@ -1,7 +1,7 @@
 """Many runs of the core scheduler of Caladan: comparisons, sweeps, frames and pictures over the proved programs.
 
-One input has one exact answer, which caladan_view and caladan_sim give. Questions about many runs, such as loads, seeds,
-tables and policies side by side, are asked here.
+One input has one exact answer, which caladan_view and caladan_sim give. Questions about many runs, such as loads,
+seeds, tables and policies side by side, are asked here.
 
     table = caladan.Table.read("service.toml", names=["kv", "batch"], tick="us")
     run = table.run(task="kv", load=0.7, service="90%:1,10%:20", turns=2000, seed=7)
@@ -13,20 +13,21 @@ tables and policies side by side, are asked here.
     answer = caladan.sweep(table, [0.3, 0.6, 0.9], task="kv", seeds=10, slo="kv.p99=400")
     answer.frame, answer.is_kept, answer.misses
 
-A Table knows what its tasks are called and what a tick is, a Run also its seed and the words that made it; frames say the
-unit with each time, and are made once each. What the program refuses is a caladan.Refusal with its line. The program is
-that of CALADAN_VIEW, else the one of the checkout or the release that the package is in, else the one in the PATH; it
-must be of the same version. caladan.core has the decision core itself, over the C library.
+A Table knows what its tasks are called and what a tick is, a Run also its seed and the words that made it; frames say
+the unit with each time, and are made once each. What the program refuses is a caladan.Refusal with its line. The
+program is that of CALADAN_VIEW, else the one of the checkout or the release that the package is in, else the one in the
+PATH; it must be of the same version. caladan.core has the decision core itself, over the C library.
 
-Two things the program does not tell yet, so they are made here: what another table gets of given arrivals (moving.py),
-and the requests of a load in cores that several tables share (drawing.py). Where thousandths leave the share of best
-effort open, it is counted from the run's spans (shares.py)."""
+The program does not tell the requests of a load in cores that several tables share, so they are drawn here
+(drawing.py). Where thousandths leave the share of best effort open, it is counted from the run's spans (shares.py)."""
 from __future__ import annotations
 
 from typing import TYPE_CHECKING, Any
 
-__version__ = "4"
+__version__ = "5"
 __all__ = ["Answer", "Refusal", "Run", "Table", "compare", "core", "sweep"]
+# Functions of caladan.core which, as its classes and constants, go by `caladan.` too for a version more.
+OF_CORE = ("action_row", "machine_of", "recorded", "taken", "text_of", "text_of_rows", "written")
 
 if TYPE_CHECKING:
     from . import core
@@ -43,4 +44,10 @@ def __getattr__(name: str) -> Any:
         return importlib.import_module(".refusal", __name__).Refusal
     if name in __all__:
         return getattr(importlib.import_module(".lab", __name__), name)
+    if name[:1].isupper() or name in OF_CORE:
+        found = importlib.import_module(".core", __name__)
+        if name in found.__all__:
+            import warnings
+            warnings.warn(f"caladan.{name} is caladan.core.{name} now", DeprecationWarning, stacklevel=2)
+            return getattr(found, name)
     raise AttributeError(f"module {__name__!r} has no attribute {name!r}")

@@ -5,9 +5,9 @@ mod guarantees;
 ghost use Rattle.std.specs.Prelude.{◌<◌, length};
 
 use crate::jobs::checking::guarantees::least_before;
+use cal_facts::count_passes;
 use cal_input::{RunFault, read_parts, split_input};
 use cal_machine::Config;
-use cal_timeline::count_passes;
 use cal_trace::{FaultKind, read_arrivals, read_signals};
 use cal_why::is_table_alone;
 use std::alloc::{AllocError, Global};

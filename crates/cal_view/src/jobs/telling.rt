@@ -3,7 +3,7 @@
 use crate::jobs::counting::end_asked;
 use crate::jobs::input::JobInput;
 use crate::jobs::pacing::end_paced;
-use cal_facts::{write_requests, write_series, write_spans};
+use cal_facts::{write_requests, write_series, write_spans, write_turns};
 use cal_input::RunFault;
 use std::io::Write;
 
@@ -16,6 +16,8 @@ pub enum Facts {
     Series,
     /// What came of each request; a history has none.
     Requests,
+    /// In which turns the kernel threads worked at which requests; a history has none.
+    Turns,
 }
 
 impl Facts {
@@ -27,6 +29,8 @@ impl Facts {
             Some(Facts::Series)
         } else if word == "requests" {
             Some(Facts::Requests)
+        } else if word == "turns" {
+            Some(Facts::Turns)
         } else {
             None
         }
@@ -41,10 +45,11 @@ pub fn tell<W: Write, E: Write>(
     output: &mut W,
     errors: &mut E,
 ) -> Result<u8, RunFault> {
-    let (alloc, policy, plan, bytes) = (input.alloc, input.policy(), input.plan, input.bytes());
+    let (alloc, policy, plan, bytes) = (input.alloc, input.policy, input.plan, input.bytes());
     let wrote = match facts {
         Facts::Spans => write_spans(alloc, policy, plan, bytes, output),
         Facts::Series => write_series(alloc, policy, plan, bytes, output),
+        Facts::Turns => write_turns(alloc, policy, plan, bytes, output),
         Facts::Requests => return tell_requests(input, output, errors),
     };
     end_paced(wrote, errors)

@@ -1,3 +1,0 @@
-pub mod Counting
-pub mod Standing
-pub mod Walking
