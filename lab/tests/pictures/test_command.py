@@ -14,8 +14,8 @@ from caladan.pictures import old_words
 from caladan.pictures.colours import DARK, LIGHT, colours_of
 from caladan.pictures.saving import as_svg, save
 
-from .given import (DELAYS, KEPT_RUNS, RUNS, TOP, VIEW, as_csv, drawn, example, facts, file, path_of, run_files, text_of,
-                   words_of)
+from .given import (DELAYS, KEPT_RUNS, RUNS, TOP, VIEW, as_csv, drawn, example, facts, file, path_of, run_files,
+                    text_of, words_of)
 
 DRAW = os.path.join(TOP, "caladan_draw")
 SVG = "{http://www.w3.org/2000/svg}"
@@ -102,6 +102,7 @@ class Read(unittest.TestCase):
         for words in (*(("run", example(it)) for it in RUNS[:3]), ("sweep", example("sweep/team_csv", "output")),
                       *(("seeds", it) for it in KEPT_RUNS.values()),
                       ("compare", "--vary", DELAYS, example("lockstep/tour")),
+                      ("compare", example("compare/tour"), "--policy", "caladan,assured"),
                       ("run", example("audit/tour"), "--from", "4", "--passes", "4", "--width", "480")):
             with self.subTest(words):
                 paper = drawn(*words)

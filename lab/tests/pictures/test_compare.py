@@ -6,7 +6,8 @@ import unittest
 
 import numpy
 
-from .given import DELAYS, compared, drawn, example, file, input_of, named, pairs, rows_in, task_values, viewed, words_of
+from .given import (DELAYS, compared, drawn, example, file, input_of, named, pairs, rows_in, task_values, viewed,
+                    words_of)
 
 
 class Compared:
@@ -105,7 +106,8 @@ class Compared:
 
     def test_rows_that_say_the_unit_are_read(self):
         given = input_of(self.NAME)
-        told = file(f"{self.NAME.replace('/', '-')}-ms.csv", compared(*self.WORDS, "--csv", "--tick", "ms", given=given))
+        told = file(f"{self.NAME.replace('/', '-')}-ms.csv",
+                    compared(*self.WORDS, "--csv", "--tick", "ms", given=given))
         words = words_of(drawn("compare", told, *self.files[1:]))
         self.assertEqual(words, words_of(drawn("compare", *self.files, "--tick", "ms")))
 

@@ -12,7 +12,7 @@ from caladan.pictures.colours import LIGHT
 from caladan.pictures.facts import HEADS
 
 from .given import (RUNS, drawn, example, facts, file, named, rows_in, run_files, table_of, task_values, text_of,
-                   words_of)
+                    words_of)
 
 CORES = "cores"
 

@@ -46,8 +46,9 @@ def story(scene: Scene, span: Span, whole: list[Span]) -> str:
         return (f"core {span.core}: banned for thread {span.thread}, whose request began at {span.started}, from pass "
                 f"{span.from_pass} (clock {span.from_clock}){end}")
     first, last = whole[0], whole[-1]
+    of_class = CLASSES.get(span.grant_class or 0, span.grant_class)
     words = (f"core {span.core}: thread {span.thread} of {tasks[span.task].label}; granted in pass "
-             f"{first.from_pass} (clock {first.from_clock}, class {CLASSES.get(span.grant_class or 0, span.grant_class)})")
+             f"{first.from_pass} (clock {first.from_clock}, class {of_class})")
     if last.state == "leaving":
         words += f"; revoked in pass {last.from_pass} (clock {last.from_clock}) {reason(scene, last)}"
     ended = f"freed in pass {last.to_pass} (clock {last.to_clock})" if last.to_pass is not None else \

@@ -18,7 +18,7 @@ File = Union[str, "os.PathLike[str]", None]
 
 
 class Picture:
-    """A picture. A notebook shows it; `save` writes it. Refusal, from what makes one, where there is nothing to draw."""
+    """A picture. A notebook shows it; `save` writes it."""
 
     def __init__(self, paper: Paper, file: File = None) -> None:
         self.paper = paper

@@ -2,7 +2,6 @@
 seeds, the least and the greatest, and a colour for each value of another setting."""
 from __future__ import annotations
 
-import math
 from dataclasses import dataclass
 
 from matplotlib.axes import Axes
@@ -11,7 +10,6 @@ from matplotlib.ticker import MaxNLocator
 from ..refusal import Refusal
 from .colours import Palette
 from .curves import grid, look, sample_rows, samples
-from .numbers import Cell
 from .paper import SMALL, Paper, cut, heading, wrapped
 from .seeds import Seeds, Spread, words_for
 from .tables import count
@@ -48,10 +46,6 @@ class SeedsScene:
         return f"{key}, {self.unit}" if key.endswith((".request", ".delay")) else key
 
 
-def answered(cell: Cell) -> float:
-    return math.nan if cell.pending or cell.value is None else cell.value
-
-
 class SeedsPlot:
     """One measure, in one row of plots."""
 
@@ -70,7 +64,7 @@ class SeedsPlot:
 
     def scale(self, axes: Axes) -> float:
         """From 0 to a round number; answers that one."""
-        found = [answered(it) for line in self.lines for spread in line
+        found = [it.answered for line in self.lines for spread in line
                  for it in (spread.least, spread.middle, spread.greatest)]
         most = max((it for it in found if it > 0), default=1.0)
         ticks = [it for it in MaxNLocator(5, steps=[1, 2, 5, 10]).tick_values(0, most) if it >= 0]
@@ -90,10 +84,10 @@ class SeedsPlot:
             how = look(number, len(self.lines), colours)
             places = [it + self.shift(number) for it in self.places]
             for place, spread in zip(places, line):
-                low, high = answered(spread.least), answered(spread.greatest)
+                low, high = spread.least.answered, spread.greatest.answered
                 axes.plot([place] * 2, [low, most if spread.greatest.pending else high], color=how["color"], lw=1.2,
                           gid=f"spread-{self.name}-{number}-{round(place - self.shift(number))}", zorder=2)
-            axes.plot(places, [answered(it.middle) for it in line], gid=f"median-{self.name}-{number}", clip_on=False,
+            axes.plot(places, [it.middle.answered for it in line], gid=f"median-{self.name}-{number}", clip_on=False,
                       **{**how, "linestyle": "-"})
 
     def pending(self, paper: Paper, left: float, top: float, across: float) -> None:

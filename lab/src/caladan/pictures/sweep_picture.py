@@ -41,6 +41,13 @@ class SweepScene:
         return self.tick or "ticks"
 
     @property
+    def title(self) -> str:
+        of = self.task or self.sweep.task
+        if self.sweep.has_tasks:
+            return f"Responses over the load of {of}" if of else "Responses over load"
+        return f"Response of {of} over its load" if of else "Response over load"
+
+    @property
     def values(self) -> list[str]:
         return self.sweep.values
 
@@ -71,7 +78,7 @@ class SweepScene:
 
     @cached_property
     def times(self) -> TimeScale:
-        times = [answered(it.times[rank]) for it in self.sweep.runs for rank in self.ranks]
+        times = [it.times[rank].answered for it in self.sweep.runs for rank in self.ranks]
         return TimeScale([*times, *([self.objective.ticks] if self.objective else [])])
 
     @property
@@ -80,15 +87,10 @@ class SweepScene:
         return [rank for rank in self.ranks if any(it.times[rank].pending for it in self.sweep.runs)]
 
 
-def answered(cell: Cell) -> float:
-    """The time at a rank, if the request that stands there was answered."""
-    return math.nan if cell.pending or cell.value is None else cell.value
-
-
 def curve(axes: Axes, places: Sequence[float], cells: Sequence[Cell], name: str, how: dict[str, Any]) -> None:
     """A line through the times that were answered, broken at what is pending; markers are pale where too few requests
     came for the rank."""
-    times = [answered(it) for it in cells]
+    times = [it.answered for it in cells]
     axes.plot(places, times, gid=name, clip_on=False, **{**how, "marker": ""})
     for few, alpha in ((False, 1.0), (True, FEW)):
         chosen = [(x, y) for x, y, it in zip(places, times, cells) if (it.of is not None) == few and y == y]
@@ -198,10 +200,10 @@ class CostPlot:
     def ends(self, axes: Axes, colours: Palette) -> None:
         """The loads at both ends of the first table's line, to its left and to its right."""
         scene = self.scene
-        runs = [it for it in scene.runs(scene.values[0]) if answered(it.times[scene.cost_rank]) >= 0]
+        runs = [it for it in scene.runs(scene.values[0]) if it.times[scene.cost_rank].answered >= 0]
         ends = sorted({it.load: it for it in (*runs[:1], *runs[-1:])}.values(), key=scene.best_effort)
         for run, side in zip(ends, ((-7, "right"), (7, "left"))):
-            place = (scene.best_effort(run), answered(run.times[scene.cost_rank]))
+            place = (scene.best_effort(run), run.times[scene.cost_rank].answered)
             load = f"{run.load:g} cores" if scene.sweep.in_cores else f"load {run.load:g}"
             axes.annotate(load, place, (side[0], 0), textcoords="offset points", ha=side[1],
                           va="center", fontsize=(SMALL - 1) * 0.75, color=colours.second, zorder=2)
@@ -226,16 +228,14 @@ def draw_sweep(scene: SweepScene) -> Paper:
     """The picture of a sweep."""
     if all(it.times[rank].value is None for it in scene.sweep.runs for rank in scene.ranks):
         raise Refusal("no requests came: there is nothing to draw")
-    of = scene.task or scene.sweep.task
-    title = f"Response of {of} over its load" if of else "Response over load"
     labels = [scene.sweep.label(it) for it in scene.values] if scene.values != [""] else []
     lines, ranks = lines_of(scene), scene.ranks
     left = MARGIN + AXIS
     rows = (sample_rows(scene.width, left, labels) if labels else 0) + 1
     top = 44.0 + 17 * len(lines) + 20 * rows + 14
     plot = top + BAND * len(scene.waiting) + 6
-    paper = Paper(scene.width, plot + PLOT + 50, scene.palette, title)
-    below = heading(paper, MARGIN, title, lines)
+    paper = Paper(scene.width, plot + PLOT + 50, scene.palette, scene.title)
+    below = heading(paper, MARGIN, scene.title, lines)
     if labels:
         looks = [look(number, len(labels), scene.palette) for number in range(len(labels))]
         below = samples(paper, left, below, labels, looks)

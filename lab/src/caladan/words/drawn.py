@@ -6,6 +6,7 @@ from typing import TYPE_CHECKING
 
 from ..refusal import Refusal
 from .arg import Arg, Command, Number, flag, number, option
+from .texts import TIMELINE
 
 if TYPE_CHECKING:
     from .parsing import Asked
@@ -31,23 +32,7 @@ written.
 To try it:
 
 caladan_lab run -o run.svg <<'END'
-cores = 2
-bandwidth_limit = 1000
-[[task]]
-kind = "lc"
-guaranteed = 1
-limit = 1
-delay = 10
-request = 50
----
-caladan-history,2
-pass,111,0
-whole,0,1,1,0,0,1,100,0,0,105,0,0
-grant,0,0,3
-pass,121,0
-whole,0,1,2,1,1,0,0,112,0,112,0,0
-end,2
-END"""
+""" + TIMELINE.partition("<<'END'\n")[2]
 
 SEEDS_TEXT = """\
 Input: rows of runs (CSV), as bench/interference keeps them. The first line
@@ -94,7 +79,8 @@ RUN = Command(
 
 SEEDS = Command(
     "seeds", "caladan_lab seeds", "Draw what several seeds measured: median, least, greatest", SEEDS_TEXT,
-    (Arg("files", "The rows [default: the standard input]", value="FILE", many=True), *CALLED, *LOOKS, PICTURE_FILE))
+    (Arg("files", "The rows [default: the standard input]", value="FILE", many=True), *CALLED, *LOOKS, PROGRAM,
+     PICTURE_FILE))
 
 
 def ending_of(file: str) -> str:
