@@ -10,13 +10,14 @@
 # make wrong_bodies    docs/WRONG_BODIES.md, a list of every wrong body with the clause that refuses it
 # make examples        docs/EXAMPLES.md, a list of every example with what it shows
 # make rows            docs/ROWS.md, a list of every worked row with what it shows and where the gate runs it
-# make install PREFIX=/usr/local      programs, caladan_draw, C library, headers, pkg-config, manual pages, completions
-# make install_library PREFIX=..      the C library, its headers and the files for pkg-config and CMake alone
+# make install PREFIX=/usr/local      programs, caladan_lab, C library, headers, pkg-config, manual pages, completions
+# make install_library PREFIX=..      the C library, its headers, files for pkg-config and CMake, and the package caladan
 # make dist            a release in out/release: packages, a prefix, the sources, and PROOF of what the gate keeps
 # What is proved is kept in crates/*/out, so make goes on where it was ended.
 PREFIX ?= /usr/local
 share = $(PREFIX)/share
 programs = caladan_sim caladan_view
+scripts = caladan_lab caladan_draw
 archive = crates/caladan_c/out/libcaladan_c.a
 
 .PHONY: all $(programs) caladan_c check dist files install install_library needs promises prove recheck test wrong_bodies
@@ -69,10 +70,8 @@ install: $(programs) caladan_c
 	tools/install_c_library $(PREFIX)
 	mkdir -p $(PREFIX)/bin
 	for each in $(programs); do install -m 755 crates/$$each/out/$$each $(PREFIX)/bin || exit; done
-	install -m 755 caladan_draw $(PREFIX)/bin
-	install -D -m 644 -t $(share)/caladan_draw/caladan_draw draw/caladan_draw/*.py
-	tools/manual $(share) $(PREFIX)/bin/caladan_sim $(PREFIX)/bin/caladan_view \
-		$(if $(wildcard /usr/bin/python3),$(PREFIX)/bin/caladan_draw)
+	install -m 755 $(scripts) $(PREFIX)/bin
+	tools/manual $(share) $(addprefix $(PREFIX)/bin/,$(programs) $(if $(wildcard /usr/bin/python3),$(scripts)))
 	tools/doc_pages $(share)/man
 
 install_library: $(archive)

@@ -60,7 +60,7 @@ extern "C" {
 
 /* The version of this interface, which caladan_version answers; and whether the linked library has it, so
  * that this header is about that library. */
-#define CALADAN_VERSION 4
+#define CALADAN_VERSION 5
 #define CALADAN_IS_THIS_VERSION() (caladan_version() == CALADAN_VERSION)
 
 /* The layout that the library expects of each struct, in bytes: its size, and the place of each field. A
@@ -250,7 +250,7 @@ CALADAN_PLACE(caladan_counts, held, 0);
 CALADAN_PLACE(caladan_counts, booked, 1);
 CALADAN_PLACE(caladan_counts, cap, 2);
 
-/* The version: 4 [proved]. */
+/* The version: 5 [proved]. */
 uint32_t caladan_version(void);
 
 /* Opens the task table that a text spells (docs/POLICY.md), in a closed handle: DONE, or the table's

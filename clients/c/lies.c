@@ -441,7 +441,7 @@ static void try_calls(void) {
     caladan_action actions[CALADAN_MOST_ACTIONS];
     uint8_t judged[THREADS] = {77}, thread = 77;
     size_t made = 77, unfit = 77;
-    CHECK(caladan_version() == 4 && CALADAN_VERSION == 4);
+    CHECK(CALADAN_IS_THIS_VERSION());
     CHECK(caladan_pass_each(&closed, 1, 0, looks, THREADS, judged, THREADS, actions, CALADAN_MOST_ACTIONS, &made) ==
               CALADAN_IS_CLOSED &&
           made == 0);

@@ -1,10 +1,7 @@
 """One pass: of two cores and one kernel thread, which has a request queued. Prints 'core 0 to thread 0'.
 
-    one_pass.py LIBRARY      libcaladan_c.so, as make install_library puts it in PREFIX/lib"""
-import ctypes
-import sys
-
-from caladan import GRANT, Look, Scheduler
+    one_pass.py      with the package `caladan` in the path, as pip install ./lab or PYTHONPATH=lab/src puts it there"""
+from caladan.core import Kind, Look, Scheduler
 
 TABLE = """
 cores = 2
@@ -19,11 +16,11 @@ request = 50
 """
 
 # begin
-with Scheduler(ctypes.CDLL(sys.argv[1]), TABLE) as scheduler:
+with Scheduler(TABLE) as scheduler:
     # one look for each thread: here a record at place 1, with a request that came at 100
     looks = [Look(room=1, number=1, queued=1, oldest=100, stamp=105)]
     judged, actions = scheduler.run_each(111, 0, looks)
     for action in actions:
-        if action.kind == GRANT:
+        if action.kind == Kind.GRANT:
             print(f"core {action.core} to thread {action.thread}")
 # end

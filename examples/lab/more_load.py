@@ -1,26 +1,29 @@
-"""A log at 1.3 times its load: the same requests, each so much sooner after the one before.
+"""A log at more than its load: the same requests, each so much sooner after the one before, under two delays.
 
-    more_load.py [TABLE LOG]"""
-import csv
+    more_load.py [TABLE LOG]
+
+For the log as it is, and at 1.3 times its load, it prints the p99 of the service and the cores that it held: under each
+delay, and how much more it is under the second. A column `40 bound` would say that a rank was not answered.
+The log is that of docs/TUTORIAL.md; its columns get the names that `caladan_view arrivals --log` reads."""
 import sys
 import tempfile
+from pathlib import Path
 
 import caladan
+import pandas
 
-FOLDER = "examples/arrivals/log"
-TABLE, LOG = sys.argv[1:3] if sys.argv[2:] else (f"{FOLDER}/input", f"{FOLDER}/log.csv")
-# A tick is a millisecond here, and a turn two of them.
-HOW = {"unit": "ms", "turn": "2ms", "ticks": 2, "turns": 20}
+EXAMPLES = Path(__file__).resolve().parents[1]
+GIVEN = sys.argv[1:3] if sys.argv[2:] else (EXAMPLES / "sweep/which_delay/input", EXAMPLES / "tutorial/requests.csv")
+# A turn is 5 us long and has 5 ticks: so a tick is 1 us, as the table's delays are meant.
+HOW = {"unit": "us", "turn": "5us", "ticks": 5}
+ROWS = ["kv response 99 of 100 [us]", "kv mean cores held"]
 
-with open(LOG, encoding="utf-8", newline="") as file:
-    rows = list(csv.DictReader(file))
-table = caladan.Table.read(TABLE, names=list(dict.fromkeys(it["task"] for it in rows)), tick="ms")
+table = caladan.Table.read(GIVEN[0], names=["kv", "search", "batch"], tick="us")
+log = pandas.read_csv(GIVEN[1]).rename(columns={"arrived_us": "time", "service_us": "service"})
 for times in (1, 1.3):
-    with tempfile.NamedTemporaryFile("w", suffix=".csv", newline="", encoding="utf-8") as log:
-        faster = [{**it, "time": f"{float(it['time']) / times:.6f}"} for it in rows]
-        writer = csv.DictWriter(log, rows[0], lineterminator="\n")
-        writer.writeheader()
-        writer.writerows(faster)
-        log.flush()
-        run = table.run(log=log.name, **HOW)
-        print(f"at {times} times the load", run.numbers.loc["response mean [ms]", f"{table.names[0]} lc"], "ms in the mean")
+    with tempfile.NamedTemporaryFile("w", suffix=".csv") as file:
+        log.assign(time=(log["time"] / times).round(3)).to_csv(file.name, index=False)
+        run = table.run(log=file.name, **HOW)
+    print(f"{times} times the load")
+    frame = caladan.compare(run, vary={"kv.delay": [10, 40]}).frame
+    print(frame.set_index(frame.columns[0]).loc[ROWS].dropna(axis="columns", how="all"))

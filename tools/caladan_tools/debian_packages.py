@@ -1,6 +1,7 @@
 """Debian packages and archives whose bytes are the same where their inputs are. tools/make_release calls it."""
 import datetime
 import functools
+import glob
 import gzip
 import hashlib
 import os
@@ -97,16 +98,23 @@ def changelog(made):
     return gzip.compress(text.encode(), 9, mtime=0)
 
 
+def own_fields(name, made):
+    """What packaging/control has of a package: its fields, and the text of its description."""
+    text = text_of(f"{TOP}/packaging/control/{name}").replace("@VERSION@", made.version)
+    fields, _, description = text.partition("Description: ")
+    return dict(re.findall(r"^([\w-]+): (.*)$", fields, re.M)), description
+
+
 def control(name, made, root):
     """The fields of a package."""
     size = sum(os.lstat(os.path.join(at, it)).st_size for at, _, files in os.walk(root) for it in files)
-    section, _, description = text_of(f"{TOP}/packaging/control/{name}").partition("\n")
-    depends = sorted({*needs(binaries(root)), *(["libc6-dev"] if name == "libcaladan-dev" else [])})
-    architecture = staged.tool("dpkg", "--print-architecture").strip()
-    fields = [f"Package: {name}", "Source: doranjei", f"Version: {made.version}", f"Architecture: {architecture}"]
-    fields += [f"Maintainer: {MAINTAINER}", f"Installed-Size: {-(-size // 1024)}", f"Depends: {', '.join(depends)}"]
-    fields += [section, "Priority: optional"]
-    return "\n".join(fields) + f"\n{description}" + ("" if "~" not in made.version else UNPROVED)
+    own, description = own_fields(name, made)
+    fields = {"Package": name, "Source": "doranjei", "Version": made.version,
+              "Architecture": own.pop("Architecture", None) or staged.tool("dpkg", "--print-architecture").strip(),
+              "Maintainer": MAINTAINER, "Installed-Size": -(-size // 1024)}
+    depends = sorted({*needs(binaries(root)), *filter(None, own.pop("Depends", "").split(", "))})
+    fields |= {"Depends": ", ".join(depends), "Priority": "optional", **own, "Description": description}
+    return "\n".join(f"{field}: {it}" for field, it in fields.items()) + (UNPROVED if "~" in made.version else "")
 
 
 def md5sums(root):
@@ -125,6 +133,8 @@ def package(name, at, made, out):
     text, sums = control(name, made, at.root), md5sums(at.root)
     staged.write(at, "DEBIAN/control", text)
     staged.write(at, "DEBIAN/md5sums", sums)
+    for script in sorted(glob.glob(f"{TOP}/packaging/scripts/{name}.*")):
+        staged.write(at, f"DEBIAN/{script.rpartition('.')[2]}", None, 0o755, script)
     if name == "libcaladan-dev":
         number = made.version.partition("~")[0]
         staged.write(at, "DEBIAN/shlibs", f"libcaladan_c {number} libcaladan-dev (>= {number})\n")

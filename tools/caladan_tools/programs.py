@@ -1,8 +1,9 @@
 """What the scripts of tools/ and bench/ share: which programs they run, how, what a program's help says, and what
 they ask of a run.
 
-A script runs the programs that `make` and `rt ci` leave at crates/NAME/out/NAME. A word NAME=FILE on its command line
-names another file: tools/examples caladan_sim=/tmp/caladan_sim."""
+A script runs the programs that `make` and `rt ci` leave at crates/NAME/out/NAME, and the checkout's caladan_lab, which
+asks the caladan_view of the script. A word NAME=FILE on its command line names another file: tools/examples
+caladan_sim=/tmp/caladan_sim."""
 import collections
 import functools
 import importlib.machinery
@@ -11,22 +12,27 @@ import os
 import re
 import subprocess
 import sys
+import tempfile
 import time
 
 TOP = os.path.dirname(os.path.dirname(os.path.dirname(os.path.abspath(__file__))))
+# The driver of many runs: no build, but Python.
+LAB = "caladan_lab"
+# Its words that draw one run: lab/tests looks at what they draw.
+DRAWING = ("run", "seeds")
 # No run of the scripts takes as long, not even an unproved one on a machine that has others to do.
 SECONDS = 600
 # Its exit status, what it wrote on both outputs, seconds of processor and by the clock, and bytes of memory at its
 # peak.
 Measured = collections.namedtuple("Measured", "status wrote said processor clock peak")
 # The run to copy that a word's help shows: its input, whether what it writes varies, what it writes (None: that is not
-# shown), and the words after the word.
-Shown = collections.namedtuple("Shown", "given varies wrote flags")
+# shown), the words after the word, and the files that are made before it, by their names.
+Shown = collections.namedtuple("Shown", "given varies wrote flags files")
 
 
 def named(*names):
     """The files of these programs, in this order. Words NAME=FILE are taken out of the command line."""
-    files = {it: f"{TOP}/crates/{it}/out/{it}" for it in names}
+    files = {it: f"{TOP}/{it}" if it == LAB else f"{TOP}/crates/{it}/out/{it}" for it in names}
     for word in sys.argv[1:]:
         name, _, file = word.partition("=")
         if name in files and file:
@@ -36,6 +42,12 @@ def named(*names):
         if not os.access(file, os.X_OK):
             sys.exit(f"{os.path.basename(sys.argv[0])}: there is no program {file}: tools/prove {name} builds it")
     return list(files.values())
+
+
+def lab_over(view):
+    """The file of caladan_lab, which from now on asks this caladan_view, whatever is run of this script."""
+    os.environ["CALADAN_VIEW"] = view
+    return named(LAB)[0]
 
 
 def proved(name):
@@ -94,7 +106,24 @@ def shown_run(text, name, word):
     """The run to copy that the help of a program's word shows; None where it shows none."""
     shown = rf"^{name} {word}((?: [-\w.,=]+)*)(?: > \S+)? <<'END'\n(.*?\n)END\n(?:\nIt (may write|writes):\n\n(.*))?"
     found = re.search(shown, text, re.S | re.M)
-    return found and Shown(found[2].encode(), found[3] == "may write", found[4] and found[4].encode(), found[1].split())
+    files = {file: made.encode() for file, made in re.findall(r"^cat > (\S+) <<'END'\n(.*?\n)END\n", text, re.S | re.M)}
+    return found and Shown(found[2].encode(), found[3] == "may write", found[4] and found[4].encode(), found[1].split(),
+                           files)
+
+
+def run_shown(program, word, shown):
+    """Runs what a word's help shows, in a folder that has the files which are made before it."""
+    with tempfile.TemporaryDirectory() as folder:
+        for name, text in shown.files.items():
+            with open(f"{folder}/{name}", "wb") as it:
+                it.write(text)
+        return run(program, [word, *shown.flags], shown.given, cwd=folder)
+
+
+def called(name, error):
+    """The standard error of an example, where its program is called so. The words of caladan_lab were once those of
+    caladan_view, whose name their examples have kept."""
+    return re.sub(rb"^caladan_view: ", f"{name}: ".encode(), error, flags=re.M) if name == LAB else error
 
 
 def table_of(given):

@@ -13,23 +13,25 @@ from . import proved
 from .crates import TOP, below, crates, kit, text_of
 
 # Where things go below a folder: Debian's places, or those of a prefix. `up` leads from lib to include.
-Layout = collections.namedtuple("Layout", "root prefix lib zsh unit up")
+Layout = collections.namedtuple("Layout", "root prefix lib python zsh unit up")
 # What a release is made from: the version that its files say, the time of all of them, the programs and the archive
 # (None where it is not there), the heap, a folder to build in, and how hard it is pressed, 0 to 9.
 Made = collections.namedtuple("Made", "version epoch programs archive heap folder pressed")
 PAGES = ["README.md", "CHANGELOG.md", "SECURITY.md", "docs/TUTORIAL.md", "docs/FORMATS.md", "docs/VIEWER.md",
-         "docs/POLICY.md", "docs/GLOSSARY.md", "docs/MODEL.md", "docs/PROMISES.md"]
+         "docs/POLICY.md", "docs/GLOSSARY.md", "docs/MODEL.md", "docs/PROMISES.md", "lab/README.md"]
+SCRIPTS = ("caladan_lab", "caladan_draw")
 HEADERS = ["caladan.h", "caladan_history.h", "caladan_pages.h"]
 SONAME = "libcaladan_c.so"
 
 
 def debian(root, triplet):
-    return Layout(root, "usr", f"usr/lib/{triplet}", "usr/share/zsh/vendor-completions", "lib/systemd/system",
-                  "../../include")
+    return Layout(root, "usr", f"usr/lib/{triplet}", "usr/lib/python3/dist-packages",
+                  "usr/share/zsh/vendor-completions", "lib/systemd/system", "../../include")
 
 
 def flat(root):
-    return Layout(root, "", "lib", "share/zsh/site-functions", "lib/systemd/system", "../include")
+    return Layout(root, "", "lib", "share/caladan/python", "share/zsh/site-functions", "lib/systemd/system",
+                  "../include")
 
 
 def put(at, where, file, mode=0o644):
@@ -76,19 +78,22 @@ def compressed(at):
             it.write(gzip.compress(text, 9, mtime=0))
 
 
-def programs(at, made):
-    """caladan_sim and caladan_view, stripped, and caladan_draw, with their manual pages and completions, the pages of
-    docs/ and the examples."""
+def manual(at, names):
+    """Manual pages and completions of the programs of these names, which are in place."""
     man = os.path.normpath(f"{at.root}/{at.prefix}/share")
-    for name in ("caladan_sim", "caladan_view"):
-        program = write(at, f"{at.prefix}/bin/{name}", None, 0o755, made.programs[name])
-        tool("strip", "--strip-all", program)
-    drawing(at)
-    names = (*made.programs, "caladan_draw")
-    tool(f"{TOP}/tools/manual", man, *(os.path.normpath(f"{at.root}/{at.prefix}/bin/{it}") for it in names))
+    files = [os.path.normpath(f"{at.root}/{at.prefix}/bin/{it}") for it in names]
+    tool("env", f"PYTHONPATH={at.root}/{at.python}", f"{TOP}/tools/manual", man, *files)
     if at.zsh != share(at, "zsh/site-functions"):
         os.renames(f"{man}/zsh/site-functions", f"{at.root}/{at.zsh}")
-    tool(f"{TOP}/tools/doc_pages", f"{man}/man")
+
+
+def programs(at, made):
+    """caladan_sim and caladan_view, stripped, with their manual pages and completions, the pages of docs/ and the
+    examples."""
+    for name in made.programs:
+        tool("strip", "--strip-all", write(at, f"{at.prefix}/bin/{name}", None, 0o755, made.programs[name]))
+    manual(at, made.programs)
+    tool(f"{TOP}/tools/doc_pages", os.path.normpath(f"{at.root}/{at.prefix}/share/man"))
     for page in PAGES:
         write(at, share(at, f"doc/doranjei/{page}"), None, 0o644, f"{TOP}/{page}")
     for file in tracked("examples") + tracked("docs/pictures"):
@@ -96,12 +101,14 @@ def programs(at, made):
             write(at, share(at, f"doc/doranjei/{file}"), None, 0o644, f"{TOP}/{file}")
 
 
-def drawing(at):
-    """caladan_draw: its program, its modules where that looks for them, and its page."""
-    put(at, f"{at.prefix}/bin", f"{TOP}/caladan_draw", 0o755)
-    for file in tracked("draw/caladan_draw"):
-        put(at, share(at, "caladan_draw/caladan_draw"), f"{TOP}/{file}")
-    write(at, share(at, "doc/doranjei/draw/README.md"), None, 0o644, f"{TOP}/draw/README.md")
+def lab(at, _):
+    """The Python package `caladan`, with caladan_lab, caladan_draw, their manual pages and completions."""
+    for file in tracked("lab/src/caladan"):
+        write(at, f"{at.python}/{file.removeprefix('lab/src/')}", None, 0o644, f"{TOP}/{file}")
+    for name in SCRIPTS:
+        put(at, f"{at.prefix}/bin", f"{TOP}/{name}", 0o755)
+    manual(at, SCRIPTS)
+    write(at, share(at, "doc/python3-caladan/README.md"), None, 0o644, f"{TOP}/lab/README.md")
 
 
 def shared_object(at, made, archive, heap):

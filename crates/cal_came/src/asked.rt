@@ -86,8 +86,9 @@ pub struct CountedRequests {
     pub counted: Counted,
 }
 
-/// The comings of a file, where there is one.
-fn comings_asked(
+/// The comings of a file for arrivals that are given for a table, where there is one. The fault is
+/// that of the file.
+pub fn comings_asked(
     alloc: Global,
     config: &Config,
     arrivals: &Arrivals,

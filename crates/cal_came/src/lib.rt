@@ -9,7 +9,9 @@ mod came;
 mod counted;
 mod window;
 
-pub use asked::{CameFile, CountAsked, CountFault, CountedRequests, counted_requests, is_asked};
+pub use asked::{
+    CameFile, CountAsked, CountFault, CountedRequests, comings_asked, counted_requests, is_asked,
+};
 pub use came::{Came, clock_of, each_own};
 pub use counted::{Counted, counted_as_given};
 pub use window::{Window, is_within};

@@ -1,11 +1,10 @@
 -- The requests that found their turns taken.
-use Rattle.std.specs.Prelude.{◌≡◌, ◌+◌, ◌-◌, ◌^◌, ◌==◌, ◌&&◌, min, nat_lt, ℕ, Bool, true, false, List}
-use Rattle.std.specs.Prelude.{length, Option, Some, None, slice_get}
+use Rattle.std.specs.Prelude.{◌+◌, ◌-◌, ◌^◌, ◌==◌, ◌&&◌, min, nat_lt, ℕ, Bool, true, false, List}
+use Rattle.std.specs.Prelude.{Option, Some, None}
 use Rattle.std.specs.List.{count_by, find}
 use Rattle.cal_machine.specs.Table.{Table}
 use Rattle.cal_machine.specs.TableTasks.{owner_of, threads_of_table}
-use Rattle.cal_tables.specs.declared.comparing.placing.Placed.{Placed}
-use Rattle.cal_tables.specs.declared.crowding.Crowded.{Crowded}
+use Rattle.cal_tables.specs.declared.moved.placing.Placed.{Placed}
 use Rattle.cal_trace.specs.declared.arrivals.Arrival.{Arrival}
 use Rattle.cal_trace.specs.declared.comings.Coming.{Coming}
 use Rattle.cal_trace.specs.declared.comings.LeftOut.{LeftOut}
@@ -42,14 +41,6 @@ count_in (Some row) = row.count
 abbrev pub left_out_of : ℕ → List LeftOut → ℕ
 left_out_of t rows = count_in (row_of t rows)
 
--- a request that was placed comes more than one turn after that to which it came
-abbrev pub comes_far : ℕ → Option ℕ → Bool
-comes_far came None = false
-comes_far came (Some turn) = is_far_from came turn
-
-abbrev pub is_placed_far : Table → ℕ → Placed → Bool
-is_placed_far table t one = comes_far one.coming.turn one.turn && is_for table t one.coming.arrival
-
 -- a request is left out
 abbrev pub is_out : Option ℕ → Bool
 is_out None = true
@@ -58,17 +49,8 @@ is_out (Some turn) = false
 abbrev pub is_left_out : Table → ℕ → Placed → Bool
 is_left_out table t one = is_out one.turn && is_for table t one.coming.arrival
 
--- of some requests that were placed those of the task that come far from where they came, and those
--- that are left out, with what was left out before
-pub record IsCrowded (table : Table) (before : List LeftOut) (placed : List Placed) (t : ℕ)
-    (crowded : Crowded) : Type 0 where
-  pub far : crowded.far ≡ count_by (is_placed_far table t) placed
-  pub left_out : crowded.left_out
-      ≡ min (left_out_of t before + count_by (is_left_out table t) placed) (2 ^ 64 - 1)
-
--- the same of each task, in task order
-pub record AreCrowded (table : Table) (before : List LeftOut) (placed : List Placed)
-    (crowded : List Crowded) : Type 0 where
-  pub many : length crowded ≡ length table.tasks
-  pub each : (t : ℕ) (of_task : Crowded) → slice_get crowded t ≡ Some of_task →
-      IsCrowded table before placed t of_task
+-- how many requests of the task are left out: of those that were placed, and before; the greatest
+-- number stands for all above it
+abbrev pub left_out_with : Table → List LeftOut → List Placed → ℕ → ℕ
+left_out_with table before placed t =
+    min (left_out_of t before + count_by (is_left_out table t) placed) (2 ^ 64 - 1)

@@ -4,15 +4,8 @@ pub mod Recording
 pub mod Asked
 pub mod Moved
 pub mod Placing
-pub mod Compared
-pub mod TableText
-pub mod Settings
-pub mod Varied
-pub mod Faulty
-pub mod Writing
+pub mod Moving
 pub mod Laws
-pub mod Changed
-pub mod InputText
 pub mod Joining
 pub mod Rows
 pub mod Asking

@@ -1,23 +1,23 @@
 -- Arrivals that were given for one table, as another table gets them.
-use Rattle.std.specs.Prelude.{◌≡◌, ◌<◌, ◌≤◌, ℕ, ◌+◌, ◌-◌, ◌*◌, ◌%◌, ◌^◌, List, [], ◌∷◌}
-use Rattle.std.specs.Prelude.{length, map, take, Option, Some, None, slice_get}
+use Rattle.std.specs.Prelude.{◌≡◌, ◌<◌, ◌≤◌, ⊤, ℕ, zero, suc, ◌+◌, ◌-◌, ◌*◌, ◌%◌, ◌^◌, List, []}
+use Rattle.std.specs.Prelude.{◌∷◌, ◌++◌, length, map, take, Option, Some, None, slice_get}
 use Rattle.std.specs.List.{Contains, flat_map}
 use Rattle.std.specs.List.Sorted.{IsNonDecreasingBy, IsPermutation, IsStableByKey}
 use Rattle.std.specs.Ordering.{nat_cmp}
-use Rattle.cal_came.specs.declared.asked.CountedRequests.{CountedRequests}
-use Rattle.cal_input.specs.declared.fault.RunFault.TheVariants.{Memory}
 use Rattle.cal_machine.specs.Table.{Table}
 use Rattle.cal_machine.specs.Tasks.{first_thread, task_at, task_of}
 use Rattle.cal_machine.specs.declared.task.Task.{Task}
-use Rattle.cal_tables.specs.declared.comparing.fault.Reason.{Reason}
-use Rattle.cal_tables.specs.declared.comparing.fault.Reason.TheVariants as reasons
-use Rattle.cal_tables.specs.declared.comparing.moving.MovedArrivals.{MovedArrivals}
-use Rattle.cal_tables.specs.declared.comparing.placing.Placed.{Placed}
+use Rattle.cal_tables.specs.Crowding.{left_out_with}
+use Rattle.cal_tables.specs.declared.moved.arrivals.MovedArrivals.{MovedArrivals}
+use Rattle.cal_tables.specs.declared.moved.fault.Misfit.{Misfit}
+use Rattle.cal_tables.specs.declared.moved.fault.Misfit.TheVariants as misfits
+use Rattle.cal_tables.specs.declared.moved.placing.Placed.{Placed}
 use Rattle.cal_trace.specs.History.Ranges.{Each}
 use Rattle.cal_trace.specs.declared.arrivals.Arrival.{Arrival}
 use Rattle.cal_trace.specs.declared.arrivals.Arrivals.{Arrivals}
 use Rattle.cal_trace.specs.declared.comings.Coming.{Coming}
 use Rattle.cal_trace.specs.declared.comings.Comings.{Comings}
+use Rattle.cal_trace.specs.declared.comings.LeftOut.{LeftOut}
 
 -- the requests of comings
 abbrev pub arrivals_in : List Coming → List Arrival
@@ -26,16 +26,6 @@ arrivals_in comings = map (λ coming. coming.arrival) comings
 -- each request came to the turn that it is given for
 abbrev pub own_coming : Arrival → Coming
 own_coming arrival = record { arrival = arrival; turn = arrival.turn }
-
--- to which turns requests came: as a file says, or to those that they are given for
-abbrev pub comings_by : Arrivals → Option Comings → List Coming
-comings_by arrivals None = map own_coming arrivals.requests
-comings_by arrivals (Some comings) = comings.requests
-
--- the same, where it may have been asked from when they count
-abbrev pub comings_told : Arrivals → Option CountedRequests → List Coming
-comings_told arrivals None = comings_by arrivals None
-comings_told arrivals (Some told) = comings_by arrivals told.comings
 
 -- which of its task's threads a thread is, from 0
 abbrev pub place_of : List Task → ℕ → ℕ
@@ -128,19 +118,53 @@ pub record AreMoved (given table : Table) (arrivals : Arrivals) (comings : List 
   pub placed : ArePlaced (length arrivals.turns) ordered moved.placed.items
   pub requests : moved.arrivals.requests ≡ standing moved.placed.items
 
--- one of these requests was given for a task that the table has not
+-- the first of these requests that was given for a task which the table has not
 pub record IsWithoutTask (given table : Table) (comings : List Coming)
     (task id : ℕ) : Type 0 where
+  pub place : ℕ
   pub coming : Coming
-  pub among : Contains comings coming
+  pub at : slice_get comings place ≡ Some coming
   pub named : coming.arrival.request.id ≡ id
   pub its_task : task_of given.tasks coming.arrival.thread ≡ task
   pub missing : length table.tasks ≤ task
+  pub first : Each (HasItsTask given table) (take place comings)
 
--- why the table does not get the arrivals: memory was refused, or it has not the task of a request
-abbrev pub IsMisfit : Table → Table → List Coming → Reason → Type 0
-IsMisfit given table comings (reasons.Run fault) = fault ≡ Memory
-IsMisfit given table comings (reasons.NoTask task id) = IsWithoutTask given table comings task id
-IsMisfit given table comings (reasons.Pace fault) = ⊥
-IsMisfit given table comings (reasons.Count fault) = ⊥
-IsMisfit given table comings (reasons.NoTable tables) = ⊥
+-- why the table does not get them: memory was refused, or it has not the task of one
+abbrev pub IsMisfit : Table → Table → List Coming → Misfit → Type 0
+IsMisfit given table comings misfits.Memory = ⊤
+IsMisfit given table comings (misfits.NoTask task id) = IsWithoutTask given table comings task id
+
+-- a request that comes before a turn, and to which turn it came
+abbrev pub come_at_turn : Coming → ℕ → Coming
+come_at_turn coming turn =
+    record coming { arrival = record coming.arrival { turn = turn } }
+
+abbrev pub come_before : Coming → Option ℕ → List Coming
+come_before coming None = []
+come_before coming (Some turn) = come_at_turn coming turn ∷ []
+
+-- to which turns those came that are not left out, as they come
+abbrev pub come_standing : List Placed → List Coming
+come_standing placed = flat_map (λ one. come_before one.coming one.turn) placed
+
+-- so many requests of task t, where they are some
+abbrev pub row_if : ℕ → ℕ → List LeftOut
+row_if t zero = []
+row_if t (suc n) = record { task = t; count = suc n } ∷ []
+
+-- of each task below n how many are left out, where some are, with those of before
+abbrev pub rows_below : Table → List LeftOut → List Placed → ℕ → List LeftOut
+rows_below table before placed zero = []
+rows_below table before placed (suc t) =
+    rows_below table before placed t ++ row_if t (left_out_with table before placed t)
+
+-- the same of each task of the table
+abbrev pub left_out_rows : Table → List LeftOut → List Placed → List LeftOut
+left_out_rows table before placed = rows_below table before placed (length table.tasks)
+
+-- when the requests came that the table gets, and how many are left out
+abbrev pub comings_moved : Table → List LeftOut → List Placed → Comings
+comings_moved table before placed = record {
+  requests = come_standing placed;
+  left_out = left_out_rows table before placed;
+}

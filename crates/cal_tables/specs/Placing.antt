@@ -1,8 +1,8 @@
 -- How requests that are in their order are placed one after the other.
 use Rattle.std.specs.Prelude.{◌≡◌, ◌==◌, ◌&&◌, ◌+◌, ◌-◌, ◌<◌, ◌≤◌, ◌⊎◌, nat_lt, ℕ, Bool, List}
 use Rattle.std.specs.Prelude.{Option, Some, None, slice_get, if◌then◌else◌}
-use Rattle.cal_tables.specs.declared.comparing.placing.Free.{Free}
-use Rattle.cal_tables.specs.declared.comparing.placing.Placed.{Placed}
+use Rattle.cal_tables.specs.declared.moved.placing.Free.{Free}
+use Rattle.cal_tables.specs.declared.moved.placing.Placed.{Placed}
 use Rattle.cal_trace.specs.declared.arrivals.Arrival.{Arrival}
 
 -- the free turn is of the request's thread, and later than its own

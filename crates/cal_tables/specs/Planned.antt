@@ -18,8 +18,6 @@ use Rattle.cal_run.specs.Outcome.{IsRunBy}
 use Rattle.cal_run.specs.declared.outcome.Outcome.{Outcome}
 use Rattle.cal_tables.specs.Asked.{of_history, of_run, Subject}
 use Rattle.cal_tables.specs.Measured.{AreRunNumbers, IsCountedRun}
-use Rattle.cal_tables.specs.declared.comparing.fault.Reason.TheVariants as reasons
-use Rattle.cal_tables.specs.declared.comparing.fault.Reason.{Reason}
 use Rattle.cal_tables.specs.declared.measuring.RunNumbers.{RunNumbers}
 use Rattle.cal_tables.specs.declared.planned.PlannedFault.TheVariants.{Pace, Run}
 use Rattle.cal_tables.specs.declared.planned.PlannedFault.{PlannedFault}
@@ -78,11 +76,6 @@ fault_of_plan fault = Pace fault
 abbrev pub IsFaultOfPlan : Plan → Arrivals → PlannedFault → Type 0
 IsFaultOfPlan plan arrivals (Run fault) = fault ≡ Memory
 IsFaultOfPlan plan arrivals (Pace fault) = IsPlanFault plan arrivals fault
-
--- the same as what is wrong with a table of several
-abbrev pub reason_of : PlannedFault → Reason
-reason_of (Run fault) = reasons.Run fault
-reason_of (Pace fault) = reasons.Pace fault
 
 -- the fault of a run by the plan, or in lockstep where there is none
 abbrev pub IsFaultBy : Option Plan → Arrivals → PlannedFault → Type 0

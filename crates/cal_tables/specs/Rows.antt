@@ -22,10 +22,6 @@ use Rattle.cal_tables.specs.declared.writing.Line.TheVariants as lines
 abbrev pub exact : ℕ → Figure
 exact n = record { number = n; is_bound = false; few = None }
 
--- the number, where it is no bound
-abbrev pub known : Figure → Option ℕ
-known figure = if figure.is_bound then None else Some figure.number
-
 -- a figure of a number that ends at the greatest: that stands for itself and for all above it, and is
 -- a bound
 abbrev pub ended : Figure → Figure

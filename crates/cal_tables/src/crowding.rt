@@ -1,16 +1,14 @@
 //! The requests that found their turns taken.
 
-ghost use Rattle.std.specs.Prelude.{◌≡◌, ◌&&◌, IfOk, option_map};
+ghost use Rattle.std.specs.Prelude.{◌≡◌, ◌&&◌, option_map};
 ghost use Rattle.std.specs.List.{count_by};
-ghost use Rattle.cal_tables.specs.Crowding.{AreCrowded, comes_far, far_of, IsCrowded, is_far};
-ghost use Rattle.cal_tables.specs.Crowding.{is_far_from, is_for, is_left_out, is_out};
-ghost use Rattle.cal_tables.specs.Crowding.{is_placed_far, left_out_of, moved_far, row_of};
+ghost use Rattle.cal_tables.specs.Crowding.{far_of, is_far, is_far_from, is_for, is_left_out};
+ghost use Rattle.cal_tables.specs.Crowding.{is_out, left_out_of, left_out_with, moved_far, row_of};
 
-use crate::comparing::placing::Placed;
 use crate::figures::{Figure, count};
+use crate::moved::placing::Placed;
 use cal_machine::Config;
 use cal_trace::{Arrival, Coming, Comings, LeftOut};
-use std::alloc::{AllocError, Global};
 
 /// How many requests of a task found their turns taken.
 #[derive(Clone, Copy, Debug, PartialEq, Eq)]
@@ -91,42 +89,11 @@ pub fn crowded_of(config: &Config, comings: &Comings, task: usize) -> Crowded
     }
 }
 
-/// Whether a request comes more than one turn after that to which it came. One that is left out does
-/// not.
-fn comes_far(came: u64, turn: Option<u64>) -> bool
-    ensures { result ≡ comes_far came turn }
-{
-    match turn {
-        Some(turn) => is_far_from(came, turn),
-        None => false,
-    }
-}
-
-/// Whether it is a request of a task, and comes more than one turn after that to which it came.
-fn is_placed_far(config: &Config, task: usize, one: &Placed) -> bool
-    ensures { result ≡ is_placed_far config.now task one.now }
-{
-    comes_far(one.coming.turn, one.turn) && is_for(config, task, &one.coming.arrival)
-}
-
 /// Whether it is a request of a task, and left out.
 fn is_left_out(config: &Config, task: usize, one: &Placed) -> bool
     ensures { result ≡ is_left_out config.now task one.now }
 {
     one.turn.is_none() && is_for(config, task, &one.coming.arrival)
-}
-
-/// How many requests of a task come more than one turn after that to which they came.
-fn far_in(config: &Config, task: usize, placed: &[Placed]) -> usize
-    ensures { result ≡ count_by (is_placed_far config.now task) placed.now }
-{
-    let mut far: usize = 0;
-    for one in placed {
-        if is_placed_far(config, task, one) {
-            far += 1;
-        }
-    }
-    far
 }
 
 /// How many requests of a task are left out.
@@ -142,43 +109,13 @@ fn left_out_in(config: &Config, task: usize, placed: &[Placed]) -> usize
     left_out
 }
 
-/// How many requests of a task found their turns taken, by where they were placed. With those that are
-/// left out count those that a file says were left out before.
-fn crowded_in(config: &Config, left_out: &[LeftOut], placed: &[Placed], task: usize) -> Crowded
-    ensures { IsCrowded config.now left_out.now placed.now task result }
+/// How many requests of a task are left out: of those that were placed, and of those of which a file
+/// says that they were before; the greatest number stands for all above it.
+pub fn left_out_with(config: &Config, left_out: &[LeftOut], placed: &[Placed], task: usize) -> u64
+    ensures { result ≡ left_out_with config.now left_out.now placed.now task }
 {
     let more = left_out_in(config, task, placed) as u64;
-    Crowded {
-        far: far_in(config, task, placed),
-        left_out: left_out_of(task, left_out).saturating_add(more),
-    }
-}
-
-/// The same of each task of a table, in task order. Fails only when out of memory.
-pub fn crowded_in_each(
-    alloc: Global,
-    config: &Config,
-    left_out: &[LeftOut],
-    placed: &[Placed],
-) -> Result<Vec<Crowded>, AllocError>
-    ensures { IfOk result (λ crowded.
-        AreCrowded config.now left_out.now placed.now crowded.items) }
-{
-    let mut crowded = Vec::new(alloc);
-    for task in 0..config.tasks() {
-        crowded.push(crowded_in(config, left_out, placed, task))?;
-    }
-    Ok(crowded)
-}
-
-/// Whether some of these requests were moved by more than one turn, or are left out.
-pub fn is_crowded(crowded: &[Crowded]) -> bool {
-    for of_task in crowded {
-        if of_task.far > 0 || of_task.left_out > 0 {
-            return true;
-        }
-    }
-    false
+    left_out_of(task, left_out).saturating_add(more)
 }
 
 /// What a row says of the requests of a task that found their turns taken.

@@ -1,10 +1,9 @@
 //! The figures of rows, and how they are written.
 
 ghost use Rattle.std.specs.Prelude.{◌≡◌, ◌≤◌, ◌^◌, Some};
-ghost use Rattle.cal_tables.specs.Rows.{ended, exact, few_for, if_below, known, ranked_figure};
+ghost use Rattle.cal_tables.specs.Rows.{ended, exact, few_for, if_below, ranked_figure};
 ghost use Rattle.cal_tables.specs.Rows.{share_of, time_in};
 
-use crate::labels::Labels;
 use crate::sheet::NumberForm;
 use cal_measure::{Spread, Time, thousandths};
 use std::alloc::{AllocError, Global};
@@ -68,17 +67,6 @@ impl Figure {
             number: self.number,
             is_bound: self.is_bound || self.number == u64::MAX,
             few: self.few,
-        }
-    }
-
-    /// The number, where it is no bound.
-    pub fn known(self) -> Option<u64>
-        ensures { result ≡ known self }
-    {
-        if self.is_bound {
-            None
-        } else {
-            Some(self.number)
         }
     }
 }
@@ -234,21 +222,6 @@ impl NumberForm {
     ) -> Result<(), AllocError> {
         let bound = format!(in alloc; "{} bound", name.as_str())?;
         let few = format!(in alloc; "{} of", name.as_str())?;
-        self.put_name(alloc, row, name, [bound.as_str(), few.as_str()])
-    }
-
-    /// Puts the heading of some times at the end of a row: as `put_heading` does, and with their unit
-    /// after the first name where that is said.
-    pub fn put_heading_of_times(
-        self,
-        alloc: Global,
-        row: &mut Vec<String>,
-        labels: Labels<'_>,
-        name: &str,
-    ) -> Result<(), AllocError> {
-        let bound = format!(in alloc; "{name} bound")?;
-        let few = format!(in alloc; "{name} of")?;
-        let name = labels.with_unit(alloc, name)?;
         self.put_name(alloc, row, name, [bound.as_str(), few.as_str()])
     }
 

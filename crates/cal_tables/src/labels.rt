@@ -1,25 +1,22 @@
-//! What tasks, clock ticks and tables are called.
+//! What tasks and clock ticks are called.
 
 use std::alloc::{AllocError, Global};
 
-/// What tasks, clock ticks and tables are called where they are shown.
+/// What tasks and clock ticks are called where they are shown.
 #[derive(Clone, Copy)]
 pub struct Labels<'a> {
     /// The names of the tasks, in task order. A task without one is called by its number.
     pub names: &'a [&'a str],
     /// What a clock tick is, as `ns`; none where that is not said.
     pub tick: Option<&'a str>,
-    /// The names of the tables, in their order. A table without one is called by its number.
-    pub tables: &'a [String],
 }
 
 impl<'a> Labels<'a> {
-    /// Tasks and tables are called by their numbers, and ticks are ticks.
+    /// Tasks are called by their numbers, and ticks are ticks.
     pub fn plain() -> Labels<'a> {
         Labels {
             names: &[],
             tick: None,
-            tables: &[],
         }
     }
 
@@ -31,11 +28,6 @@ impl<'a> Labels<'a> {
     /// What one clock tick is called.
     pub fn tick(&self) -> &'a str {
         self.tick.unwrap_or("tick")
-    }
-
-    /// What several clock ticks are called.
-    pub fn ticks(&self) -> &'a str {
-        self.tick.unwrap_or("ticks")
     }
 
     /// The name of some times, with their unit after it where that is said, as `wait [ns]`. Fails

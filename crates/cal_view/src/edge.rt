@@ -3,5 +3,4 @@
 pub mod beside;
 pub mod failure;
 pub mod noted;
-pub mod progress;
 pub mod sources;

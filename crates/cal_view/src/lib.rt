@@ -1,18 +1,19 @@
 //! The subcommands of `caladan_view`, over standard input and output or files by name: what an input
-//! is, passes explained, histories and arrivals made, and the facts and the numbers of runs, of several
-//! tables and of a load that rises.
+//! is, passes explained, histories and arrivals made, arrivals moved to another table, and the facts
+//! and the numbers of runs.
 //!
-//! Facts are those of `cal_facts`, numbers those of `cal_tables` and `cal_sweep`. How numbers are written
-//! is only tested.
+//! Facts are those of `cal_facts`, numbers and moved arrivals those of `cal_tables`. How numbers are
+//! written is only tested.
 #![tactic(auto)]
 
 mod command_words;
 mod edge;
-mod fault;
 mod jobs;
 mod program;
 mod refusing;
 
-pub use command_words::command_line::{CompareWords, Form, InputJob, Job, Request, words};
+pub use command_words::command_line::{InputJob, Job, Request, words};
+pub use command_words::move_words::MoveWords;
+pub use jobs::moving::{Unmoved, write_moved};
 pub use jobs::recording::record;
 pub use program::run_program;

@@ -9,48 +9,44 @@ use crate::command_words::gone_words::gone_word;
 use crate::edge::beside::{open_beside, write_beside};
 use crate::edge::failure::Failure;
 use crate::edge::noted::Noted;
-use crate::edge::sources::{open_named, read_named, read_tables};
+use crate::edge::sources::{open_named, read_named};
 use crate::jobs::arriving::Arriving;
 use crate::jobs::checking::answer_check;
-use crate::jobs::comparing::answer_compare;
 use crate::jobs::counting::CameText;
 use crate::jobs::explaining::answer_explain;
 use crate::jobs::input::JobInput;
 use crate::jobs::measuring::answer_measure;
+use crate::jobs::moving::Moving;
 use crate::jobs::naming::{names_of, refuse_count, refuse_words_of_names};
 use crate::jobs::pacing::refuse_memory;
 use crate::jobs::recording::record;
-use crate::jobs::sweeping::Sweeping;
-use crate::jobs::table_names::table_names;
 use crate::jobs::telling::tell;
-use crate::refusing::{end_refusal, refuse_gone, refuse_two_standards, refuse_word, refused_input};
+use crate::refusing::{end_refusal, refuse_gone, refuse_two_standards, refused_input};
 use cal_came::{CameFile, CountAsked};
 use cal_engine::{refuse_words, words_after_first};
 use cal_input::{RunFault, read_input};
-use cal_load::LoadFault;
-use cal_sweep::variations_of;
-use cal_tables::{Labels, Variation};
+use cal_tables::Labels;
 use cal_why::RefusedInput;
 use std::alloc::Global;
-use std::io::{BufWriter, Eprint, IsTerminal, Read, Write};
+use std::io::{BufWriter, Read, Write};
 use std::rt::Files;
-use std::thread::Threads;
-use std::time::Clock;
 
 /// Runs the program on its name and the words after it and on an input, and answers its exit
-/// status: 0 is done (help too), 1 is an illegal history explained or an objective missed, 2 is bad
-/// arguments or rejected input, 3 is memory or the writer. The words are read before the input.
+/// status: 0 is done (help too), 1 is an illegal history explained, 2 is bad arguments or rejected
+/// input, 3 is memory or the writer. The words are read before the input.
 ///
 /// The input is what the reader gives, or the files that the words name. The answer goes to
 /// `output`, or to a file where the words name one, and help to `output`; what is wrong with the
 /// words (`clap`'s text) or the one line of a fault goes to `errors`. If the reader of the answer
-/// has gone, there is no line. Where `errors` is a terminal, a long job shows there how far it is.
-pub fn run_program<
-    H: Files + Threads + Clock + Eprint + Sync,
-    R: Read + Drop,
-    W: Write,
-    E: Write + IsTerminal,
->(rt: &H, alloc: Global, named: &[String], reader: R, output: &mut W, errors: &mut E) -> u8 {
+/// has gone, there is no line.
+pub fn run_program<H: Files, R: Read + Drop, W: Write, E: Write>(
+    rt: &H,
+    alloc: Global,
+    named: &[String],
+    reader: R,
+    output: &mut W,
+    errors: &mut E,
+) -> u8 {
     let given = match words_after_first(alloc, named) {
         Ok(given) => given,
         Err(_) => return Failure::from(RunFault::Memory).end(errors),
@@ -74,12 +70,7 @@ pub fn run_program<
 }
 
 /// Runs the program on what its words ask for and on an input, and answers its exit status.
-fn run_asked<
-    H: Files + Threads + Clock + Eprint + Sync,
-    R: Read + Drop,
-    W: Write,
-    E: Write + IsTerminal,
->(
+fn run_asked<H: Files, R: Read + Drop, W: Write, E: Write>(
     rt: &H,
     alloc: Global,
     request: &Request<'_>,
@@ -87,13 +78,7 @@ fn run_asked<
     output: &mut Noted<W>,
     errors: &mut E,
 ) -> u8 {
-    let is_shown = errors.is_terminal() && !request.quiet;
-    let run = ProgramRun {
-        rt,
-        alloc,
-        request,
-        is_shown,
-    };
+    let run = ProgramRun { rt, alloc, request };
     match run.answer(reader, output, errors) {
         Ok(status) => status,
         Err(failure) => failure.end(errors),
@@ -115,17 +100,15 @@ fn say_help<E: Write>(alloc: Global, errors: &mut E) -> Result<u8, RunFault>
 /// A run of the program that words ask for.
 #[derive(Drop)]
 struct ProgramRun<'h, 'a, H> {
-    /// What opens files and starts threads.
+    /// What opens files.
     rt: &'h H,
     /// What it takes memory from.
     alloc: Global,
     /// What the words ask for.
     request: &'a Request<'a>,
-    /// Whether a long job shows how far it is.
-    is_shown: bool,
 }
 
-impl<'h, 'a, H: Files + Threads + Clock + Eprint + Sync> ProgramRun<'h, 'a, H> {
+impl<'h, 'a, H: Files> ProgramRun<'h, 'a, H> {
     /// Does what the words ask for on the reader or on the files that they name, and answers the
     /// exit status where there is no fault.
     fn answer<R: Read + Drop, W: Write, E: Write>(
@@ -141,13 +124,10 @@ impl<'h, 'a, H: Files + Threads + Clock + Eprint + Sync> ProgramRun<'h, 'a, H> {
         if let Some(status) = refuse_two_standards(request, errors) {
             return Ok(status);
         }
-        let tables = read_tables(self.rt, self.alloc, request.tables.as_slice())?;
-        let front = tables.as_slice();
         let Some(name) = request.input else {
-            let mut input = Noted::new(front.chain(reader));
-            return self.answer_input(&mut input, output, errors);
+            return self.answer_input(&mut Noted::new(reader), output, errors);
         };
-        let mut input = Noted::new(front.chain(open_named(self.rt, name)?));
+        let mut input = Noted::new(open_named(self.rt, name)?);
         self.answer_input(&mut input, output, errors)
     }
 
@@ -246,8 +226,7 @@ impl<'h, 'a, H: Files + Threads + Clock + Eprint + Sync> ProgramRun<'h, 'a, H> {
         }
     }
 
-    /// Does the job of the words. Those of arrivals and of a sweep are refused before anything is
-    /// read.
+    /// Does the job of the words. Those of arrivals are refused before anything is read.
     fn do_job<R: Read + Drop, W: Write, E: Write>(
         &self,
         reader: R,
@@ -256,11 +235,9 @@ impl<'h, 'a, H: Files + Threads + Clock + Eprint + Sync> ProgramRun<'h, 'a, H> {
     ) -> Result<u8, RunFault> {
         let (alloc, request) = (self.alloc, self.request);
         let names = names_of(alloc, request.labels)?;
-        let tables = table_names(alloc, request.tables.as_slice())?;
         let labels = Labels {
             names: names.as_slice(),
             tick: request.labels.tick,
-            tables: tables.as_slice(),
         };
         match &request.job {
             Job::OfInput { asked } => self.look(*asked, labels, reader, output, errors),
@@ -273,15 +250,13 @@ impl<'h, 'a, H: Files + Threads + Clock + Eprint + Sync> ProgramRun<'h, 'a, H> {
                 };
                 arriving.answer_arrivals(self.rt, reader, output, errors)
             }
-            Job::Sweep { asked } => {
-                let sweeping = Sweeping {
+            Job::Move { asked } => {
+                let moving = Moving {
                     alloc,
-                    words: asked,
-                    policies: request.policies.as_slice(),
-                    labels,
-                    is_shown: self.is_shown,
+                    words: *asked,
+                    came: request.counting.came,
                 };
-                sweeping.answer(self.rt, reader, output, errors)
+                moving.answer(self.rt, reader, output, errors)
             }
             Job::Help => say_help(alloc, errors),
         }
@@ -295,14 +270,12 @@ impl<'h, 'a, H: Files + Threads + Clock + Eprint + Sync> ProgramRun<'h, 'a, H> {
         }
     }
 
-    /// What a job of an input is done on, where the file of when its requests came has these bytes,
-    /// and these keys of its table are varied.
+    /// What a job of an input is done on, where the file of when its requests came has these bytes.
     fn job_input<'i>(
         &'i self,
         read: RefusedInput<'i>,
         came: &'i [u8],
         labels: Labels<'i>,
-        variations: &'i [Variation],
     ) -> JobInput<'i> {
         let CountWords {
             came: named,
@@ -319,8 +292,7 @@ impl<'h, 'a, H: Files + Threads + Clock + Eprint + Sync> ProgramRun<'h, 'a, H> {
         JobInput {
             alloc: self.alloc,
             read,
-            variations,
-            policies: self.request.policies.as_slice(),
+            policy: self.request.policy,
             plan: self.request.plan,
             came,
             counting: CountAsked {
@@ -342,19 +314,13 @@ impl<'h, 'a, H: Files + Threads + Clock + Eprint + Sync> ProgramRun<'h, 'a, H> {
         errors: &mut E,
     ) -> Result<u8, RunFault> {
         let alloc = self.alloc;
-        let request = self.request;
-        let variations = match variations_of(alloc, request.vary.as_slice(), request.labels.names) {
-            Ok(variations) => variations,
-            Err(LoadFault::Word(fault)) => return Ok(refuse_word(&fault, errors)),
-            Err(LoadFault::Memory) => return Err(RunFault::Memory),
-        };
         let bytes = read_input(alloc, &mut reader)?;
         let came = match self.read_came() {
             Ok(came) => came,
             Err(failure) => return Ok(failure.end(errors)),
         };
         let read = refused_input(job, self.request, bytes.as_slice());
-        let input = self.job_input(read, came.as_slice(), labels, variations.as_slice());
+        let input = self.job_input(read, came.as_slice(), labels);
         match answer_read(job, &input, output, errors) {
             Ok(status) => Ok(status),
             Err(fault) => end_refusal(alloc, read, fault, errors),
@@ -380,10 +346,9 @@ fn answer_read<W: Write, E: Write>(
     match job {
         InputJob::Check => return answer_check(alloc, bytes, output),
         InputJob::Explain { asked } => return answer_explain(input, asked, output, errors),
-        InputJob::Compare { asked } => return answer_compare(input, asked.form, output, errors),
         InputJob::Measure { form } => return answer_measure(input, form, output, errors),
         InputJob::Facts { facts } => return tell(input, facts, output, errors),
-        InputJob::History { front } => record(alloc, input.policy(), bytes, front, output)?,
+        InputJob::History { front } => record(alloc, input.policy, bytes, front, output)?,
     }
     Ok(0)
 }

@@ -7,7 +7,7 @@ use crate::edge::sources::STANDARD;
 use crate::jobs::telling::Facts;
 use cal_input::RunFault;
 use cal_load::WordFault;
-use cal_why::{PartFiles, RefusedInput, TraceKind, end_explained};
+use cal_why::{RefusedInput, TraceKind, end_explained};
 use std::alloc::Global;
 use std::io::Write;
 
@@ -34,23 +34,16 @@ pub fn end_refusal<E: Write>(
 /// The input of a request for this job, for where it is refused.
 pub fn refused_input<'a>(
     job: InputJob,
-    request: &'a Request<'a>,
+    request: &Request<'_>,
     input: &'a [u8],
 ) -> RefusedInput<'a> {
-    let tables = request.tables.as_slice();
-    RefusedInput {
-        input,
-        wanted: traces_of(job, request.plan.is_some() || request.counting.are_given()),
-        tables: tables_of(job),
-        files: if tables.is_empty() {
-            None
-        } else {
-            Some(PartFiles {
-                tables,
-                trace: request.input,
-            })
-        },
-    }
+    let alone = request.plan.is_some() || request.counting.are_given();
+    refused_with(input, traces_of(job, alone))
+}
+
+/// An input of a table and one of these traces, for where it is refused.
+pub fn refused_with<'a>(input: &'a [u8], wanted: &'a [TraceKind]) -> RefusedInput<'a> {
+    RefusedInput { input, wanted }
 }
 
 /// How many of the files that a request reads are the standard input.
@@ -59,20 +52,20 @@ fn standard_inputs(request: &Request<'_>) -> usize {
     if request.counting.came == Some(STANDARD) {
         count = count.saturating_add(1);
     }
-    for name in request.tables.as_slice() {
-        if *name == STANDARD {
-            count = count.saturating_add(1);
-        }
+    match &request.job {
+        Job::Move { asked } if asked.to == STANDARD => count.saturating_add(1),
+        _ => count,
     }
-    count
 }
 
 /// Whether both the answer of a request and when requests came go to the standard output.
 fn are_two_outputs(request: &Request<'_>) -> bool {
-    match &request.job {
-        Job::Arrivals { asked } => asked.came == Some(STANDARD) && request.output.is_none(),
-        _ => false,
-    }
+    let came = match &request.job {
+        Job::Arrivals { asked } => asked.came,
+        Job::Move { asked } => asked.write_came,
+        _ => None,
+    };
+    came == Some(STANDARD) && request.output.is_none()
 }
 
 /// Says that two files are the standard input, or the standard output, and answers the exit status,
@@ -94,12 +87,7 @@ pub fn refuse_two_standards<E: Write>(request: &Request<'_>, errors: &mut E) -> 
 
 /// An input of which the table alone is read, for where it is refused.
 pub fn table_alone(input: &[u8]) -> RefusedInput<'_> {
-    RefusedInput {
-        input,
-        wanted: &[],
-        tables: 1,
-        files: None,
-    }
+    refused_with(input, &[])
 }
 
 /// Says what is wrong with a word, and answers the exit status, 2.
@@ -129,8 +117,7 @@ fn traces_of(job: InputJob, alone: bool) -> &'static [TraceKind] {
     }
     match job {
         InputJob::History { .. } => &[TraceKind::Signals],
-        InputJob::Compare { .. }
-        | InputJob::Facts {
+        InputJob::Facts {
             facts: Facts::Requests | Facts::Turns,
         } => &[TraceKind::Arrivals],
         InputJob::Measure { .. } | InputJob::Facts { .. } => &[
@@ -139,14 +126,5 @@ fn traces_of(job: InputJob, alone: bool) -> &'static [TraceKind] {
         ],
         InputJob::Explain { .. } => &[TraceKind::Signals, TraceKind::History],
         InputJob::Check => &[TraceKind::Signals, TraceKind::Arrivals, TraceKind::History],
-    }
-}
-
-/// How many tables come before the trace that a job reads, or more where it is after the last
-/// separator.
-fn tables_of(job: InputJob) -> usize {
-    match job {
-        InputJob::Compare { asked } if !asked.is_varied => usize::MAX,
-        _ => 1,
     }
 }

@@ -22,20 +22,19 @@ pub fn end_explained<W: Write>(
     ensures { result ≡ status_of fault.now }
 {
     let status = end_with(program, fault, errors);
-    explain_fault(alloc, refused, 0, fault, errors);
+    explain_fault(alloc, refused, fault, errors);
     status
 }
 
-/// Writes why an input was refused that has this fault, of several tables for the one at this place.
-/// Where memory is refused, or the fault is no refusal of a part of it, nothing is written.
+/// Writes why an input was refused that has this fault. Where memory is refused, or the fault is no
+/// refusal of a part of it, nothing is written.
 pub fn explain_fault<W: Write>(
     alloc: Global,
     refused: RefusedInput<'_>,
-    table: usize,
     fault: &RunFault,
     errors: &mut W,
 ) {
-    if let Ok(told) = explanation(alloc, &refused, table, fault) {
+    if let Ok(told) = explanation(alloc, &refused, fault) {
         let _ = errors.write_all(told.as_bytes());
     }
 }

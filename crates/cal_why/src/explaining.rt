@@ -1,13 +1,12 @@
 //! An input that was refused, explained.
 
 use crate::grammar::TraceKind;
-use crate::places::{after, tell_place};
+use crate::places::tell_place;
 use crate::separator::tell_separator;
 use crate::table::tell_table;
 use crate::trace::tell_trace;
 use cal_input::RunFault;
 use std::alloc::{AllocError, Global};
-use std::fmt::Write;
 
 /// An input that was refused.
 #[derive(Clone, Copy)]
@@ -16,26 +15,12 @@ pub struct RefusedInput<'a> {
     pub input: &'a [u8],
     /// The traces that the word which refused it reads.
     pub wanted: &'a [TraceKind],
-    /// How many tables come before its trace, or more where it comes after the last separator.
-    pub tables: usize,
-    /// The files that its parts are, where they are files. The lines of a part are then counted
-    /// from its own first one.
-    pub files: Option<PartFiles<'a>>,
-}
-
-/// The files that the parts of an input are.
-#[derive(Clone, Copy)]
-pub struct PartFiles<'a> {
-    /// Those of the tables.
-    pub tables: &'a [&'a str],
-    /// That of the trace; without it the standard input.
-    pub trace: Option<&'a str>,
 }
 
 /// A part of an input between its separators.
 #[derive(Clone, Copy)]
 pub struct Part<'a> {
-    /// The text in which its lines are counted, to the end of the input.
+    /// The input, in which its lines are counted.
     pub text: &'a [u8],
     /// Where it begins there.
     pub start: usize,
@@ -68,42 +53,24 @@ impl<'a> RefusedInput<'a> {
             }
         }
         let bytes = self.input.get(start..end).unwrap_or(b"".as_slice());
-        let (text, start) = match self.files {
-            None => (self.input, start),
-            Some(_) => (after(self.input, start), 0),
-        };
+        let text = self.input;
         Part { text, start, bytes }
-    }
-
-    /// The file in which a fault is, of the tables that of the one at this place, where it is one.
-    fn file_of(&self, table: usize, fault: &RunFault) -> Option<&'a str> {
-        let files = self.files?;
-        match fault {
-            RunFault::Config(_) => files.tables.get(table).copied(),
-            RunFault::Trace(_) => files.trace,
-            _ => None,
-        }
     }
 }
 
-/// Why an input was refused that has this fault, with the table after so many separators: lines that
-/// each begin with two blanks and end in a line feed, of where it is, what stands there, what is
-/// wanted, and what to do about it where that is plain. Nothing where the fault is no refusal of a
-/// part of the input. Fails only when out of memory.
+/// Why an input was refused that has this fault: lines that each begin with two blanks and end in a
+/// line feed, of where it is, what stands there, what is wanted, and what to do about it where that is
+/// plain. Nothing where the fault is no refusal of a part of the input. Fails only when out of memory.
 pub fn explanation(
     alloc: Global,
     refused: &RefusedInput<'_>,
-    table: usize,
     fault: &RunFault,
 ) -> Result<String, AllocError> {
     let mut told = String::new(alloc);
-    if let Some(file) = refused.file_of(table, fault) {
-        writeln!(told, "  in {file}")?;
-    }
     match *fault {
         RunFault::Separator => tell_separator(&mut told, refused.input, refused.wanted)?,
-        RunFault::Config(fault) => tell_table(alloc, &mut told, refused.part(table), fault)?,
-        RunFault::Trace(fault) => tell_trace(alloc, &mut told, refused, table, fault)?,
+        RunFault::Config(fault) => tell_table(alloc, &mut told, refused.part(0), fault)?,
+        RunFault::Trace(fault) => tell_trace(alloc, &mut told, refused, fault)?,
         _ => {}
     }
     Ok(told)

@@ -18,9 +18,8 @@ mod table;
 mod trace;
 
 pub use ending::{end_explained, explain_fault};
-pub use explaining::{PartFiles, RefusedInput, explanation};
+pub use explaining::{RefusedInput, explanation};
 pub use grammar::TraceKind;
 pub use running::run_explained;
 pub use separator::is_table_alone;
-pub use table::{keys_wanted, value_wanted};
 pub use trace::place_of_field;

@@ -97,8 +97,6 @@ fn explained_job<H: Threads + Wait + Sync, R: Read + Drop, W: Write, E: Write>(
             let refused = RefusedInput {
                 input,
                 wanted: &[trace_of(asked.job)],
-                tables: 1,
-                files: None,
             };
             Ok(end_explained(alloc, "caladan_sim", refused, &fault, errors))
         }

@@ -6,7 +6,7 @@ mod no_toml;
 mod sum;
 
 use crate::explaining::Part;
-use crate::grammar::{TASK_KEYS, TOP_KEYS, is_among, tell_wanted_at};
+use crate::grammar::{TASK_KEYS, TOP_KEYS, tell_wanted_at};
 use crate::nearest::nearest;
 use crate::places::are_digits;
 use crate::table::finding::find_key;
@@ -141,23 +141,3 @@ fn tell_remedy(told: &mut String, key: &str, value: &Value) -> Result<(), AllocE
 pub const NO_UNIT: &str = "  \
 a number is digits alone, below 2^63, with no unit: times are in clock ticks
 ";
-
-/// Which keys a table has, in two lines. Fails only when out of memory.
-pub fn keys_wanted(alloc: Global) -> Result<String, AllocError> {
-    let mut told = String::new(alloc);
-    told.push_str("  there are: cores, bandwidth_limit, and of task 0 task.0.kind,\n")?;
-    told.push_str("  task.0.guaranteed, task.0.limit, task.0.delay and task.0.request\n")?;
-    Ok(told)
-}
-
-/// What is wanted of a value at a key that is named as `cores` or as `task.1.delay`, in a line; of a
-/// key that no table has, which keys there are. Fails only when out of memory.
-pub fn value_wanted(alloc: Global, key: &str) -> Result<String, AllocError> {
-    let name = key.rsplit_once('.').map_or(key, |parts| parts.1);
-    if !is_among(name, TOP_KEYS) && !is_among(name, TASK_KEYS) {
-        return keys_wanted(alloc);
-    }
-    let mut told = String::new(alloc);
-    tell_wanted_at(&mut told, name)?;
-    Ok(told)
-}

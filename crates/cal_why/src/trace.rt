@@ -62,14 +62,13 @@ pub fn tell_trace(
     alloc: Global,
     told: &mut String,
     refused: &RefusedInput<'_>,
-    table: usize,
     fault: TraceFault,
 ) -> Result<(), AllocError> {
-    let trace = refused.part(refused.tables);
+    let trace = refused.part(1);
     if fault.kind == FaultKind::Header {
         return tell_header(alloc, told, trace, refused.wanted);
     }
-    let config = match Config::read(alloc, refused.part(table).bytes) {
+    let config = match Config::read(alloc, refused.part(0).bytes) {
         Ok(config) => config,
         Err(ConfigFault::Memory) => return Err(AllocError),
         Err(_) => return Ok(()),

@@ -6,8 +6,8 @@ use crate::texts::write_legal;
 use cal_came::CountAsked;
 use cal_engine::{RunAnswer, decide, run_audit, run_lockstep, run_sim};
 use cal_policy::Policy;
-use cal_tables::{ComparedInput, Labels, MeasuredInput, NumberForm, NumberStyle, compare, measure};
-use cal_trace::read_history;
+use cal_tables::{Labels, MeasuredInput, MoveAsked, NumberForm, NumberStyle, measure, moved_input};
+use cal_trace::{read_history, write_arrivals, write_comings};
 use std::alloc::Global;
 use std::io::Write;
 use std::sync::Wait;
@@ -84,18 +84,41 @@ pub fn measured(rt: &HostRuntime, given: &TableAndTrace) -> Tried<()> {
     Ok(())
 }
 
-/// The numbers of the runs of some tables.
-pub fn compared(rt: &HostRuntime, given: &TableAndTrace) -> Tried<()> {
+/// A table of three tasks, each with one thread.
+const NARROW: &[u8] = b"cores = 2
+bandwidth_limit = 1000
+[[task]]
+kind = \"lc\"
+guaranteed = 1
+limit = 1
+delay = 10
+request = 50
+[[task]]
+kind = \"lc\"
+guaranteed = 0
+limit = 1
+delay = 10
+request = 50
+[[task]]
+kind = \"be\"
+guaranteed = 0
+limit = 1
+delay = 10
+request = 50
+";
+
+/// The arrivals as a narrower table gets them, and when they came.
+pub fn moved(rt: &HostRuntime, given: &TableAndTrace) -> Tried<()> {
     let mut text = writer(rt.alloc())?;
     begin(rt)?;
-    let input = ComparedInput {
+    let asked = MoveAsked {
         bytes: given.text,
-        variations: &[],
-        policies: [Policy::Caladan].as_slice(),
-        plan: None,
-        counting: CountAsked::NONE,
+        table: NARROW,
+        came: None,
     };
-    answer(rt, compare(rt.alloc(), input, in_columns(), &mut text))?;
+    let moved = answer(rt, moved_input(rt.alloc(), asked))?;
+    write_arrivals(&moved.arrivals, &mut text).or(Err(Stop::Wrong))?;
+    write_comings(&moved.comings, &mut text).or(Err(Stop::Wrong))?;
     rt.stdout().write_all(text.as_slice())?;
     Ok(())
 }

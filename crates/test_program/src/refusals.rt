@@ -35,10 +35,8 @@ fn said_of<R: Abort + AllocGlobal>(rt: &R, table: &str, signals: &[u8]) -> Resul
     let refused = RefusedInput {
         input: input.as_slice(),
         wanted: &[TraceKind::Signals],
-        tables: 1,
-        files: None,
     };
-    Ok(explanation(rt.alloc(), &refused, 0, &fault)?)
+    Ok(explanation(rt.alloc(), &refused, &fault)?)
 }
 
 // Two letters beside each other changed places: at the beginning, in the middle, at the end. Others
@@ -109,14 +107,12 @@ fn one_pass_too_many(rt: HostRuntime) -> Result<(), Fail> {
     let refused = RefusedInput {
         input: input.as_slice(),
         wanted: &[TraceKind::Signals],
-        tables: 1,
-        files: None,
     };
     let fault = RunFault::Trace(TraceFault {
         row: 2,
         kind: FaultKind::Range,
     });
-    let told = explanation(rt.alloc(), &refused, 0, &fault)?;
+    let told = explanation(rt.alloc(), &refused, &fault)?;
     assert_eq!(rt;
         told.as_str(),
         "  line 11, column 1: pass,1,0

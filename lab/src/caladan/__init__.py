@@ -25,8 +25,10 @@ from __future__ import annotations
 
 from typing import TYPE_CHECKING, Any
 
-__version__ = "4"
+__version__ = "5"
 __all__ = ["Answer", "Refusal", "Run", "Table", "compare", "core", "sweep"]
+# Functions of caladan.core which, as its classes and constants, go by `caladan.` too for a version more.
+OF_CORE = ("action_row", "machine_of", "recorded", "taken", "text_of", "text_of_rows", "written")
 
 if TYPE_CHECKING:
     from . import core
@@ -43,4 +45,10 @@ def __getattr__(name: str) -> Any:
         return importlib.import_module(".refusal", __name__).Refusal
     if name in __all__:
         return getattr(importlib.import_module(".lab", __name__), name)
+    if name[:1].isupper() or name in OF_CORE:
+        found = importlib.import_module(".core", __name__)
+        if name in found.__all__:
+            import warnings
+            warnings.warn(f"caladan.{name} is caladan.core.{name} now", DeprecationWarning, stacklevel=2)
+            return getattr(found, name)
     raise AttributeError(f"module {__name__!r} has no attribute {name!r}")

@@ -4,7 +4,9 @@ from __future__ import annotations
 import csv
 import io
 from dataclasses import dataclass
-from typing import Iterable, Iterator, NamedTuple, Optional, Sequence
+from typing import Iterable, Iterator, NamedTuple, Optional
+
+BYTE_ORDER_MARK = b"\xef\xbb\xbf"
 
 
 class Request(NamedTuple):
@@ -38,13 +40,14 @@ class Arrivals:
         return "\n".join(["caladan-arrivals,1", *rows, f"end,{len(rows)}", ""]).encode()
 
 
-def rows_of(text: bytes) -> Iterator[list[str]]:
-    """The rows of a CSV of the program's kind; blank lines are none."""
-    told = text.removeprefix(b"\xef\xbb\xbf").decode("latin-1")
+def rows_of(text: bytes, words: tuple[str, ...] = ("",)) -> Iterator[list[str]]:
+    """The rows of a CSV of the program's kind that begin with one of some words; blank lines are none."""
+    told = text.removeprefix(BYTE_ORDER_MARK).decode("latin-1")
     if '"' in told or "\r" in told:
-        yield from filter(None, csv.reader(io.StringIO(told, newline="")))
+        rows = csv.reader(io.StringIO(told, newline=""))
+        yield from (row for row in rows if row and row[0].startswith(words))
         return
-    yield from (line.split(",") for line in told.split("\n") if line)
+    yield from (line.split(",") for line in told.split("\n") if line and line.startswith(words))
 
 
 def arrivals_of(text: bytes) -> Arrivals:
@@ -87,12 +90,6 @@ def comings_of(text: bytes) -> Comings:
     return Comings(tuple(turns), left_out)
 
 
-def is_some_within(arrivals: Arrivals, comings: Comings, first: Optional[int], after: Optional[int]) -> bool:
-    """Whether a request came from one turn on and before another, by their clocks; from a turn that there is not none
-    did."""
-    clocks: Sequence[int] = arrivals.turns
-    if first is not None and first >= len(clocks):
-        return False
-    begin = 0 if first is None else clocks[first]
-    end = clocks[after] if after is not None and after < len(clocks) else None
-    return any(begin <= clocks[it] and (end is None or clocks[it] < end) for it in comings.turns)
+def is_some_within(comings: Comings, first: Optional[int], after: Optional[int]) -> bool:
+    """Whether a request came from one turn on and before another."""
+    return any((first or 0) <= it and (after is None or it < after) for it in comings.turns)

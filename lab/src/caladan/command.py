@@ -1,16 +1,17 @@
-"""The command line: `caladan_lab compare`, `sweep` and `timeline`."""
+"""The command line: `caladan_lab compare`, `sweep`, `timeline`, `run` and `seeds`; and that of `caladan_draw`."""
 from __future__ import annotations
 
 import os
 import signal
 import sys
 from types import FrameType
-from typing import Optional, Sequence
+from typing import Callable, Optional, Sequence
 
 from .files import of_file, say, write_all
 from .programs import ASKING, Interrupted
 from .refusal import Refusal
 from .words.asked import LAB
+from .words.drawn import refuse_picture
 from .words.help import help_of
 from .words.parsing import Asked, read_words
 from .words.refusals import Mistake, Shown
@@ -21,6 +22,10 @@ NOT_TEXT = "\ufffd"
 def answer(asked: Asked) -> int:
     """Does what the words ask for."""
     word = asked.command.name
+    if asked.is_picture or word in ("run", "seeds"):
+        from .pictures.asked import draw, picture_of
+        return draw(picture_of(asked))
+    refuse_picture(asked)
     if word == "sweep":
         from .sweeps.command import sweep
         return sweep(asked)
@@ -28,7 +33,7 @@ def answer(asked: Asked) -> int:
         from .comparisons.command import compare
         return compare(asked)
     if word == "timeline":
-        from .timeline import timeline
+        from .timelines.command import timeline
         return timeline(asked)
     say(help_of(LAB, False))
     return 2
@@ -83,16 +88,22 @@ class Stopped(BaseException):
         self.number = number
 
 
-def main() -> int:
+def main(does: Callable[[Sequence[str]], int] = run) -> int:
     """Does what the command line says. A signal leaves no process and no file."""
     for each in (signal.SIGINT, signal.SIGTERM, signal.SIGHUP):
         if signal.getsignal(each) is not signal.SIG_IGN:
             signal.signal(each, stop)
     try:
-        return run(sys.argv[1:])
+        return does(sys.argv[1:])
     except (Stopped, Interrupted) as fault:
         ASKING.end()
         number = fault.number if isinstance(fault, Stopped) else signal.SIGINT
         signal.signal(number, signal.SIG_DFL)
         os.kill(os.getpid(), number)
         return 3
+
+
+def draw_main() -> int:
+    """The same of caladan_draw."""
+    from .pictures.old_words import run as drawn
+    return main(drawn)

@@ -6,10 +6,12 @@ import errno
 import os
 import stat
 import sys
-from typing import Optional, Sequence
+from typing import Iterable, Optional, Sequence, Union
 
 from .refusal import Refusal
 
+# A text, or the parts of one in their order.
+Written = Union[bytes, Iterable[bytes]]
 STANDARD = "-"
 INPUT_LIMIT = 67_108_864
 CHUNK, TRIES = 1 << 20, 100
@@ -82,17 +84,22 @@ def separator(text: bytes) -> Optional[tuple[int, int]]:
     return None
 
 
-def joined(names: Sequence[str]) -> bytes:
-    """The task tables of these files as they stand in an input: in order, each with the line --- below it."""
+def tables_joined(tables: Iterable[tuple[str, bytes]]) -> bytes:
+    """Task tables, each with the name of its file, as they stand in an input: in order, each with the line --- below
+    it."""
     text = b""
-    for name in names:
-        table = read_named(name)
+    for name, table in tables:
         front = table + (b"" if table.endswith(b"\n") else b"\n") + b"---\n"
         cut = separator(front)
         if cut is None or cut[1] != len(front):
             raise Refusal(f"{name}: a line --- in a task table")
         text += front
     return text
+
+
+def joined(names: Sequence[str]) -> bytes:
+    """The task tables of these files as they stand in an input."""
+    return tables_joined((it, read_named(it)) for it in names)
 
 
 class Output:
@@ -117,7 +124,7 @@ class Output:
         """Whether the answer is kept until the end."""
         return self.name is not None and self.device < 0
 
-    def put(self, text: bytes) -> None:
+    def put(self, text: Written) -> None:
         """Writes the answer to the standard output or to a device."""
         file = 1 if self.name is None else self.device
         try:
@@ -125,7 +132,7 @@ class Output:
         except OSError as fault:
             raise of_file(self.name or "write", fault, WROTE) from None
 
-    def keep(self, text: bytes) -> None:
+    def keep(self, text: Written) -> None:
         """Writes the answer to its file, whole or not at all."""
         name = self.name or ""
         try:
@@ -134,11 +141,17 @@ class Output:
             raise of_file(name, fault, WROTE) from None
 
 
-def write_all(file: int, text: bytes) -> None:
-    """Writes all of a text."""
-    rest = memoryview(text)
+def write_part(file: int, part: bytes) -> None:
+    """Writes all of a part of a text."""
+    rest = memoryview(part)
     while rest:
         rest = rest[os.write(file, rest):]
+
+
+def write_all(file: int, text: Written) -> None:
+    """Writes all of a text."""
+    for part in [text] if isinstance(text, bytes) else text:
+        write_part(file, part)
 
 
 def open_beside(name: str) -> tuple[int, str]:
@@ -171,7 +184,7 @@ def create_beside(place: str) -> tuple[int, str]:
     raise FileExistsError(errno.EEXIST, "")
 
 
-def write_beside(name: str, text: bytes) -> None:
+def write_beside(name: str, text: Written) -> None:
     """Writes this text to this place, whole or not at all, also where it is interrupted."""
     file, beside = open_beside(name)
     try:

@@ -8,20 +8,25 @@ import os
 from dataclasses import dataclass, field, replace
 from typing import TYPE_CHECKING, Iterable, Mapping, Optional, Sequence, Union
 
-from .comparisons.command import answer as compared
+from .comparisons.command import runs_of, sheet_of
 from .comparisons.given import Reading, parts_of
+from .comparisons.runs import Runs
 from .files import read_named
 from .labels import Labels, names_of
 from .programs import Came, Text, Viewer, Word, simulator, viewer
+from .refusal import Refusal
 from .sweeps.command import answer as swept
 from .sweeps.command import asked_of, table_of
-from .tables import SEPARATOR, Machine, table_part
-from .varying import variations_of
+from .tables import KEYS, SEPARATOR, UNKNOWN_KEY, Machine, table_part
+from .varying import key_of, variations_of
 from .words.asked import LAB
 from .words.parsing import Asked, read_words
 
 if TYPE_CHECKING:
     import pandas
+
+    from .pictures.asked import Look
+    from .pictures.picture import File, Picture
 
 Value = Union[str, int, float]
 Option = Union[Value, bool, None, Iterable[Value]]
@@ -44,19 +49,26 @@ def words_of(options: Mapping[str, Option]) -> list[str]:
     return words
 
 
+def in_table(key: str, value: Value) -> str:
+    """A value as a table has it at a key: a kind is written in quotes."""
+    return f'"{value}"' if key.endswith("kind") and not str(value).startswith('"') else str(value)
+
+
 def vary_words(vary: Optional[Keys]) -> list[str]:
-    """The words for keys with their values. A kind is written in quotes."""
-    def shown(key: str, value: Value) -> str:
-        return f'"{value}"' if key.endswith(".kind") and not str(value).startswith('"') else str(value)
+    """The words for keys with their values."""
     return [word for key, values in (vary or {}).items()
-            for word in ("--vary", f"{key}={','.join(shown(key, it) for it in values)}")]
+            for word in ("--vary", f"{key}={','.join(in_table(key, it) for it in values)}")]
+
+
+def read_frame(csv: str) -> pandas.DataFrame:
+    """The frame of a CSV, in which an empty cell and a dash are nothing."""
+    import pandas
+    return pandas.read_csv(io.StringIO(csv), keep_default_na=False, na_values=["", "-"])
 
 
 def frame_of(csv: bytes, tick: str, index: Optional[str] = None) -> pandas.DataFrame:
     """A frame of the program's CSV, in which ticks have their unit."""
-    import pandas
-    text = csv.decode().replace("[ticks]", f"[{tick}]") if tick else csv.decode()
-    frame = pandas.read_csv(io.StringIO(text))
+    frame = read_frame(csv.decode().replace("[ticks]", f"[{tick}]") if tick else csv.decode())
     return frame.set_index(index) if index else frame
 
 
@@ -93,9 +105,18 @@ class Table:
     def labels(self) -> Labels:
         return Labels(self.names, self.tick)
 
+    def look(self, width: int, dark: bool) -> Look:
+        """How pictures of it look: so many pixels wide, and whether on a dark ground."""
+        from .pictures.asked import Look
+        return Look(width, dark, self.names, self.tick)
+
     def with_values(self, values: Mapping[str, Value]) -> "Table":
-        """The table with these values at keys, as `task.0.delay`."""
-        return replace(self, text=self.machine.text({key: str(it) for key, it in values.items()}))
+        """The table with these values at keys, as `task.0.delay`, or with a name `kv.delay`. Refusal of another key."""
+        given = {key_of(key, self.names): in_table(key, it) for key, it in values.items()}
+        unknown = next((key for key in given if not self.machine.has_key(key)), None)
+        if unknown is not None:
+            raise Refusal(f"{unknown} {UNKNOWN_KEY}", below=KEYS)
+        return replace(self, text=self.machine.text(given))
 
     def run(self, policy: str = "caladan", plan: Optional[Mapping[str, Option]] = None, **arrivals: Option) -> "Run":
         """The run on the arrivals that `caladan_view arrivals` makes by these options, such as task=0, load=0.7,
@@ -179,21 +200,34 @@ class Run:
         return self.table.view.told(["explain", "--policy", self.policy, *more], history).out.decode()
 
 
+    def picture(self, file: File = None, first: int = 0, passes: Optional[int] = None, task: Optional[int] = None,
+                width: int = 800, dark: bool = False) -> Picture:
+        """The lanes of the run, as `caladan_lab run` draws them: so many passes from one on, of a task alone where one
+        is named, so many pixels wide. It is written to the file, if one is named: SVG, PNG or PDF by its ending."""
+        from .pictures.picture import of_run
+        return of_run(self.told, self.table.machine, self.table.look(width, dark), file, first, passes, task)
+
+
 @dataclass(frozen=True)
 class Answer:
-    """What came of many runs: the CSV, the words that asked for it, the unit of a tick, and the lines about objectives
-    that are not kept."""
+    """What came of many runs: the CSV, the words that asked for it, its table, the lines about objectives that are not
+    kept, and of a comparison its runs."""
 
     csv: str
     words: tuple[str, ...]
-    tick: str
+    table: Table
     misses: tuple[str, ...] = ()
+    runs: Optional[Runs] = field(default=None, repr=False, compare=False)
+
+    @property
+    def tick(self) -> str:
+        """The unit of a tick."""
+        return self.table.tick
 
     @functools.cached_property
     def frame(self) -> pandas.DataFrame:
         """A row for each row of the CSV."""
-        import pandas
-        return pandas.read_csv(io.StringIO(self.csv.partition("\n\n")[0]))
+        return read_frame(self.csv.partition("\n\n")[0])
 
     @property
     def is_kept(self) -> bool:
@@ -202,6 +236,16 @@ class Answer:
 
     def __repr__(self) -> str:
         return f"<Answer to {' '.join(self.words)}>"
+
+    def picture(self, file: File = None, width: int = 800, dark: bool = False) -> Picture:
+        """What `caladan_lab sweep` or `compare` draws of it, so many pixels wide; written to the file, if one is named:
+        SVG, PNG or PDF by its ending."""
+        from .pictures.picture import of_compare, of_sweep
+        look, csv = self.table.look(width, dark), self.csv.partition("\n\n")[0]
+        if self.runs is not None:
+            return of_compare(csv, self.runs, look, file)
+        asked = read_words(LAB, self.words)
+        return of_sweep(csv, self.table.machine, asked_of(asked).loads.task, asked.all("slo"), look, file)
 
 
 def _asked(word: str, table: Table, vary: Optional[Keys], options: Mapping[str, Option]) -> tuple[list[str], Asked]:
@@ -222,8 +266,10 @@ def compare(runs: Union[Run, Sequence[Run]], vary: Optional[Keys] = None, **opti
     text = tables + first.arrivals
     reading = Reading(first.table.view, text, parts_of(text, bool(variations)), bool(variations))
     came = None if first.came is None else ("the comings", first.came)
-    csv = compared(asked, reading, variations, first.table.labels, came).decode()
-    return Answer(csv, tuple(words), first.tick)
+    labels = first.table.labels
+    made = runs_of(asked, reading, variations, labels, came)
+    csv = sheet_of(made, variations, labels, came is not None, True).decode()
+    return Answer(csv, tuple(words), first.table, runs=made)
 
 
 def sweep(table: Table, load: Union[Value, Sequence[Value], None] = None, vary: Optional[Keys] = None,
@@ -234,4 +280,4 @@ def sweep(table: Table, load: Union[Value, Sequence[Value], None] = None, vary: 
     words, asked = _asked("sweep", table, vary, {"load": loads, **options})
     names_of(asked.one("names"))
     csv, lines = swept(asked_of(asked), table.text, table.view)
-    return Answer(csv, tuple(words), table.tick, tuple(lines.splitlines()))
+    return Answer(csv, tuple(words), table, tuple(lines.splitlines()))

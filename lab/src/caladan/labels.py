@@ -3,7 +3,7 @@ from __future__ import annotations
 
 import unicodedata
 from dataclasses import dataclass
-from typing import Optional, Sequence
+from typing import Callable, Optional, Sequence
 
 from .files import STANDARD
 from .refusal import Refusal
@@ -33,20 +33,23 @@ class Labels:
         return f"{name} [{self.tick}]" if self.tick else name
 
 
-def is_control(letter: str) -> bool:
-    return unicodedata.category(letter) == "Cc"
+def is_no_control(letter: str) -> bool:
+    return unicodedata.category(letter) != "Cc"
+
+
+def refuse_bad(option: str, words: Sequence[str], most: int, is_plain: Callable[[str], bool] = is_no_control) -> None:
+    """Refuses the first of an option's words that is empty, too long, or has a letter that is not plain."""
+    for word in words:
+        if not 1 <= len(word) <= most or not all(map(is_plain, word)):
+            shown = "".join(it if is_plain(it) else "?" for it in word)
+            raise Refusal(f"{option} '{shown}': 1 to {most} letters are asked for, none of them a control letter")
 
 
 def names_of(word: Optional[str]) -> tuple[str, ...]:
     """The names of a word, with commas between; none without one. A word that is no name is refused."""
-    if word is None:
-        return ()
-    names = word.split(",")
-    for name in names:
-        if not 1 <= len(name) <= MOST_NAME or any(map(is_control, name)):
-            shown = "".join("?" if is_control(it) else it for it in name)
-            raise Refusal(f"--names '{shown}': 1 to {MOST_NAME} letters are asked for, none of them a control letter")
-    return tuple(names)
+    names = () if word is None else tuple(word.split(","))
+    refuse_bad("--names", names, MOST_NAME)
+    return names
 
 
 def counted(names: Sequence[str], tasks: int) -> None:
@@ -74,7 +77,7 @@ def table_names(files: Sequence[str]) -> tuple[str, ...]:
         for folders in range(most):
             name = _after(files[place], folders)
             is_own = all(_after(it, folders) != name for n, it in enumerate(files) if n != place)
-            if is_own and name and name != STANDARD and not any(map(is_control, name)):
+            if is_own and name and name != STANDARD and all(map(is_no_control, name)):
                 return name
         return f"table {place}"
     return tuple(map(name_of, range(len(files))))

@@ -199,10 +199,11 @@ def refused(ran: Ran) -> Refusal:
 
 
 def places() -> list[str]:
-    """Where the program may be: beside this program, or beside the folder that this package is in."""
+    """Where the program may be: beside this program, at the top of the checkout that this package is in, or in the prefix
+    that it is installed in."""
     here = os.path.dirname(os.path.realpath(sys.argv[0] or "."))
-    top = os.path.dirname(os.path.dirname(os.path.dirname(os.path.dirname(os.path.realpath(__file__)))))
-    return [f"{here}/{VIEW}", f"{top}/{VIEW}", f"{top}/bin/{VIEW}"]
+    checkout = os.path.dirname(os.path.dirname(os.path.dirname(os.path.dirname(os.path.realpath(__file__)))))
+    return [f"{here}/{VIEW}", f"{checkout}/{VIEW}", f"{os.path.dirname(checkout)}/bin/{VIEW}"]
 
 
 def file_asked(asked: str) -> str:

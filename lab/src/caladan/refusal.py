@@ -14,4 +14,8 @@ class Refusal(Exception):
 
     @property
     def said(self) -> str:
-        return f"{NAME}: {self.line}\n{self.below}" if self.line else self.below
+        return self.told_by(NAME)
+
+    def told_by(self, name: str) -> str:
+        """All that a program of this name says."""
+        return f"{name}: {self.line}\n{self.below}" if self.line else self.below

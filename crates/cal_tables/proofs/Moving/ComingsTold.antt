@@ -3,10 +3,8 @@ use Rattle.std.proofs.Common.{◌≡◌, ◌==◌, ◌&&◌, ◌⊎◌, inl, inr
 use Rattle.std.specs.Prelude.{nat_le}
 use Rattle.std.proofs.lemmas.Bool.{cases_Bool}
 use Rattle.std.proofs.lemmas.List.{append-nil, map-append}
-use Rattle.cal_came.specs.Asked.{comings_asked, IsCountedAs, some_comings}
+use Rattle.cal_came.specs.Asked.{comings_asked, some_comings}
 use Rattle.cal_came.specs.declared.asked.CameFile.{CameFile}
-use Rattle.cal_came.specs.declared.asked.CountAsked.{CountAsked}
-use Rattle.cal_came.specs.declared.asked.CountedRequests.{CountedRequests}
 use Rattle.cal_machine.proofs.Last.{some_same}
 use Rattle.cal_machine.specs.Table.{Table}
 use Rattle.cal_trace.proofs.RowLemmas.Checks.{check_three}
@@ -23,7 +21,8 @@ use Rattle.cal_trace.specs.declared.comings.LeftOut.{LeftOut}
 use Rattle.cal_trace.specs.declared.fault.FaultKind.{FaultKind}
 use Rattle.cal_trace.specs.declared.fault.FaultKind.TheVariants as kind
 use Rattle.cal_trace.specs.declared.fault.TraceFault.{TraceFault}
-use Rattle.cal_tables.specs.Moved.{arrivals_in, comings_by, own_coming}
+use Rattle.cal_tables.specs.Moved.{arrivals_in, own_coming}
+use Rattle.cal_tables.specs.Moving.{AreComingsTold, comings_by}
 
 -- the row of a request is of that one
 of_next : (next : Arrival) (fields : Fields) (coming : Coming) → coming_row next fields ≡ Ok coming → coming.arrival ≡ next
@@ -95,24 +94,24 @@ own_of : (xs : List Arrival) → arrivals_in (map own_coming xs) ≡ xs
 own_of [] = refl
 own_of (x ∷ xs) = ap (λ l. x ∷ l) (own_of xs)
 
-pub none_told : (arrivals : Arrivals) → arrivals_in (comings_by arrivals None) ≡ arrivals.requests
+pub none_told : (arrivals : Arrivals) → arrivals_in (comings_by arrivals None).requests ≡ arrivals.requests
 none_told arrivals = own_of arrivals.requests
 
 -- whatever is asked for
 module _ (table : Table) (arrivals : Arrivals) where
   some_of : (read : Result Comings TraceFault) (comings : Option Comings) → ((own : Comings) → read ≡ Ok own → arrivals_in own.requests ≡ arrivals.requests)
-      → some_comings read ≡ Ok comings → arrivals_in (comings_by arrivals comings) ≡ arrivals.requests
+      → some_comings read ≡ Ok comings → arrivals_in (comings_by arrivals comings).requests ≡ arrivals.requests
   some_of (Err fault) comings of e = absurd (cc)
   some_of (Ok own) comings of e =
       let same : Some own ≡ comings = cc in
-      subst (λ o. arrivals_in (comings_by arrivals o) ≡ arrivals.requests) same (of own refl)
+      subst (λ o. arrivals_in (comings_by arrivals o).requests ≡ arrivals.requests) same (of own refl)
 
-  by_file : (came : Option CameFile) (comings : Option Comings) → comings_asked came table arrivals ≡ Ok comings → arrivals_in (comings_by arrivals comings) ≡ arrivals.requests
+  by_file : (came : Option CameFile) (comings : Option Comings) → comings_asked came table arrivals ≡ Ok comings → arrivals_in (comings_by arrivals comings).requests ≡ arrivals.requests
   by_file None comings e =
       let same : None ≡ comings = cc in
-      subst (λ o. arrivals_in (comings_by arrivals o) ≡ arrivals.requests) same (none_told arrivals)
+      subst (λ o. arrivals_in (comings_by arrivals o).requests ≡ arrivals.requests) same (none_told arrivals)
   by_file (Some file) comings e =
       some_of (comings_of (length table.tasks) arrivals.requests (rows_of file.text.now)) comings (λ own read. of_requests arrivals.requests (length table.tasks) (rows_of file.text.now) own read) e
 
-  pub comings_fit : (asked : CountAsked) (told : CountedRequests) → IsCountedAs asked table arrivals told → arrivals_in (comings_by arrivals told.comings) ≡ arrivals.requests
-  comings_fit asked told is = by_file asked.came told.comings is.comings
+  pub comings_fit : (came : Option CameFile) (told : Comings) → AreComingsTold came table arrivals told → arrivals_in told.requests ≡ arrivals.requests
+  comings_fit came told is = ap (λ (it : Comings). arrivals_in it.requests) is.are ∙ by_file came is.comings is.read

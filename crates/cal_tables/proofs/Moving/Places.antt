@@ -16,8 +16,8 @@ use Rattle.cal_trace.specs.declared.arrivals.reading.TheConstants.{MOST_TURNS}
 use Rattle.cal_trace.specs.declared.arrivals.Arrivals.{Arrivals}
 use Rattle.cal_trace.specs.declared.comings.Coming.{Coming}
 use Rattle.cal_tables.specs.Moved.{AreMoved, arrivals_in, coming_moved_to, each_moved, HasItsTask, moved_to, place_of, standing, thread_for}
-use Rattle.cal_tables.specs.declared.comparing.moving.MovedArrivals.{MovedArrivals}
-use Rattle.cal_tables.specs.declared.comparing.placing.Placed.{Placed}
+use Rattle.cal_tables.specs.declared.moved.arrivals.MovedArrivals.{MovedArrivals}
+use Rattle.cal_tables.specs.declared.moved.placing.Placed.{Placed}
 use Rattle.cal_tables.proofs.Moving.Ids.{Differ, differ_reordered}
 use Rattle.cal_tables.proofs.Moving.Members.{each_mapped, each_unmapped, later_mapped, later_unmapped}
 use Rattle.cal_tables.proofs.Moving.Order.{AreBelow}

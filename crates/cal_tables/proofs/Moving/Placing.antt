@@ -10,8 +10,8 @@ use Rattle.cal_trace.specs.declared.arrivals.Arrival.{Arrival}
 use Rattle.cal_trace.specs.declared.comings.Coming.{Coming}
 use Rattle.cal_tables.specs.Moved.{ArePlaced, AreTaken, IsTaken, IsTurnOf, order_of}
 use Rattle.cal_tables.specs.Placing.{free_after, HasLast, IsAllFree, IsFreeAfter, turn_after, turn_from, turn_in}
-use Rattle.cal_tables.specs.declared.comparing.placing.Free.{Free}
-use Rattle.cal_tables.specs.declared.comparing.placing.Placed.{Placed}
+use Rattle.cal_tables.specs.declared.moved.placing.Free.{Free}
+use Rattle.cal_tables.specs.declared.moved.placing.Placed.{Placed}
 use Rattle.cal_tables.proofs.Moving.Members.{contains_in, in_front}
 use Rattle.cal_tables.proofs.Moving.Order.{AreBelow, rise, threads_up, turns_up}
 use Rattle.cal_tables.proofs.Moving.Taken.{all_taken, at_taken, coming_at, first_free}

@@ -19,7 +19,7 @@ use Rattle.cal_trace.specs.declared.arrivals.Arrivals.{Arrivals}
 use Rattle.cal_trace.specs.declared.comings.Coming.{Coming}
 use Rattle.cal_tables.specs.Laws.{AreNotAtOnce, NoneWaitsWhereNoneMeet, SameLimitsMoveNothing, limits_of}
 use Rattle.cal_tables.specs.Moved.{AreMoved, arrivals_in, each_moved, moved_to, order_of, thread_for}
-use Rattle.cal_tables.specs.declared.comparing.moving.MovedArrivals.{MovedArrivals}
+use Rattle.cal_tables.specs.declared.moved.arrivals.MovedArrivals.{MovedArrivals}
 use Rattle.cal_tables.proofs.Moving.Ids.{Differ, differ_reordered}
 use Rattle.cal_tables.proofs.Moving.Members.{contains_in, In, in_contains, later_mapped, later_unmapped}
 use Rattle.cal_tables.proofs.Moving.Order.{AreBelow, before_before, ComesFirst, never_itself, rising, rising_apart}

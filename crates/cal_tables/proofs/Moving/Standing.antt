@@ -10,7 +10,7 @@ use Rattle.cal_trace.specs.declared.arrivals.Arrival.{Arrival}
 use Rattle.cal_trace.specs.declared.comings.Coming.{Coming}
 use Rattle.std.specs.List.Sorted.{IsNonDecreasingBy}
 use Rattle.cal_tables.specs.Moved.{ArePlaced, before_turn, IsTaken, order_of, standing}
-use Rattle.cal_tables.specs.declared.comparing.placing.Placed.{Placed}
+use Rattle.cal_tables.specs.declared.moved.placing.Placed.{Placed}
 use Rattle.cal_tables.proofs.Moving.Order.{AreBelow, rise, threads_up, turns_up}
 use Rattle.cal_tables.proofs.Moving.Taken.{below_taken, coming_at, first_free, more_taken}
 

@@ -6,7 +6,7 @@ use Rattle.cal_trace.specs.Arrivals.FitsTable.{EachLater}
 use Rattle.cal_trace.specs.History.Ranges.{Each}
 use Rattle.cal_trace.specs.declared.comings.Coming.{Coming}
 use Rattle.cal_tables.specs.Moved.{ArePlaced, arrivals_in, IsTaken, IsTurnOf, standing}
-use Rattle.cal_tables.specs.declared.comparing.placing.Placed.{Placed}
+use Rattle.cal_tables.specs.declared.moved.placing.Placed.{Placed}
 use Rattle.cal_tables.proofs.Moving.Order.{ComesFirst, never_at_once}
 use Rattle.cal_tables.proofs.Moving.Standing.{all_standing}
 use Rattle.cal_tables.proofs.Moving.Taken.{coming_at, taken_below}

@@ -53,19 +53,19 @@ fn with_load_words<'a>(alloc: Global, command: Command<'a>) -> Result<Command<'a
     command
         .arg(input_word(alloc))?
         .arg(task_word(alloc).required_unless_present("log")?)?
-        .arg(own_load_word(alloc)?)?
+        .arg(load_word(alloc)?)?
         .arg(offered_word(alloc))
 }
 
-fn own_load_word<'a>(alloc: Global) -> Result<Arg<'a>, AllocError> {
-    load_word(alloc)
+fn load_word<'a>(alloc: Global) -> Result<Arg<'a>, AllocError> {
+    some_words(alloc, "load", "LOAD")
         .help("The work that comes, over its turns, such as 0.7")
         .required_unless_present("log")?
         .required_unless_present("offered")
 }
 
 /// The options of requests and of a run, after those of tasks and loads.
-pub fn with_run_words<'a>(alloc: Global, command: Command<'a>) -> Result<Command<'a>, AllocError> {
+fn with_run_words<'a>(alloc: Global, command: Command<'a>) -> Result<Command<'a>, AllocError> {
     command
         .arg(service_word(alloc))?
         .arg(pattern_word(alloc))?
@@ -76,7 +76,7 @@ pub fn with_run_words<'a>(alloc: Global, command: Command<'a>) -> Result<Command
 }
 
 /// What may be given more than once.
-pub fn some_words<'a>(alloc: Global, name: &'a str, value: &'a str) -> Arg<'a> {
+fn some_words<'a>(alloc: Global, name: &'a str, value: &'a str) -> Arg<'a> {
     Arg::new(alloc, name)
         .long(name)
         .action(ArgAction::Append)
@@ -84,17 +84,12 @@ pub fn some_words<'a>(alloc: Global, name: &'a str, value: &'a str) -> Arg<'a> {
 }
 
 /// The tasks to which requests come.
-pub fn task_word<'a>(alloc: Global) -> Arg<'a> {
+fn task_word<'a>(alloc: Global) -> Arg<'a> {
     some_words(alloc, "task", "TASK").help("A task that gets requests")
 }
 
-/// Their loads.
-pub fn load_word<'a>(alloc: Global) -> Arg<'a> {
-    some_words(alloc, "load", "LOAD")
-}
-
 /// Their loads in cores.
-pub fn offered_word<'a>(alloc: Global) -> Arg<'a> {
+fn offered_word<'a>(alloc: Global) -> Arg<'a> {
     some_words(alloc, "offered", "CORES").help("The same in cores, whatever its limit, such as 1.5")
 }
 
@@ -153,10 +148,7 @@ pub fn arrival_words<'a>(
 }
 
 /// What the words that say what comes ask for. Fails only when out of memory.
-pub fn load_words<'a>(
-    alloc: Global,
-    matches: &ArgMatches<'a>,
-) -> Result<LoadWords<'a>, AllocError> {
+fn load_words<'a>(alloc: Global, matches: &ArgMatches<'a>) -> Result<LoadWords<'a>, AllocError> {
     Ok(LoadWords {
         tasks: all_words(alloc, matches, "task")?,
         names: matches.get_str("names"),

@@ -1,11 +1,11 @@
 //! What the words of a command line ask for.
 
-use crate::command_words::arrival_words::{ArrivalWords, arrival_word, arrival_words, some_words};
+use crate::command_words::arrival_words::{ArrivalWords, arrival_word, arrival_words};
 use crate::command_words::count_words::{CountWords, count_words, own_came_word, with_count_words};
 use crate::command_words::help_texts;
+use crate::command_words::move_words::{MoveWords, move_word, move_words};
 use crate::command_words::plan_words::{plan_asked, with_plan_words};
-use crate::command_words::policy_words::{policies_asked, policies_word, policy_word};
-use crate::command_words::sweep_words::{sweep_word, sweep_words};
+use crate::command_words::policy_words::{policy_asked, policy_word};
 use crate::edge::sources::STANDARD;
 use crate::jobs::explaining::Asked;
 use crate::jobs::naming::LabelWords;
@@ -14,9 +14,7 @@ use cal_engine::{Front, VERSION};
 use cal_load::UNITS;
 use cal_paced::Plan;
 use cal_policy::Policy;
-use cal_sweep::SweepWords;
 use cal_tables::NumberForm;
-use clap::error::ErrorKind;
 use clap::{Arg, ArgAction, ArgMatches, Command, Error};
 use std::alloc::{AllocError, Global};
 
@@ -33,10 +31,10 @@ pub enum Job<'a> {
         /// Which arrivals.
         asked: ArrivalWords<'a>,
     },
-    /// Make runs at one load after the other.
-    Sweep {
-        /// Which runs.
-        asked: SweepWords<'a>,
+    /// Write the arrivals that another table gets of those of an input.
+    Move {
+        /// Which table.
+        asked: MoveWords<'a>,
     },
     /// Say how the program is used.
     Help,
@@ -60,11 +58,6 @@ pub enum InputJob {
         /// As what they are written.
         form: NumberForm,
     },
-    /// Make runs of several tables on the same arrivals, and write their numbers side by side.
-    Compare {
-        /// Which tables, and what is written of the runs.
-        asked: CompareWords,
-    },
     /// Explain a pass of a history or of signals, or the first illegal one.
     Explain {
         /// Which pass, and what of it.
@@ -74,109 +67,33 @@ pub enum InputJob {
     Check,
 }
 
-/// What the words after `compare` ask for.
-#[derive(Clone, Copy, Debug, PartialEq, Eq)]
-pub struct CompareWords {
-    /// Whether keys of one table are varied; else the input has the tables.
-    pub is_varied: bool,
-    /// What is written of the runs.
-    pub form: Form,
-}
-
-/// What is written of several runs.
-#[derive(Clone, Copy, Debug, PartialEq, Eq)]
-pub enum Form {
-    /// Their numbers.
-    Numbers(NumberForm),
-    /// In place of the runs the input of the one of this table, from 0.
-    Input(usize),
-}
-
 /// What the words ask for: a job, what its input is, and where its answer goes.
 #[derive(Drop)]
 pub struct Request<'a> {
     /// The job.
     pub job: Job<'a>,
-    /// The policies that it is to go by.
-    pub policies: Vec<Policy>,
+    /// The policy that it is to go by.
+    pub policy: Policy,
     /// The plan that its runs are to go by; without it they are in lockstep.
     pub plan: Option<Plan>,
     /// From when their requests count, and which of them are ranked.
     pub counting: CountWords<'a>,
     /// What tasks and clock ticks are to be called.
     pub labels: LabelWords<'a>,
-    /// Keys of the table that `compare` varies, each with its values, as `KEY=V1,V2`.
-    pub vary: Vec<&'a str>,
-    /// The files of task tables that stand in front of the input.
-    pub tables: Vec<&'a str>,
-    /// The file of the input, or of what comes after the tables; without it the standard input.
+    /// The file of the input; without it the standard input.
     pub input: Option<&'a str>,
     /// The file that the answer goes to; without it the standard output.
     pub output: Option<&'a str>,
-    /// Whether it is not to be shown how far the job is.
-    pub quiet: bool,
 }
 
 /// What the words after the program's name ask for; no words are `Job::Help`.
 ///
-/// The error is clap's own. A word that is not in the table is refused; a key to vary of several
-/// tables is an error of the kind `ArgumentConflict`; a key with no values is one of the kind
-/// `ValueValidation`; several files without one of arrivals, or one of arrivals alone, of the kind
-/// `MissingRequiredArgument`; a request for help is an error of the kind `DisplayHelp`, one for the
-/// version of the kind `DisplayVersion`, whose texts go to the standard output; out of memory has
-/// the kind `OutOfMemory`.
+/// The error is clap's own. A word that is not in the table is refused; a request for help is an error
+/// of the kind `DisplayHelp`, one for the version of the kind `DisplayVersion`, whose texts go to the
+/// standard output; out of memory has the kind `OutOfMemory`.
 pub fn words<'a>(alloc: Global, words: &'a [&'a str]) -> Result<Request<'a>, Error> {
     let matches = program(alloc)?.try_get_matches_from(words)?;
-    match request_of(alloc, &matches) {
-        Ok(request) => Ok(request),
-        Err(mistake) => Err(refused(alloc, mistake)?),
-    }
-}
-
-/// Why words that stand in the table one by one make no request.
-#[derive(Clone, Copy, Debug, PartialEq, Eq)]
-enum Mistake {
-    /// Memory was refused.
-    Memory,
-    /// The key that is varied has no values.
-    NoValues,
-    /// There are several files, and none of arrivals.
-    NoArrivals,
-    /// There is a file of arrivals, and none of a table.
-    NoTable,
-    /// Of several tables one is to be varied.
-    TwoTables,
-}
-
-impl From<AllocError> for Mistake {
-    fn from(_e: AllocError) -> Mistake {
-        Mistake::Memory
-    }
-}
-
-/// The error of a mistake. Fails only when out of memory.
-fn refused(alloc: Global, mistake: Mistake) -> Result<Error, AllocError> {
-    let (kind, said) = match mistake {
-        Mistake::Memory => return Err(AllocError),
-        Mistake::NoValues => (
-            ErrorKind::ValueValidation,
-            "the value of '--vary <KEY=V1,V2,..>' has no '='",
-        ),
-        Mistake::NoArrivals => (
-            ErrorKind::MissingRequiredArgument,
-            "several files are tables, and '--arrivals <FILE>' is not there",
-        ),
-        Mistake::NoTable => (
-            ErrorKind::MissingRequiredArgument,
-            "'--arrivals <FILE>' is there, and no file of a table",
-        ),
-        Mistake::TwoTables => (
-            ErrorKind::ArgumentConflict,
-            "the argument '--vary <KEY=V1,V2,..>' cannot be used with several tables",
-        ),
-    };
-    let mut command = compare_word(alloc)?.bin_name("caladan_view compare")?;
-    command.error(kind, said)
+    Ok(request_of(alloc, &matches)?)
 }
 
 /// How the program is used, in short.
@@ -199,7 +116,6 @@ fn program<'a>(alloc: Global) -> Result<Command<'a>, AllocError> {
     let about = "Write the turns in which threads worked at requests, as CSV";
     let program = program.subcommand(facts_word(alloc, "turns", about, help_texts::TURNS)?)?;
     let program = program.subcommand(measure_word(alloc)?)?;
-    let program = program.subcommand(compare_word(alloc)?)?;
     let program = program.subcommand(explain_word(alloc)?)?;
     let check = Command::new(alloc, "check")
         .about("Say what an input is, or why it is refused")
@@ -208,7 +124,7 @@ fn program<'a>(alloc: Global) -> Result<Command<'a>, AllocError> {
         .arg(output_word(alloc))?;
     let program = program.subcommand(check)?;
     let program = program.subcommand(arrival_word(alloc)?)?;
-    program.subcommand(sweep_word(alloc)?)
+    program.subcommand(move_word(alloc)?)
 }
 
 /// The program before it has its words.
@@ -303,23 +219,6 @@ pub fn flag_word<'a>(alloc: Global, name: &'a str, help: &'a str) -> Arg<'a> {
         .help(help)
 }
 
-fn compare_word<'a>(alloc: Global) -> Result<Command<'a>, AllocError> {
-    let command = Command::new(alloc, "compare")
-        .about("Run several tables on the same arrivals, and compare their numbers")
-        .after_long_help(help_texts::COMPARE)
-        .arg(tables_word(alloc))?
-        .arg(arrivals_word(alloc))?
-        .arg(policies_word(alloc))?;
-    let command = with_count_words(alloc, command)?;
-    with_plan_words(alloc, command)?
-        .arg(vary_word(alloc))?
-        .arg(csv_word(alloc))?
-        .arg(names_word(alloc))?
-        .arg(tick_word(alloc))?
-        .arg(write_input_word(alloc)?)?
-        .arg(output_word(alloc))
-}
-
 /// The names of the tasks.
 pub fn names_word<'a>(alloc: Global) -> Arg<'a> {
     let help = "The names of the tasks, in order";
@@ -334,29 +233,12 @@ pub fn tick_word<'a>(alloc: Global) -> Arg<'a> {
         .hide_possible_values(true)
 }
 
-fn write_input_word<'a>(alloc: Global) -> Result<Arg<'a>, AllocError> {
-    let help = "Write the input of table N's run instead, from 0";
-    number_word(alloc, "write-input", "N", help).conflicts_with("csv")
-}
-
 /// The file of the input.
 pub fn input_word<'a>(alloc: Global) -> Arg<'a> {
     Arg::new(alloc, "input")
         .action(ArgAction::Set)
         .value_name("FILE")
         .help("The input [default: the standard input]")
-}
-
-fn tables_word<'a>(alloc: Global) -> Arg<'a> {
-    Arg::new(alloc, "tables")
-        .action(ArgAction::Append)
-        .num_args(1..)
-        .value_name("FILE")
-        .help("The input; with --arrivals the tables, a file each")
-}
-
-fn arrivals_word<'a>(alloc: Global) -> Arg<'a> {
-    value_word(alloc, "arrivals", "FILE", "The arrivals of all tables")
 }
 
 /// The file of the answer.
@@ -376,45 +258,22 @@ pub fn csv_word<'a>(alloc: Global) -> Arg<'a> {
     flag_word(alloc, "csv", "Write the numbers as CSV")
 }
 
-/// A key of the table, and its values.
-pub fn vary_word<'a>(alloc: Global) -> Arg<'a> {
-    let help = "Vary one table by these values at a key";
-    some_words(alloc, "vary", "KEY=V1,V2,..").help(help)
-}
-
-/// What a parsed command line asks for.
-fn request_of<'a>(alloc: Global, matches: &ArgMatches<'a>) -> Result<Request<'a>, Mistake> {
+/// What a parsed command line asks for. Fails only when out of memory.
+fn request_of<'a>(alloc: Global, matches: &ArgMatches<'a>) -> Result<Request<'a>, AllocError> {
     let Some((name, own)) = matches.subcommand() else {
-        return Ok(Request::help(alloc));
-    };
-    let job = job_of(alloc, name, own)?;
-    if name == "compare" {
-        check_files(own)?;
-    }
-    let arrivals = own.get_str("arrivals");
-    let tables = match arrivals {
-        Some(_) => all_words(alloc, own, "tables")?,
-        None => Vec::new(alloc),
-    };
-    let vary = if name == "compare" {
-        all_words(alloc, own, "vary")?
-    } else {
-        Vec::new(alloc)
+        return Ok(Request::help());
     };
     Ok(Request {
-        job,
-        policies: policies_asked(alloc, own)?,
+        job: job_of(alloc, name, own)?,
+        policy: policy_asked(own),
         plan: plan_asked(own),
         counting: count_words(name, own),
         labels: LabelWords {
             names: own.get_str("names"),
             tick: own.get_str("tick"),
         },
-        vary,
-        tables,
-        input: file_named(arrivals.or(own.get_str("tables")).or(own.get_str("input"))),
+        input: file_named(own.get_str("input")),
         output: file_named(own.get_str("output")),
-        quiet: name == "sweep" && own.get_flag("quiet"),
     })
 }
 
@@ -425,43 +284,40 @@ fn file_named(name: Option<&str>) -> Option<&str> {
 
 impl<'a> Request<'a> {
     /// What no words ask for.
-    fn help(alloc: Global) -> Request<'a> {
+    fn help() -> Request<'a> {
         Request {
             job: Job::Help,
-            policies: Vec::new(alloc),
+            policy: Policy::Caladan,
             plan: None,
             counting: CountWords::NONE,
             labels: LabelWords {
                 names: None,
                 tick: None,
             },
-            vary: Vec::new(alloc),
-            tables: Vec::new(alloc),
             input: None,
             output: None,
-            quiet: false,
         }
     }
 }
 
-/// The job of a word and its options.
-fn job_of<'a>(alloc: Global, name: &str, own: &ArgMatches<'a>) -> Result<Job<'a>, Mistake> {
+/// The job of a word and its options. Fails only when out of memory.
+fn job_of<'a>(alloc: Global, name: &str, own: &ArgMatches<'a>) -> Result<Job<'a>, AllocError> {
     let job = if name == "arrivals" {
         let asked = arrival_words(alloc, own)?;
         Job::Arrivals { asked }
-    } else if name == "sweep" {
-        let asked = sweep_words(alloc, own)?;
-        Job::Sweep { asked }
+    } else if name == "move" {
+        let asked = move_words(own);
+        Job::Move { asked }
     } else {
-        let asked = input_job(name, own)?;
+        let asked = input_job(name, own);
         Job::OfInput { asked }
     };
     Ok(job)
 }
 
 /// What a word and its options ask for that is done with an input which is read to its end.
-fn input_job(name: &str, own: &ArgMatches<'_>) -> Result<InputJob, Mistake> {
-    let job = if name == "history" {
+fn input_job(name: &str, own: &ArgMatches<'_>) -> InputJob {
+    if name == "history" {
         let front = front_of(own.get_flag("table"));
         InputJob::History { front }
     } else if let Some(facts) = Facts::named(name) {
@@ -469,37 +325,12 @@ fn input_job(name: &str, own: &ArgMatches<'_>) -> Result<InputJob, Mistake> {
     } else if name == "measure" {
         let form = number_form_of(own.get_flag("csv"));
         InputJob::Measure { form }
-    } else if name == "compare" {
-        let asked = comparison_of(own)?;
-        InputJob::Compare { asked }
     } else if name == "explain" {
         let asked = asked_of(own);
         InputJob::Explain { asked }
     } else {
         InputJob::Check
-    };
-    Ok(job)
-}
-
-/// Whether `compare` has the files that it needs: with arrivals the others are tables; without them
-/// there is one other at most, which is the input.
-fn check_files(own: &ArgMatches<'_>) -> Result<(), Mistake> {
-    let count = count_of(own);
-    let has_arrivals = own.get_str("arrivals").is_some();
-    if !has_arrivals && count > 1 {
-        Err(Mistake::NoArrivals)
-    } else if has_arrivals && count == 0 {
-        Err(Mistake::NoTable)
-    } else if count > 1 && own.get_strs("vary").is_some() {
-        Err(Mistake::TwoTables)
-    } else {
-        Ok(())
     }
-}
-
-/// How many files stand after `compare` without an option.
-fn count_of(own: &ArgMatches<'_>) -> usize {
-    own.get_strs("tables").map_or(0, |files| files.len())
 }
 
 /// All words of an option, or of an argument, in the order given.
@@ -512,22 +343,6 @@ pub fn all_words<'a>(
         Some(given) => given.iter().copied().collect(alloc),
         None => Ok(Vec::new(alloc)),
     }
-}
-
-/// What the options of `compare` ask for.
-fn comparison_of(matches: &ArgMatches<'_>) -> Result<CompareWords, Mistake> {
-    let form = match number(matches, "write-input") {
-        Some(table) => Form::Input(table),
-        None => Form::Numbers(number_form_of(matches.get_flag("csv"))),
-    };
-    let vary = matches.get_strs("vary").unwrap_or(&[]);
-    if vary.iter().any(|word| !word.contains('=')) {
-        return Err(Mistake::NoValues);
-    }
-    Ok(CompareWords {
-        is_varied: !vary.is_empty(),
-        form,
-    })
 }
 
 /// What the options of `explain` ask for.

@@ -50,7 +50,7 @@ pub fn own_came_word<'a>(alloc: Global) -> Arg<'a> {
 
 /// What these words ask for, of the subcommand of this name.
 pub fn count_words<'a>(name: &str, own: &ArgMatches<'a>) -> CountWords<'a> {
-    if name != "measure" && name != "compare" && name != "requests" {
+    if name != "measure" && name != "requests" && name != "move" {
         return CountWords::NONE;
     }
     CountWords {

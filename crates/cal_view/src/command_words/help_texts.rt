@@ -9,11 +9,12 @@ Each subcommand reads one input, a file or the standard input: a task table
 (TOML), the line ---, and signals, a history or arrivals (CSV). With -o the
 answer goes to a file, which appears only once the answer is complete.
 `caladan_view SUBCOMMAND --help` says what is read and written, with a whole
-input to copy; `man caladan-viewer` has the rest. caladan_draw draws runs.
+input to copy; `man caladan-viewer` has the rest. caladan_lab compares tables,
+sweeps loads and draws runs.
 
-Exit status: 0 done, 1 an illegal history explained or an objective missed, 2
-bad arguments or rejected input, 3 memory or output was refused. A fault is one
-line on the standard error; below it, lines say why an input was rejected.";
+Exit status: 0 done, 1 an illegal history explained, 2 bad arguments or rejected
+input, 3 memory or output was refused. A fault is one line on the standard
+error; below it, lines say why an input was rejected.";
 
 /// Of the subcommand `history`.
 pub const HISTORY: &str = help_with_a_run!(
@@ -289,120 +290,6 @@ machine clock of passes                  40
 machine clock of requests                40"
 );
 
-/// Of the subcommand `compare`.
-pub const COMPARE: &str = help_with_a_run!(
-    "\
-Input: task tables (TOML), each ended by the line ---, and after the last of
-these lines arrivals (CSV). With --arrivals each other file is a task table, and
-the named one has the arrivals; no line --- is needed.
-Output: the numbers that `caladan_view measure` gives of each table's
-run on the arrivals, a column for each table; beside each column but the first
-its change from the first; with --csv as CSV. A missing task, and a change that
-cannot be computed, is shown as a dash. Several files of tables name their
-columns, each after as many of its folders as tell it apart.
-With --vary the input is that of `measure`, or one table with --arrivals, and
-there is a column for each value: the table with that value at the key. Keys are
-cores, bandwidth_limit, and of task 1 task.1.kind, task.1.guaranteed,
-task.1.limit, task.1.delay and task.1.request; of --names a name may stand for a
-task, as in --vary memcached.limit=2,4. Write a value as in a table. To keep the
-given table among the columns, name its own value, best as the first. Several
---vary make all combinations, at most 1000; the first key changes slowest.
-With several policies each table has a column for each of them.
-The arrivals are for the first table, or for the one that is varied. In each
-other table a request stays with its task, on the thread of the same number
-among the task's, modulo the limit. Where another has taken its turn there, it
-comes before the next free one, and still counts from its own; where none is
-left it is left out. Two rows count these and those moved by more than one turn,
-where there are some. --write-input N writes table N and the arrivals that it
-gets, which `measure` reads. --came, --from and --to are as in `measure`; the
-file is of the arrivals as given.
-With --pace, --beside, --memory or --figure the runs are like a machine:
-docs/VIEWER.md, \"Runs like a machine\".
-Exit status: 0 done, 2 rejected input, 3 memory or output was refused. A table
-that is refused, or that the arrivals do not fit, is named by its number, from
-0, or by its values.",
-    "caladan_view compare",
-    "\
-cores = 2
-bandwidth_limit = 1000
-[[task]]
-kind = \"lc\"
-guaranteed = 1
-limit = 1
-delay = 30
-request = 50
----
-caladan-arrivals,1
-pass,100,0
-pass,120,0
-pass,140,0
-turn,105
-turn,125
-turn,145
-request,0,0,1,1,0
-request,0,2,2,1,0
-end,8
-END
-
-It writes:
-
-measure                             table 0  table 1  change table 1
-task 0 requests given                     2        2               0
-task 0 requests served                    2        1              -1
-task 0 requests left                      0        1              +1
-task 0 served in a tick               0.050    0.025          -0.025
-task 0 response least                     0       40             +40
-task 0 response median                    0       40             +40
-task 0 response 90 of 100                40       >0               -
-task 0 response 99 of 100            40 (2)   >0 (2)               -
-task 0 response 99.9 of 100          40 (2)   >0 (2)               -
-task 0 response greatest                 40       >0               -
-task 0 response mean                 20.000  >20.000               -
-task 0 wait least                         0       40             +40
-task 0 wait median                        0       40             +40
-task 0 wait 90 of 100                    20       40             +20
-task 0 wait 99 of 100                20 (2)   40 (1)             +20
-task 0 wait 99.9 of 100              20 (2)   40 (1)             +20
-task 0 wait greatest                     20       40             +20
-task 0 service least                      0        0               0
-task 0 service median                     0        0               0
-task 0 service 90 of 100                 20        0             -20
-task 0 service 99 of 100             20 (2)    0 (1)             -20
-task 0 service 99.9 of 100           20 (2)    0 (1)             -20
-task 0 service greatest                  20        0             -20
-task 0 slowdown least                 2.000        -               -
-task 0 slowdown median                2.000        -               -
-task 0 slowdown 90 of 100             2.000        -               -
-task 0 slowdown 99 of 100         2.000 (1)        -               -
-task 0 slowdown 99.9 of 100       2.000 (1)        -               -
-task 0 slowdown greatest              2.000        -               -
-task 0 oldest pending                     -        0               -
-task 0 thefts                             0        0               0
-task 0 suspensions                        0        0               0
-task 0 share worked                   1.000        -               -
-task 0 grants sibling                     0        0               0
-task 0 grants recently used               0        0               0
-task 0 grants other idle                  1        1               0
-task 0 lost to bans                       0        0               0
-task 0 lost to bandwidth                  0        0               0
-task 0 lost to tasks                      0        0               0
-task 0 taken from others                  0        0               0
-task 0 cap cuts                           0        0               0
-task 0 cap raises                         0        0               0
-task 0 bans                               0        0               0
-task 0 most cores held                    1        1               0
-task 0 mean cores held                0.500    0.000          -0.500
-task 0 mean cores being left          0.000    0.000               0
-task 0 share congested                0.500    0.000          -0.500
-machine held                          0.250    0.000          -0.250
-machine leaving                       0.000    0.000               0
-machine banned                        0.000    0.000               0
-machine free                          0.750    1.000          +0.250
-machine over its bandwidth limit      0.000    0.000               0
-machine clock of passes                  40       40               0
-machine clock of requests                40       40               0"
-);
-
 /// Of the subcommand `explain`.
 pub const EXPLAIN: &str = help_with_a_run!(
     "\
@@ -451,8 +338,8 @@ pass 0 now 111 bandwidth 0
 pub const ARRIVALS: &str = help_with_a_run!(
     "\
 Input: a task table (TOML); what follows a line --- is not read.
-Output: arrivals (CSV), which `measure`, `compare` and
-`caladan_sim lockstep` read after the table; with --table an input of these.
+Output: arrivals (CSV), which `measure`, `move` and `caladan_sim lockstep`
+read after the table; with --table an input of these.
 Pass p has the clock p times the ticks, from p = 1, with a bandwidth figure of
 0, and turn p comes half a turn later.
 A task's load is the work asked for, over the turns times its limit; with
@@ -497,52 +384,63 @@ request,0,2,1,1,0
 end,9"
 );
 
-/// Of the subcommand `sweep`.
-pub const SWEEP: &str = help_with_a_run!(
-    "\
-Input: a task table (TOML); what follows a line --- is not read.
-Output: a row for each load: the task's response in clock ticks, at four ranks
-and in the mean; how many requests came, were later, by more than one turn
-(far) or left out, as in `arrivals --summary`, and were served; the cores that
-the task held in the mean; and the share of the machine that best-effort tasks
-held. Each run is on the arrivals that `arrivals` makes with these options. Its
-numbers are those of `measure`, but that responses count from when requests
-came, also where these come at a later turn, and are of those that came in the
-turns of a window. One task has the loads; each other --task has one.
-With --vary there is a row for each value, or for each combination of several
---vary, as in `compare`, on arrivals made for that table; with --offered on the
-same requests for all, drawn for the greatest limit, each at its thread modulo
-the table's, and later if its turn is taken. With several policies there is a
-row for each. --seeds N runs each load with N seeds: for each row there are
-three, the least, the median and the greatest of each column by itself.
---slo is an objective for a task: p50, p90, p99, p99.9 or max, in ticks. It is
-undecided where the request at its rank is pending for less, and missed where
-some that came before the end of the window are left out; of several seeds one
-is enough. There may be several: where they are of several tasks, each of these
-has rows. Of --names a name may stand for a task, as in --slo memcached.p99=65.
---cheapest lists below the table, for each load, what keeps every objective:
-first what leaves the greatest share to best effort, of several seeds in the
-median.
-With --pace, --beside, --memory or --figure the runs are like a machine:
-docs/VIEWER.md, \"Runs like a machine\". --memory and --figure shown need requests
-with misses, which --misses gives.
-Exit status: 0 done, 1 a run of the last load misses an objective, or leaves it
-undecided, 2 rejected input or a bad option, which is named, 3 memory or output
-was refused.",
-    "caladan_view sweep --load 0.3,0.6 --pattern even --turns 20",
-    "\
+/// Of the subcommand `move`.
+pub const MOVE: &str = "\
+Input: a task table (TOML), the line ---, and arrivals (CSV), as
+`caladan_sim lockstep` reads. TABLE is a file of another task table, or of an
+input that begins with it.
+Output: the arrivals (CSV) that TABLE gets of these. A request stays with its
+task, on the thread of the same number among the task's, modulo the limit. Where
+another has taken its turn there, it comes before the next free one; where none
+is left it is left out. Of two for one turn that of the lower thread goes first.
+With --came FILE, which `arrivals --came` wrote, requests came as it says; else
+to their own turns. --write-came FILE writes such a file, of the arrivals that
+TABLE gets, with how many of each task are left out. It appears once it is
+complete. `measure --came` reads it, with TABLE and these arrivals.
+Exit status: 0 done, 2 rejected input, or a request for a task that TABLE has
+not, 3 memory or output was refused.
+
+To try it:
+
+cat > one.toml <<'END'
+cores = 2
+bandwidth_limit = 1000
+[[task]]
+kind = \"lc\"
+guaranteed = 1
+limit = 1
+delay = 10
+request = 50
+END
+caladan_view move --to one.toml <<'END'
+cores = 2
+bandwidth_limit = 1000
+[[task]]
+kind = \"lc\"
+guaranteed = 1
+limit = 2
+delay = 10
+request = 50
+---
+caladan-arrivals,1
+pass,100,0
+turn,105
+turn,115
+request,0,0,1,1,0
+request,1,0,2,1,0
+request,1,1,3,1,0
+end,6
 END
 
-It writes, with its last two columns below the others:
+It writes:
 
-load   p50  p90     p99   p99.9    mean  came  later  far  left out  served
-0.300   30   30  30 (5)  30 (5)  22.000     6      0    0         0       5
-0.600   20   30  30 (9)  30 (9)  20.000    12      0    0         0      11
-
-       mean cores  best-effort share
-            0.421              0.000
-            0.632              0.000"
-);
+caladan-arrivals,1
+pass,100,0
+turn,105
+turn,115
+request,0,0,1,1,0
+request,0,1,2,1,0
+end,5";
 
 /// Of the subcommand `check`.
 pub const CHECK: &str = help_with_a_run!(

@@ -17,18 +17,6 @@ pub fn with_plan_words<'a>(alloc: Global, command: Command<'a>) -> Result<Comman
         .arg(figure_word(alloc))
 }
 
-/// The options of a plan, in the long help alone.
-pub fn with_more_plan_words<'a>(
-    alloc: Global,
-    command: Command<'a>,
-) -> Result<Command<'a>, AllocError> {
-    command
-        .arg(pace_word(alloc).hide_short_help(true))?
-        .arg(beside_word(alloc).hide_short_help(true))?
-        .arg(memory_word(alloc).hide_short_help(true))?
-        .arg(figure_word(alloc).hide_short_help(true))
-}
-
 fn pace_word<'a>(alloc: Global) -> Arg<'a> {
     value_word(alloc, "pace", "P", "Passes to a turn, 1 to 65535").value_parser(clap::value_parser!(
         u64

@@ -48,7 +48,7 @@ pub fn answer_explain<W: Write, E: Write>(
     errors: &mut E,
 ) -> Result<u8, RunFault> {
     let alloc = input.alloc;
-    let policy = input.policy();
+    let policy = input.policy;
     let (config, history) = passes_of(alloc, policy, input.bytes())?;
     let scope = match scope_of(&config, asked) {
         Ok(scope) => scope,

@@ -4,23 +4,21 @@ use crate::jobs::counting::CameText;
 use cal_came::CountAsked;
 use cal_paced::Plan;
 use cal_policy::Policy;
-use cal_tables::{Labels, MeasuredInput, Variation};
+use cal_tables::{Labels, MeasuredInput};
 use cal_why::RefusedInput;
 use std::alloc::Global;
 
-/// An input that was read to its end, by which policies its runs are made, decided and audited, by
-/// which plan, how its requests are counted, and what its tasks and clock ticks are called.
+/// An input that was read to its end, by which policy its run is made, decided or audited, by which
+/// plan, how its requests are counted, and what its tasks and clock ticks are called.
 #[derive(Clone, Copy)]
 pub struct JobInput<'a> {
     /// What a job takes memory from.
     pub alloc: Global,
     /// The input, as it is told of where it is refused.
     pub read: RefusedInput<'a>,
-    /// The keys of its table that are varied, each with its values.
-    pub variations: &'a [Variation],
-    /// The policies.
-    pub policies: &'a [Policy],
-    /// The plan of its runs; without it they are in lockstep.
+    /// The policy.
+    pub policy: Policy,
+    /// The plan of its run; without it that is in lockstep.
     pub plan: Option<Plan>,
     /// The file of when its requests came, where one is named.
     pub came: Option<CameText<'a>>,
@@ -40,14 +38,9 @@ impl<'a> JobInput<'a> {
     pub fn measured(&self) -> MeasuredInput<'a> {
         MeasuredInput {
             bytes: self.bytes(),
-            policy: self.policy(),
+            policy: self.policy,
             plan: self.plan,
             counting: self.counting,
         }
-    }
-
-    /// The policy, where one is asked for.
-    pub fn policy(&self) -> Policy {
-        self.policies.first().copied().unwrap_or(Policy::Caladan)
     }
 }

@@ -1,7 +1,7 @@
 //! The names of tasks and the unit of clock ticks that words give.
 
-use cal_input::RunFault;
-use cal_tables::{ComparisonFault, Labels, letters, read_tables};
+use cal_input::{RunFault, read_parts, status};
+use cal_tables::{Labels, letters};
 use std::alloc::{AllocError, Global};
 use std::io::Write;
 
@@ -63,9 +63,8 @@ pub fn names_of<'a>(alloc: Global, words: LabelWords<'a>) -> Result<Vec<&'a str>
     }
 }
 
-/// Says that there are more or fewer names than the tables of an input have tasks at most, and
-/// answers the exit status, where that is so. The fault is `Memory`; of tables that are refused
-/// nothing is said.
+/// Says that there are more or fewer names than the table of an input has tasks, and answers the exit
+/// status, where that is so. The fault is `Memory`; of a table that is refused nothing is said.
 pub fn refuse_count<E: Write>(
     alloc: Global,
     labels: Labels<'_>,
@@ -75,13 +74,12 @@ pub fn refuse_count<E: Write>(
     if labels.names.is_empty() {
         return Ok(None);
     }
-    let tables = match read_tables(alloc, input) {
-        Ok((tables, _)) => tables,
-        Err(ComparisonFault::Run(RunFault::Memory)) => return Err(RunFault::Memory),
+    let tasks = match read_parts(alloc, input) {
+        Ok((table, _)) => table.tasks(),
+        Err(fault) if status(&fault) != 2 => return Err(RunFault::Memory),
         Err(_) => return Ok(None),
     };
-    let most = tables.iter().map(|table| table.tasks()).max();
-    let (names, tasks) = (labels.names.len(), most.unwrap_or(0));
+    let names = labels.names.len();
     if names == tasks {
         return Ok(None);
     }

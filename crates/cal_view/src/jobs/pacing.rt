@@ -3,10 +3,9 @@
 ghost use Rattle.std.specs.Prelude.{◌≡◌};
 
 use crate::jobs::input::JobInput;
-use cal_input::RunFault;
+use cal_input::{RunFault, run_input, status};
 use cal_paced::{PaceFault, have_misses};
-use cal_tables::{ComparisonFault, PlannedFault, read_tables};
-use cal_trace::{FaultKind, read_arrivals};
+use cal_tables::PlannedFault;
 use std::alloc::Global;
 use std::io::Write;
 
@@ -62,17 +61,9 @@ pub fn refuse_no_misses<E: Write>(errors: &mut E) -> u8
 
 /// Whether an input has arrivals of which no request has misses. The fault is `Memory`.
 fn has_no_misses(alloc: Global, input: &[u8]) -> Result<bool, RunFault> {
-    let (tables, trace) = match read_tables(alloc, input) {
-        Ok(parts) => parts,
-        Err(ComparisonFault::Run(RunFault::Memory)) => return Err(RunFault::Memory),
-        Err(_) => return Ok(false),
-    };
-    let Some(table) = tables.as_slice().first() else {
-        return Ok(false);
-    };
-    match read_arrivals(alloc, table, trace) {
-        Ok(arrivals) => Ok(!have_misses(arrivals.requests.as_slice())),
-        Err(fault) if fault.kind == FaultKind::Memory => Err(RunFault::Memory),
+    match run_input(alloc, input) {
+        Ok((_, arrivals)) => Ok(!have_misses(arrivals.requests.as_slice())),
+        Err(fault) if status(&fault) != 2 => Err(RunFault::Memory),
         Err(_) => Ok(false),
     }
 }

@@ -45,7 +45,7 @@ pub fn tell<W: Write, E: Write>(
     output: &mut W,
     errors: &mut E,
 ) -> Result<u8, RunFault> {
-    let (alloc, policy, plan, bytes) = (input.alloc, input.policy(), input.plan, input.bytes());
+    let (alloc, policy, plan, bytes) = (input.alloc, input.policy, input.plan, input.bytes());
     let wrote = match facts {
         Facts::Spans => write_spans(alloc, policy, plan, bytes, output),
         Facts::Series => write_series(alloc, policy, plan, bytes, output),

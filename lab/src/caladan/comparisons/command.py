@@ -7,7 +7,7 @@ from typing import Optional, Sequence
 from ..arrivals import is_some_within
 from ..files import STANDARD, Output, Source, joined, read_named
 from ..labels import Labels, names_of, table_names
-from ..moving import Given, HandMover, Mover, NoTask
+from ..moving import Given, NoTask, ProgramMover
 from ..plans import plan_of
 from ..pool import each
 from ..programs import viewer
@@ -25,18 +25,25 @@ ARRIVALS = "--arrivals <FILE>"
 NONE_CAME = "no request came within the turns of --from and --to"
 
 
-def mistake(asked: Asked) -> Optional[Mistake]:
-    """Why words that stand one by one make no comparison, if they make none."""
-    files, has_arrivals, vary = len(asked.all("tables")), asked.has("arrivals"), asked.all("vary")
+def vary_mistake(asked: Asked, files: int) -> Optional[Mistake]:
+    """Why so many files of tables cannot be varied as words say, if they cannot."""
+    vary = asked.all("vary")
     if any("=" not in it for it in vary):
         return with_usage(asked.command, f"the value of '{VARY}' has no '='")
-    if not has_arrivals and files > 1:
-        return with_usage(asked.command, f"several files are tables, and '{ARRIVALS}' is not there")
-    if has_arrivals and not files:
-        return with_usage(asked.command, f"'{ARRIVALS}' is there, and no file of a table")
     if files > 1 and vary:
         return with_usage(asked.command, f"the argument '{VARY}' cannot be used with several tables")
     return None
+
+
+def mistake(asked: Asked) -> Optional[Mistake]:
+    """Why words that stand one by one make no comparison, if they make none."""
+    files, has_arrivals = len(asked.all("tables")), asked.has("arrivals")
+    has_values = vary_mistake(asked, 1) is None
+    if has_values and not has_arrivals and files > 1:
+        return with_usage(asked.command, f"several files are tables, and '{ARRIVALS}' is not there")
+    if has_values and has_arrivals and not files:
+        return with_usage(asked.command, f"'{ARRIVALS}' is there, and no file of a table")
+    return vary_mistake(asked, files)
 
 
 def refuse_two_inputs(names: Sequence[Optional[str]]) -> None:
@@ -83,28 +90,46 @@ def refuse_empty_window(asked: Asked, given: Given) -> None:
     first, after = asked.number("from"), asked.number("to")
     if first is None and after is None:
         return
-    if not is_some_within(given.arrivals, given.comings, first, after):
+    if not is_some_within(given.comings, first, after):
         raise Refusal(NONE_CAME)
 
 
-def answer(asked: Asked, reading: Reading, variations: Variations, labels: Labels,
-           came: Optional[tuple[str, bytes]] = None) -> bytes:
-    """What is written of a comparison of an input, with the file of when its requests came, by its name."""
-    terms = terms_of(asked)
-    machines, arrivals = reading.read(labels.names, terms.plan)
+def tables_of(asked: Asked, reading: Reading, variations: Variations, labels: Labels) -> tuple[list[Machine], Given]:
+    """The tables of a comparison, and the arrivals that are given for the first."""
+    machines, arrivals = reading.read(labels.names, terms_of(asked).plan)
     if variations:
         machines = varied(reading.view, machines[0], variations, each)
-    table = asked.number("write-input")
-    if table is not None:
-        return input_text(machines, arrivals, variations, table)
+    return machines, arrivals
+
+
+def runs_of(asked: Asked, reading: Reading, variations: Variations, labels: Labels,
+            came: Optional[tuple[str, bytes]] = None) -> Runs:
+    """The runs of a comparison of an input, with the file of when its requests came, by its name."""
+    machines, arrivals = tables_of(asked, reading, variations, labels)
     if came is not None:
         reading.check_comings(*came)
         arrivals = replace(arrivals, came=came[1])
     refuse_empty_window(asked, arrivals)
     names = [table_name(variations, it) for it in range(len(machines))]
-    runs = Runs(reading.view, terms, machines, HandMover(arrivals), names).all()
-    sheet = CompareSheet(runs, terms.policies, variations, labels, came is not None, asked.has("csv"))
+    return Runs(reading.view, terms_of(asked), machines, ProgramMover(reading.view, arrivals), names)
+
+
+def sheet_of(runs: Runs, variations: Variations, labels: Labels, has_came: bool, is_csv: bool) -> bytes:
+    """What is written of the runs of a comparison, which are made; in all rows where the file of when requests came is
+    given."""
+    sheet = CompareSheet(runs.all(), runs.terms.policies, variations, labels, has_came, is_csv)
     return sheet.written().encode("utf-8", "surrogateescape")
+
+
+def answer(asked: Asked, reading: Reading, variations: Variations, labels: Labels,
+           came: Optional[tuple[str, bytes]] = None) -> bytes:
+    """What is written of a comparison of an input, with the file of when its requests came, by its name."""
+    table = asked.number("write-input")
+    if table is not None:
+        machines, arrivals = tables_of(asked, reading, variations, labels)
+        return input_text(ProgramMover(reading.view, arrivals), machines, variations, table)
+    runs = runs_of(asked, reading, variations, labels, came)
+    return sheet_of(runs, variations, labels, came is not None, asked.has("csv"))
 
 
 def table_name(variations: Variations, table: int) -> str:
@@ -112,17 +137,15 @@ def table_name(variations: Variations, table: int) -> str:
     return setting_text(variations, table) if variations else f"table {table}"
 
 
-def input_text(machines: Sequence[Machine], given: Given, variations: Variations, table: int) -> bytes:
+def input_text(mover: ProgramMover, machines: Sequence[Machine], variations: Variations, table: int) -> bytes:
     """The input of the run of one of the tables, with the arrivals that it gets."""
     if table >= len(machines):
         raise Refusal(f"table {table} is not there: there are {len(machines)}, from 0")
-    mover: Mover = HandMover(given)
     try:
-        moved = mover.moved(machines[table])
+        moved = mover.asked(machines[table])
     except NoTask as fault:
         raise Refusal(f"{table_name(variations, table)} {fault.line}") from None
-    arrivals = given.arrivals.text() if moved.arrivals == given.text else moved.arrivals
-    return machines[table].text() + SEPARATOR + arrivals
+    return machines[table].text() + SEPARATOR + moved.arrivals
 
 
 def compare(asked: Asked) -> int:

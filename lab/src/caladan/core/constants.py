@@ -1,11 +1,17 @@
-"""The numbers of include/caladan.h under its names, without CALADAN_, and what each says."""
+"""The numbers of include/caladan.h, each under its name there without CALADAN_, and their texts."""
 from __future__ import annotations
 
 import enum
+from typing import Sequence
 
 MOST_CORES, MOST_THREADS, MOST_ACTIONS = 128, 128, 338
+# Of a file of docs/FORMATS.md: its passes, and its bytes with the table.
+MOST_PASSES, MOST_TEXT = 1 << 20, 1 << 26
+# The room of a thread's command ring, in commands (caladan_pages.h).
 PLACES = 4
 HISTORY_HEADER = "caladan-history,2"
+# The words of a record, as a look has them from `taken` on.
+WORDS = ("taken", "running", "queued", "oldest", "started", "misses", "stamp", "paused", "since")
 
 
 class Policy(enum.IntEnum):
@@ -16,7 +22,7 @@ class Policy(enum.IntEnum):
 
 
 class Answer(enum.IntEnum):
-    """A call's answer. Up to TOO_MANY_THREADS it is the first fault of a table."""
+    """A call's answer. From NOT_TOML up to TOO_MANY_THREADS it is the first fault of a table."""
 
     DONE = 0
     NOT_TOML = 1
@@ -91,7 +97,7 @@ class TaskKind(enum.IntEnum):
 
 
 class Why(enum.IntEnum):
-    """Why an action is not permitted."""
+    """Why an action is not permitted: the first reason, in this order."""
 
     WHY_TOO_MANY = 1
     WHY_DOES_NOT_FIT = 2
@@ -106,40 +112,41 @@ class Why(enum.IntEnum):
     WHY_OVER_CAP = 11
 
 
-ANSWERS = {
-    Answer.DONE: "done", Answer.NOT_TOML: "the table is not TOML", Answer.UNKNOWN_KEY: "the table has an unknown key",
-    Answer.MISSING_KEY: "the table lacks a key", Answer.WRONG_TYPE: "a value has the wrong type",
-    Answer.OUT_OF_RANGE: "a value is out of range",
-    Answer.BEST_EFFORT_GUARANTEE: "a best-effort task has a guarantee",
-    Answer.GUARANTEES_EXCEED_CORES: "the guarantees exceed the cores",
-    Answer.TOO_MANY_THREADS: "there are too many threads", Answer.NO_MEMORY: "out of memory",
-    Answer.IS_CLOSED: "the handle is closed", Answer.IS_OPEN: "the handle is open",
-    Answer.WRONG_COUNT: "the count is wrong", Answer.NO_ROOM: "there is too little room",
-    Answer.UNFIT: "a look does not fit", Answer.NO_SUCH: "the table has no such core, task or thread",
-    Answer.NO_ACTION: "an action is none", Answer.NOT_PERMITTED: "an action is not permitted",
-    Answer.NO_JUDGEMENT: "a number is no judgement of its look", Answer.ILLEGAL: "a pass is not legal",
-    Answer.LOST: "no page can show that the thread is gone", Answer.NO_POLICY: "no policy has this number",
-}
-JUDGEMENTS = {
-    Judgement.KEPT: "kept", Judgement.BUSY: "busy",
-    Judgement.AHEAD: "ahead: it acknowledges more commands than were sent",
-    Judgement.FOREIGN: "foreign: it shows a core that the thread was not given",
-    Judgement.NO_PAIR: "its versions are no busy pair",
-    Judgement.MISSHAPEN: "misshapen: running or misses is out of range", Judgement.PLACE_FELL: "its place fell",
-    Judgement.CHANGED: "another record at the same place", Judgement.WORD_FELL: "taken, misses or stamp fell",
-}
-REASONS = {
-    Why.WHY_TOO_MANY: f"the pass has {MOST_ACTIONS} actions before it",
-    Why.WHY_DOES_NOT_FIT: "it names nothing of the table, or does not fit the state",
-    Why.WHY_NOT_LEFT: "the core's thread was not shown to have left it", Why.WHY_BANNED: "the core is banned",
-    Why.WHY_AT_LIMIT: "the task books as many cores as its limit",
-    Why.WHY_AT_CAP: "the best-effort task books as many cores as its cap",
-    Why.WHY_AT_GUARANTEE: "the task holds no more than it is guaranteed",
-    Why.WHY_RING_FULL: "the thread's ring has no room",
-    Why.WHY_SECOND_COMMAND: "the thread was sent a command in this pass",
-    Why.WHY_BANNED_HELD: "a core that is banned and held is not the next to be revoked",
-    Why.WHY_OVER_CAP: "a best-effort task holds more than its cap, and does not lose a core next",
-}
-# Each name of the header, as a constant of this package too.
-NAMES: dict[str, int] = {it.name: it for kind in (Answer, Judgement, Kind, Cause, CoreState, TaskKind, Why)
-                         for it in kind}
+POLICY_CALADAN, POLICY_ASSURED = CALADAN, ASSURED = list(Policy)
+(DONE, NOT_TOML, UNKNOWN_KEY, MISSING_KEY, WRONG_TYPE, OUT_OF_RANGE, BEST_EFFORT_GUARANTEE, GUARANTEES_EXCEED_CORES,
+ TOO_MANY_THREADS, NO_MEMORY, IS_CLOSED, IS_OPEN, WRONG_COUNT, NO_ROOM, UNFIT, NO_SUCH, NO_ACTION, NOT_PERMITTED,
+ NO_JUDGEMENT, ILLEGAL, LOST, NO_POLICY) = list(Answer)
+KEPT, BUSY, AHEAD, FOREIGN, NO_PAIR, MISSHAPEN, PLACE_FELL, CHANGED, WORD_FELL = list(Judgement)
+FREE, UNBAN, BAN, REVOKE, CAP, GRANT = list(Kind)
+FOR_BAN, FOR_BANDWIDTH, FOR_TASK = list(Cause)
+CORE_FREE, CORE_HELD, CORE_LEAVING = list(CoreState)
+LATENCY_CRITICAL, BEST_EFFORT = list(TaskKind)
+(WHY_TOO_MANY, WHY_DOES_NOT_FIT, WHY_NOT_LEFT, WHY_BANNED, WHY_AT_LIMIT, WHY_AT_CAP, WHY_AT_GUARANTEE, WHY_RING_FULL,
+ WHY_SECOND_COMMAND, WHY_BANNED_HELD, WHY_OVER_CAP) = list(Why)
+
+# The texts of the header, by number.
+POLICY_TEXTS = ("caladan", "assured")
+ANSWER_TEXTS = (
+    "done", "the table is not TOML", "the table has an unknown key", "the table lacks a key",
+    "a value has the wrong type", "a value is out of range", "a best-effort task has a guarantee",
+    "the guarantees exceed the cores", "there are too many threads", "out of memory", "the handle is closed",
+    "the handle is open", "no answer", "the count is wrong", "there is too little room", "a look does not fit",
+    "the table has no such core, task or thread", "an action is none", "an action is not permitted",
+    "a number is no judgement of its look", "a pass is not legal", "no page can show that the thread is gone",
+    "no policy has this number")
+JUDGEMENT_TEXTS = (
+    "no judgement", "kept", "busy", "ahead: it acknowledges more commands than were sent",
+    "foreign: it shows a core that the thread was not given", "its versions are no busy pair",
+    "misshapen: running or misses is out of range", "its place fell", "another record at the same place",
+    "taken, misses or stamp fell")
+CAUSE_TEXTS = ("no cause", "for a ban", "for bandwidth", "for a task")
+WHY_TEXTS = (
+    "no reason", "the pass has the most actions", "it does not fit the state", "the core was not left",
+    "the core is banned", "the task is at its limit", "the task is at its cap", "the task is at its guarantee",
+    "the ring is full", "a second command to the thread in this pass", "a banned core is held",
+    "a task is over its cap")
+
+
+def text_of(texts: Sequence[str], number: int) -> str:
+    """The text of a number, of these."""
+    return texts[number] if 0 <= number < len(texts) else f"no text for {number}"

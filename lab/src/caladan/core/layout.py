@@ -2,13 +2,13 @@
 from __future__ import annotations
 
 import ctypes
+import enum
 import operator
-from typing import Any, ClassVar
+from typing import Any, ClassVar, Iterable
 
-from .constants import Cause, CoreState, Judgement, Kind, TaskKind
+from .constants import BUSY, WORDS, Cause, CoreState, Kind, TaskKind
 
 U8, U32, U64, SIZE = ctypes.c_uint8, ctypes.c_uint32, ctypes.c_uint64, ctypes.c_size_t
-BOOL, POINTER = ctypes.c_bool, ctypes.c_void_p
 
 
 def fitting(value: object, kind: Any) -> int:
@@ -22,44 +22,55 @@ def fitting(value: object, kind: Any) -> int:
 
 
 class Numbers(ctypes.Structure):
-    """A structure of numbers. `enums` names those that are one of some constants."""
+    """A structure of numbers, each without a sign. `enums` says of which constants some are."""
 
-    enums: ClassVar[dict[str, type]] = {}
+    enums: ClassVar[dict[str, type[enum.IntEnum]]] = {}
+    kinds: ClassVar[dict[str, Any]] = {}
+
+    def __init_subclass__(cls, **how: Any) -> None:
+        super().__init_subclass__(**how)
+        cls.kinds = {it[0]: it[1] for it in cls._fields_}
 
     def __init__(self, *numbers: int, **fields: int) -> None:
-        names = [it[0] for it in self._fields_]
-        for name in fields:
-            if name not in names:
-                raise TypeError(f"{type(self).__name__} has no field {name}; there are: {', '.join(names)}")
         super().__init__()
-        given = {**dict(zip(names, numbers)), **fields}
-        if len(numbers) > len(names) or len(given) < len(numbers) + len(fields):
-            raise TypeError(f"{type(self).__name__} has {len(names)} fields, and each is given once")
-        for name, number in given.items():
+        if len(numbers) > len(self.kinds):
+            raise TypeError(f"{type(self).__name__} has {len(self.kinds)} fields, not {len(numbers)}")
+        given = dict(zip(self.kinds, numbers))
+        for name, number in [*given.items(), *fields.items()]:
+            if name in given and name in fields:
+                raise TypeError(f"{type(self).__name__}: {name} is given twice")
+            if name not in self.kinds:
+                raise TypeError(self.lacks(name))
             setattr(self, name, number)
 
     def __setattr__(self, name: str, value: object) -> None:
-        kinds = {it[0]: it[1] for it in self._fields_}
-        if name not in kinds:
-            raise AttributeError(f"{type(self).__name__} has no field {name}; there are: {', '.join(kinds)}")
-        super().__setattr__(name, fitting(value, kinds[name]))
+        if name not in self.kinds:
+            raise AttributeError(self.lacks(name))
+        super().__setattr__(name, fitting(value, self.kinds[name]))
+
+    def lacks(self, name: str) -> str:
+        """That it has no such field."""
+        return f"{type(self).__name__} has no field {name}; it has {', '.join(self.kinds)}"
 
     def fields(self) -> dict[str, int]:
         """The fields with their numbers."""
-        return {it[0]: getattr(self, it[0]) for it in self._fields_}
+        return {name: getattr(self, name) for name in self.kinds}
 
-    def shown(self, name: str, number: int) -> str:
+    def told(self) -> Iterable[str]:
+        """The fields that its repr shows."""
+        return self.kinds
+
+    def shown(self, name: str) -> str:
         """A field as it is written: by the name of its number, where it has one."""
-        kind = self.enums.get(name)
-        names = {int(it): it.name for it in kind} if kind else {}  # type: ignore[attr-defined]
+        number = getattr(self, name)
+        names = {int(it): it.name for it in self.enums.get(name, ())}
         return f"{name}={names.get(number, number)}"
 
     def __repr__(self) -> str:
-        told = ", ".join(self.shown(name, number) for name, number in self.fields().items() if number)
-        return f"{type(self).__name__}({told})"
+        return f"{type(self).__name__}({', '.join(map(self.shown, self.told()))})"
 
     def __eq__(self, other: object) -> bool:
-        return type(self) is type(other) and bytes(self) == bytes(other)  # type: ignore[call-overload]
+        return isinstance(other, Numbers) and type(self) is type(other) and self.fields() == other.fields()
 
     __hash__ = None  # type: ignore[assignment]
 
@@ -67,75 +78,158 @@ class Numbers(ctypes.Structure):
 class Handle(ctypes.Structure):
     """What the library keeps, or nothing."""
 
-    _fields_ = [("open", BOOL), ("at", POINTER)]
+    _fields_ = [("open", ctypes.c_bool), ("at", ctypes.c_void_p)]
 
 
 class Look(Numbers):
-    """What is found on the page of a kernel thread, and whether its command ring has room. Clocks are in ticks."""
+    """What is found on the page of a kernel thread, and whether its command ring has room. Clocks are in the caller's
+    ticks; `running` is 0 off a core, else the core's number plus one."""
 
-    _fields_ = [("busy", U8), ("room", U8), ("number", U64), ("second", U64), ("taken", U64), ("running", U64),
-                ("queued", U64), ("oldest", U64), ("started", U64), ("misses", U64), ("stamp", U64), ("paused", U64),
-                ("since", U64)]
+    _fields_ = [("busy", U8), ("room", U8), ("number", U64), ("second", U64), *((it, U64) for it in WORDS)]
+    busy: int
+    room: int
+    number: int
+    second: int
+    taken: int
+    running: int
+    queued: int
+    oldest: int
+    started: int
+    misses: int
+    stamp: int
+    paused: int
+    since: int
+
+    def told(self) -> Iterable[str]:
+        return [name for name, number in self.fields().items() if number or name == "number"]
+
+
+# The fields that each kind of action has besides, and how it is told.
+FIELDS: dict[int, tuple[str, ...]] = {
+    Kind.FREE: ("core",), Kind.UNBAN: ("core",), Kind.BAN: ("core", "thread", "started"), Kind.REVOKE: ("core", "cause"),
+    Kind.CAP: ("task", "cap"), Kind.GRANT: ("core", "thread", "core_class")}
+ACTIONS: dict[int, str] = {
+    Kind.FREE: "free core {core}", Kind.UNBAN: "unban core {core}",
+    Kind.BAN: "ban core {core} for thread {thread} started {started}", Kind.CAP: "cap task {task} at {cap}",
+    Kind.GRANT: "grant core {core} to thread {thread} class {core_class}"}
+OF_CAUSE: dict[int, tuple[str, ...]] = {Cause.FOR_BAN: ("by",), Cause.FOR_BANDWIDTH: (), Cause.FOR_TASK: ("task",)}
+REVOKED: dict[int, str] = {
+    Cause.FOR_BAN: "revoke core {core} for ban by core {by}", Cause.FOR_BANDWIDTH: "revoke core {core} for bandwidth",
+    Cause.FOR_TASK: "revoke core {core} for task {task}"}
 
 
 class Action(Numbers):
-    """An action of a pass. Fields that its kind does not use are 0."""
+    """An action of a pass. Fields that its kind does not use are 0. str() tells it as the report of caladan_sim does."""
 
     enums = {"kind": Kind, "cause": Cause}
     _fields_ = [("kind", U8), ("core", U8), ("thread", U8), ("core_class", U8), ("cause", U8), ("by", U8), ("task", U8),
                 ("cap", U8), ("started", U64)]
+    kind: int
+    core: int
+    thread: int
+    core_class: int
+    cause: int
+    by: int
+    task: int
+    cap: int
+    started: int
+
+    def used(self) -> tuple[str, ...]:
+        """The fields that its kind uses."""
+        return FIELDS.get(self.kind, ()) + (OF_CAUSE.get(self.cause, ()) if self.kind == Kind.REVOKE else ())
+
+    def told(self) -> Iterable[str]:
+        used = ("kind", *self.used())
+        return [name for name, number in self.fields().items() if number or name in used]
+
+    def __str__(self) -> str:
+        text = REVOKED.get(self.cause) if self.kind == Kind.REVOKE else ACTIONS.get(self.kind)
+        return text.format(**self.fields()) if text else repr(self)
 
 
 class Counts(Numbers):
-    """What a task has, in cores."""
+    """What a task has, in cores: those that its threads hold, those that they hold or leave, and its last cap, else its
+    limit."""
 
     _fields_ = [("held", U8), ("booked", U8), ("cap", U8)]
+    held: int
+    booked: int
+    cap: int
 
 
 class Refused(Numbers):
-    """Which action is not permitted, why, and what the reason names."""
+    """Where a pass was stopped: the number of the first action that is not permitted, from 0, or of all actions; why, and
+    of WHY_BANNED_HELD the core, of WHY_OVER_CAP the task."""
 
     _fields_ = [("place", SIZE), ("why", U8), ("names", U8)]
+    place: int
+    why: int
+    names: int
 
 
 class Machine(Numbers):
     """What a table says of the machine."""
 
     _fields_ = [("cores", U8), ("tasks", U8), ("threads", U8), ("bandwidth_limit", U64)]
+    cores: int
+    tasks: int
+    threads: int
+    bandwidth_limit: int
 
 
 class TableTask(Numbers):
-    """What a table says of a task; times are in ticks."""
+    """What a table says of a task; `delay` and `request` are in ticks. Its threads are `limit` ones from the first on."""
 
     enums = {"kind": TaskKind}
     _fields_ = [("kind", U8), ("guaranteed", U8), ("limit", U8), ("first_thread", U8), ("delay", U64),
                 ("request", U64)]
+    kind: int
+    guaranteed: int
+    limit: int
+    first_thread: int
+    delay: int
+    request: int
 
 
 class Thread(Numbers):
     """A thread: its task, the commands sent to it, and those that its kept record acknowledges."""
 
     _fields_ = [("task", U8), ("sent", U64), ("taken", U64)]
+    task: int
+    sent: int
+    taken: int
 
 
 class Holder(Numbers):
-    """Who has a core."""
+    """Who has a core: the thread unless it is free; of a core that is being left the cause, and for a ban the core that it
+    was banned for, for a task that task."""
 
     enums = {"state": CoreState, "cause": Cause}
     _fields_ = [("state", U8), ("thread", U8), ("cause", U8), ("cause_of", U8)]
+    state: int
+    thread: int
+    cause: int
+    cause_of: int
 
 
 class Ban(Numbers):
-    """Whether a core is banned, and for whom."""
+    """Whether a core is banned: the thread on its sibling, and when its request was begun, in ticks."""
 
     _fields_ = [("banned", U8), ("thread", U8), ("started", U64)]
+    banned: int
+    thread: int
+    started: int
 
 
 class Last(Numbers):
-    """To which thread a core was granted last, and its task."""
+    """To which thread a core was granted last, if to any, and its task."""
 
     _fields_ = [("granted", U8), ("thread", U8), ("task", U8)]
+    granted: int
+    thread: int
+    task: int
 
 
-def judgement_of(number: int) -> Judgement:
-    return Judgement(number)
+def taken(look: Look, judged: int) -> Look:
+    """The look that a pass by looks taken one by one took, of the one that it was given and its judgement."""
+    return look if judged <= BUSY else Look(busy=1, room=look.room, number=1, second=1)

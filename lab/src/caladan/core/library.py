@@ -2,71 +2,80 @@
 from __future__ import annotations
 
 import ctypes
-import ctypes.util
 import functools
 import os
-from typing import Optional, Union
+import sysconfig
+from typing import Union
 
+from .. import __version__
+
+VERSION = int(__version__)
 NAME = "libcaladan_c.so"
 Library = ctypes.CDLL
 GivenLibrary = Union[Library, str, "os.PathLike[str]", None]
-VERSION = 4
 
 
 class NoLibrary(OSError):
     """There is no C library, or it is of another version."""
 
 
-def _places() -> list[str]:
-    """Where the library may be: beside what is installed with this package."""
-    top = os.path.realpath(__file__)
-    for _ in range(5):
-        top = os.path.dirname(top)
-    return [f"{top}/lib/{NAME}", f"{top}/out/lib/{NAME}"]
+def places() -> list[str]:
+    """Where the library may be: in the prefix that this package is in, as PREFIX/lib/python3/dist-packages or
+    PREFIX/share/caladan/python has it; of a checkout in out/lib, where `make install_library PREFIX=out` puts it."""
+    folders = [os.path.dirname(os.path.dirname(os.path.realpath(__file__)))]
+    for _ in range(4):
+        folders.append(os.path.dirname(folders[-1]))
+    triplet = sysconfig.get_config_var("MULTIARCH") or "."
+    _, _, _, checkout, prefix = folders
+    return [f"{prefix}/lib/{NAME}", f"{prefix}/lib/{triplet}/{NAME}", f"{checkout}/out/lib/{NAME}"]
 
 
-def _file() -> str:
-    """The file: that of CALADAN_LIBRARY, one beside this package, or the one that the system finds."""
-    asked = os.environ.get("CALADAN_LIBRARY")
-    if asked:
-        return asked
-    beside = next((it for it in _places() if os.path.isfile(it)), None)
-    found = beside or ctypes.util.find_library("caladan_c")
-    if not found:
-        raise NoLibrary(f"there is no {NAME}: install it (make install_library), or name it in CALADAN_LIBRARY")
-    return found
+def found() -> str:
+    """The file: the one that CALADAN_LIBRARY names, one that is installed beside this package, or the one of this
+    version that the system finds."""
+    asked = os.environ.get("CALADAN_LIBRARY", "")
+    return asked or next((it for it in places() if os.path.isfile(it)), f"{NAME}.{VERSION}")
 
 
-def _checked(library: Library, name: str) -> Library:
+def checked(library: Library, name: str) -> Library:
     """The library, of this version."""
     try:
-        version = library.caladan_version
+        version_of(library)
     except AttributeError:
         raise NoLibrary(f"{name} is no {NAME}") from None
-    version.restype = ctypes.c_uint32
-    if version() != VERSION:
-        raise NoLibrary(f"{name} is of version {version()}, and this package of {VERSION}: install both of one version")
+    if version_of(library) != VERSION:
+        raise NoLibrary(f"{name} is of version {version_of(library)}, and this package of {VERSION}: install both of "
+                        "one version, or name another in CALADAN_LIBRARY")
     return library
 
 
 @functools.lru_cache(maxsize=None)
-def _opened(file: str) -> Library:
+def opened(name: str) -> Library:
+    """A library by its file, or by the name that the system has for it."""
     try:
-        return _checked(ctypes.CDLL(file), file)
+        library = ctypes.CDLL(name)
     except OSError as fault:
-        raise fault if isinstance(fault, NoLibrary) else NoLibrary(
-            f"{file}: {fault}; CALADAN_LIBRARY names another") from None
+        if "/" not in name:
+            raise NoLibrary(f"there is no {name}: install it (the package libcaladan-dev, or make install_library), or "
+                            "name its file in CALADAN_LIBRARY") from None
+        raise NoLibrary(f"{fault}; CALADAN_LIBRARY names another") from None
+    return checked(library, name)
 
 
 def library_of(given: GivenLibrary = None) -> Library:
-    """The library: the one that is given, opened or by its file, or the one that is found."""
+    """The library: the one that is given, open or by its file, else the one that is found."""
     if isinstance(given, ctypes.CDLL):
-        return given
-    return _opened(os.fspath(given) if given is not None else _file())
+        return checked(given, given._name)
+    name = found() if given is None else os.fspath(given)
+    return opened(os.path.abspath(name) if os.path.isfile(name) else name)
 
 
-def version(library: Optional[GivenLibrary] = None) -> int:
-    """The version of the library."""
-    found = library_of(library)
-    found.caladan_version.restype = ctypes.c_uint32
-    return int(found.caladan_version())
+def version_of(library: Library) -> int:
+    function = library.caladan_version
+    function.restype = ctypes.c_uint32
+    return int(function())
+
+
+def version(library: GivenLibrary = None) -> int:
+    """The version of the library, as CALADAN_VERSION has it; NoLibrary where there is none."""
+    return version_of(library_of(library))

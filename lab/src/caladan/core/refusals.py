@@ -3,39 +3,58 @@ from __future__ import annotations
 
 from typing import Optional, Sequence
 
-from .constants import ANSWERS, REASONS, Answer, Judgement, Why
-from .layout import Action, Look
+from .constants import ANSWER_TEXTS, BUSY, JUDGEMENT_TEXTS, WHY_TEXTS, Answer, Judgement, Why, text_of
+from .layout import Action, Look, Refused
 
 
 class CallRefused(ValueError):
-    """A call was refused: its answer, by its number in caladan.h."""
+    """A call was refused. `answer` is the number of caladan.h; what is told is its text, and what more is known."""
 
     def __init__(self, answer: int, more: str = "") -> None:
         super().__init__(answer)
-        self.answer = Answer(answer) if answer in list(Answer) else answer
+        self.answer: int = Answer(answer) if answer in list(Answer) else answer
         self.more = more
 
     def __str__(self) -> str:
-        told = ANSWERS.get(Answer(self.answer), "") if isinstance(self.answer, Answer) else f"answer {self.answer}"
+        told = text_of(ANSWER_TEXTS, self.answer)
         return f"{told}: {self.more}" if self.more else told
 
 
-class Unfit(CallRefused):
-    """A look does not fit: the first thread whose look does not, and the look."""
+def of_judgement(judged: Optional[Judgement]) -> str:
+    """Why a look is refused, where that was judged."""
+    return f": {text_of(JUDGEMENT_TEXTS, judged)}" if judged and judged > BUSY else ""
 
-    def __init__(self, thread: int, look: Optional[Look] = None) -> None:
-        super().__init__(Answer.UNFIT, f"that of thread {thread}, {look!r}")
-        self.thread, self.look = thread, look
+
+class Unfit(CallRefused):
+    """A look does not fit what its thread showed before, or has not the right shape: the first thread with such a look,
+    that look, and where it was judged why. Nothing has changed."""
+
+    def __init__(self, thread: int, look: Look, judged: Optional[Judgement] = None) -> None:
+        super().__init__(Answer.UNFIT, f"thread {thread}, {look!r}{of_judgement(judged)}")
+        self.thread, self.look, self.judged = thread, look, judged
 
 
 class NotPermitted(CallRefused):
-    """An action is not permitted: its place among those of the pass, the action, why not, the number of what the reason
-    names, and what was judged of each look. Nothing has changed: the pass may be handed in again."""
+    """An action is not permitted: its place among those of the pass, from 0; the action, or None where the pass may not
+    end after them; why not, and of WHY_BANNED_HELD the core and of WHY_OVER_CAP the task that it names. `judged` has what
+    was judged of each look, where the pass took them one by one. Nothing has changed: hand the pass in again."""
 
-    def __init__(self, place: int, action: Optional[Action], why: Why, names: int,
-                 judged: Sequence[Judgement]) -> None:
-        super().__init__(Answer.NOT_PERMITTED, f"action {place}, {action!r}: {REASONS[why]}")
-        self.place, self.action, self.why, self.names, self.judged = place, action, why, names, list(judged)
+    def __init__(self, refused: Refused, action: Optional[Action], judged: Sequence[Judgement]) -> None:
+        self.refused, self.action, self.judged = refused, action, list(judged)
+        self.place, self.names = refused.place, refused.names
+        self.why = Why(refused.why)
+        super().__init__(Answer.NOT_PERMITTED, f"{self.where()}: {text_of(WHY_TEXTS, refused.why)}{self.named()}")
+
+    def where(self) -> str:
+        """Which action it is."""
+        if self.action is None:
+            return f"the pass may not end after its {self.place} actions" if self.place else "the pass may not be empty"
+        return f"action {self.place}, {self.action}"
+
+    def named(self) -> str:
+        """What the reason names."""
+        kind = {Why.WHY_BANNED_HELD: "core", Why.WHY_OVER_CAP: "task"}.get(self.why)
+        return f", {kind} {self.names}" if kind else ""
 
 
 class Lost(CallRefused):

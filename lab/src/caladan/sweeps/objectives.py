@@ -24,7 +24,7 @@ class Objective:
     ticks: int
 
 
-def _parts_of(word: str) -> Optional[tuple[str, str, int]]:
+def parts_of(word: str) -> Optional[tuple[str, str, int]]:
     """The task, the rank and the ticks of an objective."""
     place, equals, digits = word.rpartition("=")
     place = place.removeprefix("task.")
@@ -40,7 +40,7 @@ def _parts_of(word: str) -> Optional[tuple[str, str, int]]:
 
 def objective_of(word: str, names: Sequence[str], tasks: Sequence[int]) -> Objective:
     """The objective of a word, of one of the tasks to which requests come."""
-    parts = _parts_of(word)
+    parts = parts_of(word)
     task = task_named(names, parts[0]) if parts else None
     if parts is None or (task is None and not names):
         raise Refusal(f"{FLAG} {word}: an objective is as task.0.p99=65: a task, p50, p90, p99, p99.9 or max, and ticks")

@@ -6,6 +6,7 @@ from dataclasses import replace
 from .. import __version__
 from . import texts
 from .arg import Arg, Command, Number, flag, number, option
+from .drawn import PICTURE, PROGRAM, RUN, SEEDS
 
 NAME = "caladan_lab"
 POLICIES = ("caladan", "assured")
@@ -32,13 +33,6 @@ CSV = flag("csv", "Write the numbers as CSV")
 NAMES = option("names", "NAME,..", "The names of the tasks, in order")
 TICK = option("tick", "UNIT", "The unit of a tick: ns, us, ms or s", names=UNITS)
 OUTPUT = option("output", "FILE", "Where the answer goes [default: standard output]", short="o")
-PROGRAM = option("program", "FILE", "The caladan_view that makes the runs")
-# The options of a picture, which -o with .svg, .png or .pdf asks for.
-PICTURE = (
-    flag("dark", "On a dark ground"),
-    option("width", "PIXELS", "How wide it is [default: 800]", number=Number(480, 6000)),
-    PROGRAM,
-)
 RUN_OF_LOADS = (
     option("service", "TURNS", "Turns of a request: 3, or 90%:1,10%:20", many=True, default="1"),
     option("pattern", "PATTERN", "poisson, even or bursts:N", many=True, default="poisson"),
@@ -93,4 +87,4 @@ copy; docs/VIEWER.md has the rest.
 Exit status: 0 done, 1 an objective missed, 2 bad arguments or rejected input, 3
 memory or output was refused, or a program is missing. A fault is one line on
 the standard error; below it, lines say why an input was rejected.""",
-    commands=(COMPARE, SWEEP, TIMELINE), version=__version__)
+    commands=(COMPARE, SWEEP, TIMELINE, RUN, SEEDS), version=__version__)

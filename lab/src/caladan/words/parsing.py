@@ -8,6 +8,7 @@ from typing import Optional, Sequence
 
 from . import refusals
 from .arg import Arg, Command
+from .drawn import is_picture
 from .help import ABOUT_HELP, help_of
 from .likeness import alike
 from .refusals import Mistake, Shown
@@ -37,6 +38,11 @@ class Asked:
     def number(self, name: str) -> Optional[int]:
         word = self.one(name)
         return None if word is None else int(word)
+
+    @property
+    def is_picture(self) -> bool:
+        """Whether the answer is drawn, by the ending of its file."""
+        return is_picture(self.one("output") or "")
 
 
 class Reader:
@@ -210,7 +216,7 @@ def read_words(command: Command, words: Sequence[str]) -> Asked:
 
 
 def check(asked: Asked) -> None:
-    """What may not stand together, and what has to be there."""
+    """What may not stand together, and what has to be there: of a picture nothing, since it may be drawn of CSV."""
     command, found = asked.command, [it for name in asked.found if (it := asked.command.find(name)) is not None]
     for arg in found:
         others = [it for it in found if it.name != arg.name and arg.name in (it.conflicts,)
@@ -220,8 +226,9 @@ def check(asked: Asked) -> None:
             raise refusals.conflict(command, arg, others, used)
     needed = [it.needs for it in found if it.needs]
     lacking = [it for it in command.all_args if it.name in needed and it.name not in asked.found]
-    lacking += [it for it in command.all_args
-                if it.unless and it.name not in asked.found and it.unless not in asked.found]
+    if not asked.is_picture:
+        lacking += [it for it in command.all_args
+                    if it.unless and it.name not in asked.found and it.unless not in asked.found]
     if lacking:
         used = [*asked.found, *(it.name for it in lacking)]
         raise refusals.missing(command, list(dict.fromkeys(lacking)), used, needed)

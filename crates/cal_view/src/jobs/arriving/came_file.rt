@@ -1,9 +1,10 @@
 //! The file for when requests came.
 
+use crate::jobs::comings::text_of_comings;
 use cal_input::RunFault;
 use cal_load::Made;
 use cal_machine::Listed;
-use cal_trace::{Coming, Comings, LeftOut, write_comings};
+use cal_trace::{Coming, Comings, LeftOut};
 use std::alloc::{AllocError, Global};
 
 /// To which turn each request came that was made, and how many are left out. Fails only when out of
@@ -34,10 +35,5 @@ fn comings_of(alloc: Global, made: &Made) -> Result<Comings, AllocError> {
 
 /// The file of the comings of what was made. The fault is `Memory`.
 pub fn came_text(alloc: Global, made: &Made) -> Result<Vec<u8>, RunFault> {
-    let comings = comings_of(alloc, made)?;
-    let mut text = Vec::new(alloc);
-    match write_comings(&comings, &mut text) {
-        Ok(()) => Ok(text),
-        Err(_) => Err(RunFault::Memory),
-    }
+    text_of_comings(alloc, &comings_of(alloc, made)?)
 }

@@ -1,4 +1,0 @@
-mod Answered
-mod OneMore
-pub mod TablesOf
-pub mod OtherKeys

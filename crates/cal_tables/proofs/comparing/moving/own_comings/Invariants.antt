@@ -1,6 +1,0 @@
-use Rattle.std.proofs.Common.{◌≡◌, map, take}
-use Rattle.cal_tables.specs.Moved.{own_coming}
-use Rattle.cal_tables.proofs.comparing.moving.own_comings.Given as goal
-
-abbrev pub invariant-loop-arrival : goal.invariant-loop-arrival
-invariant-loop-arrival l = l.comings.items ≡ map own_coming (take l.arrival-index l.requests)

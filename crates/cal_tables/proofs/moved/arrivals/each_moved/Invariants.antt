@@ -1,0 +1,10 @@
+use Rattle.std.proofs.Common.{◌≡◌, take}
+use Rattle.cal_tables.specs.Moved.{each_moved, HasItsTask}
+use Rattle.cal_trace.specs.History.Ranges.{Each}
+use Rattle.cal_tables.proofs.moved.arrivals.each_moved.Given as goal
+
+abbrev pub invariant-loop-coming : goal.invariant-loop-coming
+invariant-loop-coming l = record {
+  moved : l.moved.items ≡ each_moved l.given l.table (take l.coming-index l.comings);
+  tasks : Each (HasItsTask l.given l.table) (take l.coming-index l.comings);
+}

@@ -1,0 +1,6 @@
+use Rattle.std.proofs.Common.{◌≡◌}
+use Rattle.cal_tables.specs.Moved.{rows_below}
+use Rattle.cal_tables.proofs.moved.comings.left_out_rows.Given as goal
+
+abbrev pub invariant-loop-task : goal.invariant-loop-task
+invariant-loop-task l = l.rows.items ≡ rows_below l.table l.before l.placed l.task

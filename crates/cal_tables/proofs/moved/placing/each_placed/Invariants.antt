@@ -1,0 +1,11 @@
+use Rattle.std.proofs.Common.{◌≡◌, length, take}
+use Rattle.cal_tables.specs.Moved.{ArePlaced}
+use Rattle.cal_tables.specs.Placing.{IsFreeAfter}
+use Rattle.cal_tables.proofs.moved.placing.each_placed.Given as goal
+
+abbrev pub invariant-loop-coming : goal.invariant-loop-coming
+invariant-loop-coming l = record {
+  many : length l.placed.items ≡ l.coming-index;
+  are : ArePlaced l.turns (take l.coming-index l.ordered) l.placed.items;
+  free : IsFreeAfter l.placed.items l.free;
+}

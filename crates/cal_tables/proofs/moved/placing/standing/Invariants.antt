@@ -1,0 +1,6 @@
+use Rattle.std.proofs.Common.{◌≡◌, take}
+use Rattle.cal_tables.specs.Moved.{standing}
+use Rattle.cal_tables.proofs.moved.placing.standing.Given as goal
+
+abbrev pub invariant-loop-one : goal.invariant-loop-one
+invariant-loop-one l = l.requests.items ≡ standing (take l.one-index l.placed)

@@ -1,0 +1,110 @@
+"""Rows of runs with several seeds, as bench/interference keeps them: what is set in each run, its seed, and its
+measures by the names that `caladan_view compare` gives them."""
+from __future__ import annotations
+
+import math
+import re
+from dataclasses import dataclass
+from typing import Sequence
+
+from ..refusal import Refusal
+from ..rows import Row
+from ..sweeps.objectives import RANKS
+from .numbers import Cell, number, rows_of_kind
+
+BY_RANK = {row: rank for rank, row in RANKS.items()}
+OTHERS = {"requests served": "requests served of {}", "mean cores held": "cores held by {}"}
+OF_ALL = {"lost to tasks": "cores revoked for tasks"}
+# What is set in a run: from left to right, from line to line, and from row to row.
+Setting = tuple[str, str, str]
+
+
+@dataclass(frozen=True)
+class Spread:
+    """A measure of the runs with all seeds: what stands in the middle, the least and the greatest, where a number that
+    is pending is above all others."""
+
+    middle: Cell
+    least: Cell
+    greatest: Cell
+
+
+def place_of(cell: Cell) -> tuple[bool, float]:
+    return cell.pending, cell.value or 0.0
+
+
+def spread_of(cells: list[Cell]) -> Spread:
+    """The median by nearest rank, of those that have a number."""
+    rising = sorted((it for it in cells if it.value is not None), key=place_of)
+    if not rising:
+        return Spread(*[Cell(None)] * 3)
+    return Spread(rising[math.ceil(len(rising) / 2) - 1], rising[0], rising[-1])
+
+
+@dataclass(frozen=True)
+class Seeds:
+    """Runs with several seeds. What is set: what changes from left to right, from line to line, and from one row of
+    plots to the next (empty where there is no such column); the values of each; how many seeds; the measures; and for
+    row, line, place and measure how the numbers spread."""
+
+    keys: tuple[str, str, str]
+    values: tuple[tuple[str, ...], tuple[str, ...], tuple[str, ...]]
+    seeds: int
+    measures: tuple[str, ...]
+    spreads: dict[tuple[str, str, str, str], Spread]
+
+    def label(self, line: str) -> str:
+        return f"{self.keys[1]}={line}" if self.keys[1] else ""
+
+
+def cell_of(text: str, where: str) -> Cell:
+    """A number, of what is pending with `>` before it."""
+    return Cell(number(text.removeprefix(">"), where), text.startswith(">"))
+
+
+def settings_of(cells: Sequence[str]) -> Setting:
+    """What is set, from left to right, from line to line, and from row to row."""
+    *rest, across, line = ["", *cells] if cells[1:] else ["", *cells, ""]
+    return across, line, ", ".join(it for it in rest if it)
+
+
+def runs_by_setting(rows: Sequence[Row], at: int) -> dict[Setting, dict[str, list[Cell]]]:
+    """For each setting the measures of its runs, by their seeds, which stand in this column."""
+    found: dict[Setting, dict[str, list[Cell]]] = {}
+    for row in rows:
+        runs = found.setdefault(settings_of(row.fields[:at]), {})
+        seed = row.fields[at]
+        if seed in runs:
+            raise Refusal(f"{row.where}: its seed stands above; wanted: one row for each seed")
+        runs[seed] = [cell_of(it, row.where) for it in row.fields[at + 1:]]
+    return found
+
+
+def read_seeds(text: str, name: str) -> Seeds:
+    """Such rows; every setting has a row for each seed."""
+    head, rows = rows_of_kind(text, name, "seeds")
+    at = head.index("seed")
+    measures, found = tuple(head[at + 1:]), runs_by_setting(rows, at)
+    if not found:
+        raise Refusal(f"{name}: it has no runs below its head")
+    counts = {len(runs) for runs in found.values()}
+    if len(counts) > 1:
+        raise Refusal(f"{name}: {min(counts)} to {max(counts)} seeds; wanted: as many for each setting")
+    spreads = {(rest, line, across, measure): spread_of([it[n] for it in runs.values()])
+               for (across, line, rest), runs in found.items() for n, measure in enumerate(measures)}
+    across, lines_set, rests = (tuple(dict.fromkeys(it)) for it in zip(*found))
+    return Seeds(settings_of(head[:at]), (across, lines_set, rests), counts.pop(), measures, spreads)
+
+
+def words_for(measure: str, names: list[str], unit: str) -> str:
+    """What a measure is, in a few words."""
+    of_task = re.fullmatch(r"task (\d+) (.*)", measure)
+    if not of_task:
+        return OF_ALL.get(measure, measure)
+    task, row = int(of_task[1]), of_task[2]
+    if names and task >= len(names):
+        raise Refusal(f"--names: no name for task {task}")
+    label = names[task] if names else f"task {task}"
+    if row in BY_RANK:
+        return f"{BY_RANK[row]} of {label}, {unit}"
+    return OTHERS[row].format(label) if row in OTHERS else f"{label}: {row}"
