@@ -33,13 +33,8 @@ pub fn end_refusal<E: Write>(
     }
 }
 
-/// The input of a request for this job, for where it is refused.
-pub fn refused_input<'a>(
-    job: InputJob,
-    request: &Request<'_>,
-    input: &'a [u8],
-) -> RefusedInput<'a> {
-    let alone = request.plan.is_some() || request.counting.are_given();
+/// The input of a job, for where it is refused; a run alone may be asked for.
+pub fn refused_input(job: InputJob, alone: bool, input: &[u8]) -> RefusedInput<'_> {
     refused_with(input, traces_of(job, alone))
 }
 
