@@ -3,8 +3,9 @@
 
     make.py write --program 'WORDS' --commit COMMIT [-j N] [--missing]
                                                               runs all cases, and keeps the answers in answers/
-    make.py check --program 'WORDS' [--name NAME] [-k WORD] [-j N] [--answers FOLDER]
-                                                              runs the cases, and compares with what is kept
+    make.py check --program 'WORDS' [--name NAME] [-k WORD] [--some] [-j N] [--answers FOLDER]
+                                                              runs the cases, with --some a sample of 60, and compares
+                                                              with what is kept
     make.py show CASE [--into FOLDER]                         a case with its answer; its files go into a folder
     make.py count [SOURCE..]                                  in how many cases each option is, each status and each
                                                               text of these sources for what is refused
@@ -83,7 +84,7 @@ def faults(case: Case, answer: Answer, kept: "dict[str, Kept]", name: str) -> "l
 
 def check(given: argparse.Namespace) -> int:
     """Compares what a program answers with what is kept."""
-    program, asked, passed = words_of_program(given.program), chosen(given.word), 0
+    program, asked, passed = words_of_program(given.program), chosen(given.word, given.some), 0
     name = given.name or os.path.basename(shlex.split(given.program)[-1])
     kept, failed = kept_answers(given.answers), 0
     for case, answer in answers_of(program, asked, given.jobs):
@@ -91,7 +92,7 @@ def check(given: argparse.Namespace) -> int:
         passed, failed = passed + (not found), failed + bool(found)
         if found:
             print(f"differs: {case.name}: {shlex.join(case.words)[:300]}", *found, sep="\n  ", flush=True)
-    gone = sorted(set(kept) - {it.name for it in cases()}) if given.word is None else []
+    gone = sorted(set(kept) - {it.name for it in cases()}) if given.word is None and not given.some else []
     for each in gone:
         print(f"differs: {each}: there is no such case")
     failed += len(gone)
@@ -143,6 +144,7 @@ def main(words: "Sequence[str] | None" = None) -> int:
                                   help="run only what is not kept from this commit, or is made otherwise now")
     parsers["check"].add_argument("--name", help=f"the name that it calls itself, in place of {KEPT_NAME}")
     parsers["check"].add_argument("-k", dest="word", help="the cases that have this in their name or words")
+    parsers["check"].add_argument("--some", action="store_true", help="run a sample of them alone")
     parsers["show"].add_argument("case")
     parsers["show"].add_argument("--into", type=Path)
     parsers["count"].add_argument("sources", type=Path, nargs="*")

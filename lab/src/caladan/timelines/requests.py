@@ -31,8 +31,8 @@ def begun_in(turns: Iterable[Sequence[str]]) -> dict[str, Begun]:
 
 
 class Track:
-    """What stands on the tracks of the threads in a group: slices of requests, and the parts of their flows, each at the
-    beginning of the slice to which it is bound."""
+    """What stands on the tracks of the threads in a group: slices of requests, and the parts of their flows, each at
+    the beginning of the slice to which it is bound."""
 
     def __init__(self, page: Page, group: int, cat: str) -> None:
         self.page = page
@@ -42,7 +42,7 @@ class Track:
         self.ends = [f'"bp":"e","pid":{group},"tid":{thread}}}' for thread in range(len(page.owners))]
 
     def put(self, thread: int, request: str, first: int, last: int, phase: str) -> str:
-        """A slice of a request from one clock to another, and the part of its flow of this phase, where there is one."""
+        """A slice of a request from one clock to another, and where there is a phase that part of its flow."""
         at = self.page.at(first)
         lasts = self.page.time(last - first if last > first else 0)
         text = (f'{{"ts":{at},"dur":{lasts},{self.names[thread]}{request}{self.places[thread]}{request},'

@@ -11,9 +11,8 @@ class Case:
 
     name: str
     words: tuple[str, ...]
-    # The standard input; `folder` in its place is one that cannot be read.
+    # The standard input. (A folder in its place is refused by Python itself, before a program of its begins.)
     given: str = ""
-    is_given_folder: bool = False
     # What is in the folder at the beginning: files with their texts, one of so many bytes of 0, links, and folders.
     files: Mapping[str, str] = dataclasses.field(default_factory=dict)
     sparse: Mapping[str, int] = dataclasses.field(default_factory=dict)

@@ -54,8 +54,7 @@ def inputs(word: str) -> "list[Case]":
     words = (word, *more)
     made = [
         ("no-file", Case("", (*words, "none"))), ("input-folder", Case("", (*words, "folder"), folders=("folder",))),
-        ("given-folder", Case("", words, is_given_folder=True)), ("empty-input", Case("", (*words, ""), given)),
-        ("dash-folder", Case("", (*words, "-"), is_given_folder=True)),
+        ("empty-input", Case("", (*words, ""), given)),
         ("file-below", Case("", (*words, "run/x"), files={"run": given})),
         ("blank", Case("", (*words, "no such file"))),
         ("large", Case("", (*words, "run"), sparse={"run": MOST + 1})), ("null-input", Case("", (*words, "/dev/null"))),

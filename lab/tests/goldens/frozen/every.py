@@ -3,7 +3,9 @@ from . import compares, disks, refused_inputs, refused_words, special, sweeps, t
 from .case import Case
 
 # So many of each kind are drawn by chance; the others are written down.
-SWEEPS, COMPARES, TIMELINES = 300, 300, 60
+SWEEPS, COMPARES, TIMELINES = 300, 300, 100
+# So many of each kind are a sample, for programs that are not proved and take ten times as long.
+SAMPLE = {"sweep": 12, "compare": 24, "timeline": 24}
 
 
 def cases() -> "list[Case]":
@@ -14,6 +16,17 @@ def cases() -> "list[Case]":
     return made
 
 
-def chosen(word: "str | None") -> "list[Case]":
-    """The cases that have this word in their name or among their words."""
-    return [it for it in cases() if word is None or word in f"{it.name} {' '.join(it.words)}"]
+def chosen(word: "str | None", is_sample: bool = False) -> "list[Case]":
+    """The cases that have this word in their name or among their words; or of these a sample."""
+    found = [it for it in cases() if word is None or word in f"{it.name} {' '.join(it.words)}"]
+    return sample(found) if is_sample else found
+
+
+def sample(of: "list[Case]") -> "list[Case]":
+    """Some of each kind, as far apart as can be."""
+    some = []
+    for kind, many in SAMPLE.items():
+        of_kind = [it for it in of if it.kind == kind]
+        step = max(len(of_kind) // many, 1)
+        some += of_kind[step // 2::step][:many]
+    return some

@@ -61,10 +61,8 @@ def opened_output(where: str, file: IO[bytes]) -> int:
     return os.dup(file.fileno())
 
 
-def input_of(case: Case, folder: str, file: IO[bytes]) -> int:
+def input_of(case: Case, file: IO[bytes]) -> int:
     """The standard input of a case."""
-    if case.is_given_folder:
-        return os.open(folder, os.O_RDONLY | os.O_DIRECTORY)
     file.write(bytes_of(case.given))
     file.seek(0)
     return os.dup(file.fileno())
@@ -73,7 +71,7 @@ def input_of(case: Case, folder: str, file: IO[bytes]) -> int:
 def run_in(folder: str, program: Sequence[str], case: Case) -> "tuple[int, bytes, bytes]":
     """The status of a case and what it wrote on both outputs."""
     with tempfile.TemporaryFile() as given, tempfile.TemporaryFile() as wrote, tempfile.TemporaryFile() as said:
-        ends = [input_of(case, folder, given), opened_output(case.output, wrote), opened_output(case.errors, said)]
+        ends = [input_of(case, given), opened_output(case.output, wrote), opened_output(case.errors, said)]
         try:
             ran = subprocess.run([*program, *case.words], stdin=ends[0], stdout=ends[1], stderr=ends[2], cwd=folder,
                                  timeout=SECONDS, check=False)
