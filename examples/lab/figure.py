@@ -20,7 +20,7 @@ table = caladan.Table.read(FILE, tick="us")
 key, loads = "task.0.delay", [0.2, 0.4, 0.6]
 frame = caladan.sweep(table, loads, vary={key: [10, 80]}, service="90%:1,10%:10", turns=200, seeds=5).frame
 # A rank whose request was not answered by the end has no time.
-frame["p99"] = frame["p99 [us]"].where(frame["p99 [us] bound"] != ">")
+frame["p99"] = frame["p99 [us]"].where(frame["p99 bound"] != ">")
 figure, axes = plot.subplots(figsize=(6, 3.5))
 for delay, rows in frame.groupby(key):
     p99 = rows.pivot(index="load", columns="of 5 seeds", values="p99")

@@ -18,7 +18,7 @@ HOW = {"vary": {KEY: [10, 80]}, "service": "90%:1,10%:10", "turns": 200}
 table = caladan.Table.read(FILE, tick="us")
 draws = pandas.concat(caladan.sweep(table, 0.6, seed=seed, **HOW).frame.assign(seed=seed) for seed in range(1, 11))
 # A rank whose request was not answered by the end has no time.
-draws["p99"] = draws["p99 [us]"].where(draws["p99 [us] bound"] != ">")
+draws["p99"] = draws["p99 [us]"].where(draws["p99 bound"] != ">")
 p99 = draws.pivot(index="seed", columns=KEY, values="p99")
 p99["more"] = p99[80] - p99[10]
 print(p99)

@@ -174,7 +174,8 @@ def test_what_the_program_moves_is_what_the_hand_does(data: some.DataObject) -> 
         pytest.skip("CALADAN_VIEW names no program")
     turns, machine, table = 5, machine_with(data.draw(limits)), machine_with(data.draw(limits))
     threads = some.tuples(some.integers(0, sum(machine.limits) - 1), some.integers(0, turns - 1))
-    requests = [Request(k, j, 7 * n + 1, 1 + n, n % 2) for n, (k, j) in enumerate(sorted(data.draw(some.sets(threads))))]
+    places = sorted(data.draw(some.sets(threads)))
+    requests = [Request(k, j, 7 * n + 1, 1 + n, n % 2) for n, (k, j) in enumerate(places)]
     came = [(it, data.draw(some.integers(0, it.turn))) for it in requests]
     arrivals = Arrivals(((3, 4),), tuple(range(1, turns + 1)), ())
     comings = text_of_comings(came, {0: 2}) if data.draw(some.booleans()) else None

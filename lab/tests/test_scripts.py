@@ -103,7 +103,7 @@ def test_figure(view: str, monkeypatch: pytest.MonkeyPatch) -> None:
         draws = sorted(p99_of_draws(view, delay)[:5])
         assert line.get_label() == f"delay {delay} us" and list(line.get_xdata()) == [0.2, 0.4, 0.6]
         assert line.get_ydata()[place] == draws[2]
-        edges = {y for x, y in band.get_paths()[0].vertices if x == pytest.approx(0.6)}
+        edges = {y for x, y in band.get_paths()[0].vertices if abs(x - 0.6) < 1e-9}
         assert edges == {draws[0], draws[-1]}
 
 

@@ -21,7 +21,8 @@ from caladan.timelines.stretches import stretches_of
 Stub = Callable[..., str]
 MACHINE = machine_of(TABLE.encode())
 ARRIVALS = "caladan-arrivals,1\npass,10,0\npass,30,0\nturn,15\nturn,35\nrequest,0,0,1,1,0\nrequest,2,1,2,9,0\nend,6\n"
-SPANS = """core,thread,task,class,state,cause,by core,for task,started,from pass,to pass,from clock [ticks],to clock [ticks]
+SPANS = """\
+core,thread,task,class,state,cause,by core,for task,started,from pass,to pass,from clock [ticks],to clock [ticks]
 1,0,0,3,held,,,,,0,1,10,30
 1,0,0,3,leaving,preempt,,1,,1,1,30,30
 0,2,1,2,held,,,,,1,,30,
@@ -73,7 +74,8 @@ def test_a_timeline_shows_what_the_program_tells(lab: Run, stub: Stub) -> None:
     answered, pending = found(events, ph="b")
     assert answered["args"] == {"request": 1, "thread": 0, "task": 0, "work": 1, "arrived": 15, "begun": 15,
                                 "answered": 35, "response": 20}
-    assert pending["args"]["pending"] == 0 and [it["ph"] for it in found(events, name="request")] == ["s", "s", "f", "t"]
+    assert pending["args"]["pending"] == 0
+    assert [it["ph"] for it in found(events, name="request")] == ["s", "s", "f", "t"]
 
 
 @pytest.mark.parametrize("fact, was, now", [

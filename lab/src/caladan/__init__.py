@@ -1,7 +1,7 @@
 """Many runs of the core scheduler of Caladan: comparisons, sweeps, frames and pictures over the proved programs.
 
-One input has one exact answer, which caladan_view and caladan_sim give. Questions about many runs, such as loads, seeds,
-tables and policies side by side, are asked here.
+One input has one exact answer, which caladan_view and caladan_sim give. Questions about many runs, such as loads,
+seeds, tables and policies side by side, are asked here.
 
     table = caladan.Table.read("service.toml", names=["kv", "batch"], tick="us")
     run = table.run(task="kv", load=0.7, service="90%:1,10%:20", turns=2000, seed=7)

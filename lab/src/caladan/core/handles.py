@@ -10,7 +10,7 @@ from typing import Any, Callable, Iterable, Iterator, Optional, Sequence, TypeVa
 
 from .constants import MOST_ACTIONS, PLACES, Answer, Judgement, Kind, Policy, TaskKind
 from .layout import (SIZE, U8, U32, U64, Action, Ban, Counts, Handle, Holder, Last, Look, Machine, Numbers, Refused,
-                     TableTask, Thread, fitting)
+                     TableTask, Thread, fault_of_shape, fitting)
 from .library import GivenLibrary, library_of
 from .refusals import CallRefused, Lost, NotPermitted, Unfit
 
@@ -186,7 +186,7 @@ class Counted(Kept):
     def unfit(self, looks: Sequence[Look]) -> Unfit:
         """That a look does not fit."""
         thread = self.first_unfit(looks) or 0
-        return Unfit(thread, looks[thread])
+        return Unfit(thread, looks[thread], fault_of_shape(looks[thread]))
 
 
 class Scheduler(Counted):

@@ -6,17 +6,17 @@ import io
 import re
 from typing import Iterable, Iterator, NamedTuple, Sequence
 
-from .constants import (BEST_EFFORT, BUSY, HISTORY_HEADER, LATENCY_CRITICAL, MOST_ACTIONS, MOST_CORES, MOST_PASSES,
-                        MOST_TEXT, WORDS, Cause, Judgement, Kind)
+from .constants import (BEST_EFFORT, BUSY, HISTORY_HEADER, LATENCY_CRITICAL, MOST_ACTIONS, MOST_CORES, MOST_MISSES,
+                        MOST_PASSES, MOST_TEXT, WORDS, Cause, Judgement, Kind)
 from .handles import Scheduler, Table
-from .layout import FIELDS, OF_CAUSE, Action, Look, Machine, TableTask, taken
+from .layout import FIELDS, OF_CAUSE, Action, Look, Machine, TableTask, is_pair, taken
 from .library import GivenLibrary
 
 SIGNALS_NAME, HISTORY_NAME = "caladan-signals", HISTORY_HEADER.partition(",")[0]
 # The words of a record in version 1 of both formats.
 FIRST_WORDS = WORDS[:7]
 MOST_NUMBER, MOST_OF_TOML = (1 << 64) - 1, (1 << 63) - 1
-MOST_OF_WORD = {"running": MOST_CORES, "misses": 1 << 56}
+MOST_OF_WORD = {"running": MOST_CORES, "misses": MOST_MISSES}
 MOST_CLASS, MOST_CAP = 5, 16
 JUDGEMENTS = {"whole": Judgement.KEPT, "busy": Judgement.BUSY, "ahead": Judgement.AHEAD, "foreign": Judgement.FOREIGN}
 KINDS = {kind.name.lower(): kind for kind in Kind}
@@ -75,7 +75,7 @@ def look_of(row: Sequence[str], thread: int, words: Sequence[str]) -> tuple[Look
     look = Look(busy=row[0] == "busy", room=number(row[2], 1), number=number(row[3]))
     if look.busy:
         look.second = number(row[4])
-        must(look.second == look.number if look.number % 2 else look.second > look.number, "no busy pair")
+        must(is_pair(look), "no busy pair")
     for word, field in zip(words, row[4:] if not look.busy else ()):
         setattr(look, word, number(field, MOST_OF_WORD.get(word, MOST_NUMBER)))
     return look, JUDGEMENTS[row[0]]

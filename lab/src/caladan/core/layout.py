@@ -4,9 +4,9 @@ from __future__ import annotations
 import ctypes
 import enum
 import operator
-from typing import Any, ClassVar, Iterable
+from typing import Any, ClassVar, Iterable, Optional
 
-from .constants import BUSY, WORDS, Cause, CoreState, Kind, TaskKind
+from .constants import BUSY, MOST_CORES, MOST_MISSES, WORDS, Cause, CoreState, Judgement, Kind, TaskKind
 
 U8, U32, U64, SIZE = ctypes.c_uint8, ctypes.c_uint32, ctypes.c_uint64, ctypes.c_size_t
 
@@ -228,6 +228,18 @@ class Last(Numbers):
     granted: int
     thread: int
     task: int
+
+
+def is_pair(look: Look) -> bool:
+    """Whether the versions of a busy look are one odd version, given twice, or an even one and then a greater."""
+    return look.second == look.number if look.number % 2 else look.second > look.number
+
+
+def fault_of_shape(look: Look) -> Optional[Judgement]:
+    """Why a look fits no thread, whatever that showed before; None where it may fit."""
+    if look.busy:
+        return None if is_pair(look) else Judgement.NO_PAIR
+    return Judgement.MISSHAPEN if look.running > MOST_CORES or look.misses > MOST_MISSES else None
 
 
 def taken(look: Look, judged: int) -> Look:
