@@ -19,8 +19,8 @@ SCRIPTS = TOP / "examples" / "lab"
 TABLE = TOP / "examples" / "sweep" / "which_delay" / "input"
 LOG = TOP / "examples" / "tutorial" / "requests.csv"
 DRAW = ["--task", "0", "--load", "0.6", "--service", "90%:1,10%:10", "--turns", "200"]
-# The window of a sweep of 200 turns.
-WINDOW = ["--from", "20", "--to", "180"]
+# The window: from a tenth on, as of a sweep, to the turn that the scripts name.
+WINDOW = ["--from", "20", "--to", "160"]
 
 
 @pytest.fixture(autouse=True)
