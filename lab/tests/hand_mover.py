@@ -2,12 +2,26 @@
 count of what the program's word `move` answers."""
 from __future__ import annotations
 
-from dataclasses import replace
-from typing import Optional
+from typing import Iterable, Mapping, Optional, Sequence
 
-from caladan.arrivals import Comings, Request
+from caladan.arrivals import Arrivals, Request
 from caladan.moving import Given, Moved, NoTask
 from caladan.tables import Machine
+
+
+def text_of_arrivals(arrivals: Arrivals, requests: Iterable[Request]) -> bytes:
+    """Arrivals with these requests, as the program writes them."""
+    rows = [f"pass,{clock},{figure}" for clock, figure in arrivals.passes]
+    rows += [f"turn,{clock}" for clock in arrivals.turns]
+    rows += [f"request,{it.thread},{it.turn},{it.id},{it.work},{it.misses}" for it in requests]
+    return "\n".join(["caladan-arrivals,1", *rows, f"end,{len(rows)}", ""]).encode()
+
+
+def text_of_comings(came: Sequence[tuple[Request, int]], left_out: Mapping[int, int]) -> bytes:
+    """The file of when requests came."""
+    rows = [f"{it.id},{turn}" for it, turn in came]
+    rows += [f"left out,{task},{many}" for task, many in sorted(left_out.items()) if many]
+    return "\n".join(["id,turn", *rows, ""]).encode()
 
 
 def task_of(machine: Machine, thread: int) -> tuple[int, int]:
@@ -31,8 +45,8 @@ def threads_for(given: Machine, machine: Machine) -> list[tuple[int, int]]:
 
 
 def placed(requests: list[tuple[Request, int]], turns: int) -> list[tuple[Request, int, Optional[int]]]:
-    """Requests in their order, each with the turn to which it came, and the turn before which it comes: its own, or where
-    one before it takes that the first that is free; none where none is left."""
+    """Requests in their order, each with the turn to which it came, and the turn before which it comes: its own, or
+    where one before it takes that the first that is free; none where none is left."""
     found: list[tuple[Request, int, Optional[int]]] = []
     of, free = 0, 0
     for request, came in requests:
@@ -47,12 +61,10 @@ def standing(given: Given, machine: Machine, requests: list[tuple[Request, int, 
     """The arrivals of requests that are placed; those that are left out are counted."""
     stand = [(Request(it.thread, turn, it.id, it.work, it.misses), came)
              for it, came, turn in requests if turn is not None]
-    arrivals = replace(given.arrivals, requests=tuple(it for it, _ in stand))
     left = [task_of(machine, it.thread)[0] for it, _, turn in requests if turn is None]
     told = given.comings.left_out
     left_out = {task: told.get(task, 0) + left.count(task) for task in range(len(machine.tasks))}
-    comings = Comings(tuple(came for _, came in stand), left_out)
-    return Moved(arrivals.text(), comings.text(arrivals.requests))
+    return Moved(text_of_arrivals(given.arrivals, (it for it, _ in stand)), text_of_comings(stand, left_out))
 
 
 def moved_by_hand(given: Given, machine: Machine) -> Moved:

@@ -4,7 +4,7 @@ from __future__ import annotations
 import csv
 import io
 from dataclasses import dataclass
-from typing import Iterable, Iterator, NamedTuple, Optional
+from typing import Iterator, NamedTuple, Optional
 
 BYTE_ORDER_MARK = b"\xef\xbb\xbf"
 
@@ -21,8 +21,8 @@ class Request(NamedTuple):
 
 @dataclass(frozen=True)
 class Arrivals:
-    """The passes, each with its clock and its bandwidth figure; the clocks of the turns; and the requests, by threads and
-    then by turns."""
+    """The passes, each with its clock and its bandwidth figure; the clocks of the turns; and the requests, by threads
+    and then by turns."""
 
     passes: tuple[tuple[int, int], ...]
     turns: tuple[int, ...]
@@ -31,13 +31,6 @@ class Arrivals:
     @property
     def have_misses(self) -> bool:
         return any(it.misses for it in self.requests)
-
-    def text(self) -> bytes:
-        """The arrivals as the program writes them."""
-        rows = [f"pass,{clock},{figure}" for clock, figure in self.passes]
-        rows += [f"turn,{clock}" for clock in self.turns]
-        rows += [f"request,{it.thread},{it.turn},{it.id},{it.work},{it.misses}" for it in self.requests]
-        return "\n".join(["caladan-arrivals,1", *rows, f"end,{len(rows)}", ""]).encode()
 
 
 def rows_of(text: bytes, words: tuple[str, ...] = ("",)) -> Iterator[list[str]]:
@@ -65,12 +58,6 @@ class Comings:
 
     turns: tuple[int, ...]
     left_out: dict[int, int]
-
-    def text(self, requests: Iterable[Request]) -> bytes:
-        """The file that tells it."""
-        rows = [f"{it.id},{turn}" for it, turn in zip(requests, self.turns)]
-        rows += [f"left out,{task},{many}" for task, many in sorted(self.left_out.items()) if many]
-        return "\n".join(["id,turn", *rows, ""]).encode()
 
 
 def own_comings(arrivals: Arrivals) -> Comings:

@@ -33,6 +33,11 @@ Option = Union[Value, bool, None, Iterable[Value]]
 Keys = Mapping[str, Iterable[Value]]
 
 
+def each_of(value: Union[Value, Iterable[Value]]) -> Iterable[Value]:
+    """The values of several, or the only one, of whatever type that is, as a number of numpy."""
+    return [value] if isinstance(value, str) or not isinstance(value, Iterable) else value
+
+
 def words_of(options: Mapping[str, Option]) -> list[str]:
     """The words of options: a list is given again for each, True is a flag, and None is not there."""
     words: list[str] = []
@@ -42,10 +47,8 @@ def words_of(options: Mapping[str, Option]) -> list[str]:
             words.append(flag)
         elif value is None or value is False:
             continue
-        elif isinstance(value, (str, int, float)):
-            words += [flag, str(value)]
         else:
-            words += [word for it in value for word in (flag, str(it))]
+            words += [word for it in each_of(value) for word in (flag, str(it))]
     return words
 
 
@@ -98,7 +101,8 @@ class Table:
         return table_of(self.view, self.text)
 
     def __repr__(self) -> str:
-        tasks = ", ".join(f"{self.labels.task(n)} {it.kind} limit {it.limit}" for n, it in enumerate(self.machine.tasks))
+        names = map(self.labels.task, range(len(self.machine.tasks)))
+        tasks = ", ".join(f"{name} {it.kind} limit {it.limit}" for name, it in zip(names, self.machine.tasks))
         return f"<Table, {self.machine.cores} cores: {tasks}>"
 
     @property
@@ -187,8 +191,8 @@ class Run:
 
     @functools.cached_property
     def numbers(self) -> pandas.DataFrame:
-        """The numbers of the run: a row for each measure, and for each task its number, whether there is more than that,
-        and of how many times a rank is."""
+        """The numbers of the run: a row for each measure, and for each task its number, whether there is more than
+        that, and of how many times a rank is."""
         names: list[Word] = ["--names", ",".join(self.table.names)] if self.table.names else []
         tick: list[Word] = ["--tick", self.tick] if self.tick else []
         return frame_of(self.told("measure", "--csv", *self.counted(), *names, *tick), "", "measure")
@@ -274,8 +278,8 @@ def compare(runs: Union[Run, Sequence[Run]], vary: Optional[Keys] = None, **opti
 
 def sweep(table: Table, load: Union[Value, Sequence[Value], None] = None, vary: Optional[Keys] = None,
           **options: Option) -> Answer:
-    """The response of a task at rising loads. Options are those of `caladan_lab sweep`, as task=0, service=10, turns=2000,
-    seeds=5, slo="task.0.p99=400"."""
+    """The response of a task at rising loads. Options are those of `caladan_lab sweep`, as task=0, service=10,
+    turns=2000, seeds=5, slo="task.0.p99=400"."""
     loads = None if load is None else str(load) if isinstance(load, (str, int, float)) else ",".join(map(str, load))
     words, asked = _asked("sweep", table, vary, {"load": loads, **options})
     names_of(asked.one("names"))

@@ -1,4 +1,5 @@
-"""Arrivals that were given for one table, as another gets them. A Mover is what asks for that; the program moves them."""
+"""Arrivals that were given for one table, as another gets them. A Mover is what asks for that; the program moves
+them."""
 from __future__ import annotations
 
 import functools
@@ -44,8 +45,8 @@ class Mover(Protocol):
 
 @dataclass(frozen=True)
 class Given:
-    """Arrivals: the table for which they are given, their text, and the file of when their requests came, where there is
-    one. What they say is read once it is asked for."""
+    """Arrivals: the table for which they are given, their text, and the file of when their requests came, where there
+    is one. What they say is read once it is asked for."""
 
     machine: Machine
     text: bytes

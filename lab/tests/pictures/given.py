@@ -102,8 +102,7 @@ def table_of(name: str) -> dict[str, Any]:
 
 def asked(*words: str) -> PictureAsked:
     """The picture that words of caladan_lab ask for."""
-    program = [] if words[0] == "seeds" else ["--program", VIEW]
-    return picture_of(read_words(LAB, [*words, "-o", "picture.svg", *program]))
+    return picture_of(read_words(LAB, [*words, "-o", "picture.svg", "--program", VIEW]))
 
 
 @functools.lru_cache(maxsize=None)

@@ -102,6 +102,7 @@ class Read(unittest.TestCase):
         for words in (*(("run", example(it)) for it in RUNS[:3]), ("sweep", example("sweep/team_csv", "output")),
                       *(("seeds", it) for it in KEPT_RUNS.values()),
                       ("compare", "--vary", DELAYS, example("lockstep/tour")),
+                      ("compare", example("compare/tour"), "--policy", "caladan,assured"),
                       ("run", example("audit/tour"), "--from", "4", "--passes", "4", "--width", "480")):
             with self.subTest(words):
                 paper = drawn(*words)

@@ -152,7 +152,7 @@ def test_each_policy_has_its_curve(lab: Run, tmp_path: Path) -> None:
     file = tmp_path / "x.svg"
     words = ["compare", example("compare/tour"), "--policy", "caladan,assured", "--names", "a,b,c"]
     assert lab(*words, "-o", str(file), view=VIEW) == (0, "", "")
-    for name in ("table 0 caladan", "table 0 assured", "table 2 assured", "a", "b"):
+    for name in ("3 tables by 2 policies on the same arrivals", "table 0 caladan", "table 2 assured", "a", "b"):
         assert name in texts_in(file)
 
 
@@ -191,6 +191,23 @@ def test_cores_that_are_varied_beside_another_key(lab: Run, tmp_path: Path) -> N
     for number, row in enumerate(rows):
         (held, _), = pairs(named(paper, f"cost-{number}")[f"cost-{number}"].get_xydata())
         assert held == pytest.approx(float(row["best-effort share"]) * int(row["cores"]))
+
+
+def test_tasks_with_objectives_have_curves_of_their_own() -> None:
+    from .given import drawn, named
+    words = ["--task", "0", "--load", "0.3", "--task", "1", "--load", "0.5", "--turns", "60"]
+    goals = ["--slo", "task.0.p99=400", "--slo", "task.1.p99=300"]
+    paper = drawn("sweep", *words, *goals, example("sweep/team"))
+    assert paper.title == "Responses over the load of task 0"
+    assert {"p99-0", "p99-1"} <= set(named(paper, "p99-"))
+    assert set(named(paper, "objective")["objective"].get_ydata()) == {400}
+
+
+def test_a_full_disk(lab: Run, old: Run, tmp_path: Path) -> None:
+    (tmp_path / "x.svg").symlink_to("/dev/full")
+    said = f"{tmp_path}/x.svg: No space left on device\n"
+    assert lab(*WORDS["seeds"], "-o", str(tmp_path / "x.svg")) == (3, "", f"caladan_lab: {said}")
+    assert old(*WORDS["seeds"], "-o", str(tmp_path / "x.svg")) == (3, "", f"caladan_draw: {said}")
 
 
 def test_text_needs_the_standard_library_alone(tmp_path: Path) -> None:

@@ -23,7 +23,7 @@ from .tables import Task, count
 MARGIN, LABELS, SHARES, STRIP, GAP = 14, 112, 170, 18, 34
 SHARE_OF = (("response least", 0.0), ("response median", 0.5), ("response 90 of 100", 0.9),
             ("response 99 of 100", 0.99), ("response 99.9 of 100", 0.999), ("response greatest", 1.0))
-COST_RANK, MOST_COLUMNS, FEW_REQUESTS = "p99", 300, 20
+COST_RANK, MOST_COLUMNS, FEW_REQUESTS, MOST_LINES = "p99", 300, 20, 10
 
 
 @dataclass(frozen=True)
@@ -50,7 +50,7 @@ class Curve:
 @dataclass(frozen=True)
 class CompareScene:
     """A comparison as it is shown: its numbers, the run of each table where these are known, the tasks, how wide, and
-    on which ground."""
+    on which ground; and how many policies there are, by each of which a table stands again."""
 
     numbers: Comparison
     runs: tuple[ComparedRun, ...]
@@ -58,10 +58,16 @@ class CompareScene:
     palette: Palette
     width: int
     tick: str = ""
+    policies: int = 1
 
     @property
     def unit(self) -> str:
         return self.tick or "ticks"
+
+    @property
+    def title(self) -> str:
+        by = f" by {self.policies} policies" if self.policies > 1 else ""
+        return f"{count(len(self.numbers.tables) // self.policies, 'table')}{by} on the same arrivals"
 
     @cached_property
     def shorts(self) -> list[str]:
@@ -130,15 +136,25 @@ class SharePlot:
         self.times = TimeScale([time for it in self.curves for time in it.times] or pending, is_tight=True)
         self.shares = ShareScale(max(it.requests for it in self.curves))
 
-    def same(self) -> str:
-        """Which tables have the curve of an earlier one."""
+    def same(self) -> list[str]:
+        """Which tables have the curve of an earlier one, in words for each."""
         first: dict[tuple[tuple[float, ...], tuple[float, ...]], str] = {}
         words = []
         for curve, label in zip(self.curves, self.scene.shorts):
             earlier = first.setdefault((curve.times, curve.shares), label)
             if earlier != label:
                 words.append(f"{label} the same as {earlier}")
-        return "; ".join(words)
+        return words
+
+    def notes(self) -> list[str]:
+        """The same in lines: of as many as have room, and how many more there are."""
+        words, lines = self.same(), [""]
+        for told in range(len(words), -1, -1):
+            more = [f"and {len(words) - told} more"] if told < len(words) else []
+            lines = wrapped("; ".join([*words[:told], *more]), LABELS - 30, SMALL)
+            if len(lines) <= MOST_LINES:
+                break
+        return lines
 
     def line(self, axes: Axes, number: int, curve: Curve) -> None:
         """One table's steps, with a marker at each request of a few, else at the shares that are named."""
@@ -160,7 +176,7 @@ class SharePlot:
         paper.text(MARGIN, top + 6, cut(task.label, LABELS - 30, weight="bold"), weight="bold")
         paper.text(MARGIN, top + 23, {"lc": "latency-critical", "be": "best-effort"}.get(task.kind, ""), SMALL,
                    color=colours.second)
-        for place, words in enumerate(wrapped(self.same(), LABELS - 30, SMALL)):
+        for place, words in enumerate(self.notes()):
             paper.text(MARGIN, top + 48 + 14 * place, words, SMALL, color=colours.second)
         axes = paper.axes(left, top, across, SHARES, f"shares {task.number}")
         self.times.use(axes, "x")
@@ -285,13 +301,12 @@ def draw_comparison(scene: CompareScene) -> Paper:
     if not scene.asked:
         raise Refusal("no requests came: there is nothing to draw")
     tables = list(scene.numbers.tables)
-    title = f"{count(len(tables), 'table')} on the same arrivals"
     lines = lines_of(scene)
     top = 44.0 + 17 * len(lines) + 20 * sample_rows(scene.width, MARGIN, tables) + 30
     strips = [Strips(scene, it) for it in scene.asked]
     each = [SHARES + 40 + it.height + GAP for it in strips]
-    paper = Paper(scene.width, top + sum(each), scene.palette, title)
-    below = heading(paper, MARGIN, title, lines)
+    paper = Paper(scene.width, top + sum(each), scene.palette, scene.title)
+    below = heading(paper, MARGIN, scene.title, lines)
     looks = [look(number, len(tables), scene.palette) for number in range(len(tables))]
     samples(paper, MARGIN, below, tables, looks)
     left = MARGIN + LABELS + 20

@@ -55,7 +55,7 @@ def compare_paper(got: Compared, look: Look) -> Paper:
     runs = tuple(map(ComparedRun, got.requests, got.passes))
     tasks = named_tasks(got.tasks, look.names)
     return draw_comparison(CompareScene(got.numbers, runs, tasks, palette_of(look), look.width,
-                                        look.tick or got.numbers.unit))
+                                        look.tick or got.numbers.unit, got.policies))
 
 
 def sweep_paper(sweep: Sweep, table: Optional[Table], swept: Optional[int], goals: Sequence[str], look: Look) -> Paper:

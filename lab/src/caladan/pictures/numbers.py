@@ -67,13 +67,14 @@ class SweptRun:
 @dataclass(frozen=True)
 class Sweep:
     """The runs of a sweep, the key that is varied, if any, the task that is swept where it has a name, the unit of the
-    times where the head says it, and whether its loads are in cores."""
+    times where the head says it, whether its loads are in cores, and whether tasks have rows of their own."""
 
     task: str
     key: str
     runs: tuple[SweptRun, ...]
     unit: str = ""
     in_cores: bool = False
+    has_tasks: bool = False
 
     @property
     def values(self) -> list[str]:
@@ -188,4 +189,4 @@ def read_sweep(text: str, name: str) -> Sweep:
         raise Refusal(f"{name}: it has no runs below its head")
     in_cores = titles[0].startswith("offered")
     task = titles[0].partition("offered to " if in_cores else "load of ")[2]
-    return Sweep(task, rows.key, runs, unit_in(titles[1:]), in_cores)
+    return Sweep(task, rows.key, runs, unit_in(titles[1:]), in_cores, "task" in rows.between)

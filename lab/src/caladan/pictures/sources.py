@@ -5,7 +5,7 @@ import contextlib
 import itertools
 import re
 import sys
-from dataclasses import dataclass
+from dataclasses import dataclass, replace
 from typing import Iterator, Optional, Sequence
 
 from ..comparisons.command import refuse_two_inputs, runs_of, sheet_of, vary_mistake
@@ -154,12 +154,13 @@ def illegal_from(view: Viewer, text: bytes) -> Optional[int]:
 @dataclass(frozen=True)
 class Compared:
     """What a comparison is drawn from: its numbers, of each table the requests and the passes of its run where these
-    are known, and the tasks."""
+    are known, the tasks, and how many policies there are, by each of which a table stands again."""
 
     numbers: Comparison
     requests: tuple[tuple[Request, ...], ...]
     passes: tuple[tuple[tuple[Standing, ...], ...], ...]
     tasks: tuple[Task, ...]
+    policies: int = 1
 
 
 def compared_from(given: Sequence[Given], asked: PictureAsked, table: Optional[Given]) -> Compared:
@@ -203,8 +204,9 @@ def columns_compared(numbers: Comparison, runs: Runs) -> Compared:
     columns = list(itertools.product(range(len(runs.machines)), runs.terms.policies))
     told_of = each(lambda it: column_told(runs, *columns[it]), range(len(columns)))
     most = max(runs.machines, key=lambda it: len(it.tasks))
-    return whole(numbers, [requests_in(Given("requests", it)) for it, _ in told_of],
-                 [by_pass(series_in(Given("series", it)), "series") for _, it in told_of], table_of(most).tasks)
+    got = whole(numbers, [requests_in(Given("requests", it)) for it, _ in told_of],
+                [by_pass(series_in(Given("series", it)), "series") for _, it in told_of], table_of(most).tasks)
+    return replace(got, policies=len(runs.terms.policies))
 
 
 def column_told(runs: Runs, table: int, policy: str) -> tuple[str, str]:

@@ -41,6 +41,13 @@ class SweepScene:
         return self.tick or "ticks"
 
     @property
+    def title(self) -> str:
+        of = self.task or self.sweep.task
+        if self.sweep.has_tasks:
+            return f"Responses over the load of {of}" if of else "Responses over load"
+        return f"Response of {of} over its load" if of else "Response over load"
+
+    @property
     def values(self) -> list[str]:
         return self.sweep.values
 
@@ -221,16 +228,14 @@ def draw_sweep(scene: SweepScene) -> Paper:
     """The picture of a sweep."""
     if all(it.times[rank].value is None for it in scene.sweep.runs for rank in scene.ranks):
         raise Refusal("no requests came: there is nothing to draw")
-    of = scene.task or scene.sweep.task
-    title = f"Response of {of} over its load" if of else "Response over load"
     labels = [scene.sweep.label(it) for it in scene.values] if scene.values != [""] else []
     lines, ranks = lines_of(scene), scene.ranks
     left = MARGIN + AXIS
     rows = (sample_rows(scene.width, left, labels) if labels else 0) + 1
     top = 44.0 + 17 * len(lines) + 20 * rows + 14
     plot = top + BAND * len(scene.waiting) + 6
-    paper = Paper(scene.width, plot + PLOT + 50, scene.palette, title)
-    below = heading(paper, MARGIN, title, lines)
+    paper = Paper(scene.width, plot + PLOT + 50, scene.palette, scene.title)
+    below = heading(paper, MARGIN, scene.title, lines)
     if labels:
         looks = [look(number, len(labels), scene.palette) for number in range(len(labels))]
         below = samples(paper, left, below, labels, looks)

@@ -76,8 +76,8 @@ def first_clock(arrivals: Arrivals, passes: Passes) -> int:
 
 
 def events_of(machine: Machine, labels: Labels, told: Sequence[bytes], trace: bytes) -> Iterator[str]:
-    """All events: the names; pass by pass what ends in it, and the counters that change; what goes on at the end; and of
-    a run its requests."""
+    """All events: the names; pass by pass what ends in it, and the counters that change; what goes on at the end; and
+    of a run its requests."""
     spans, series, *turns = told
     passes = passes_of(series, len(machine.tasks))
     arrivals = arrivals_of(trace) if turns else None

@@ -79,7 +79,8 @@ RUN = Command(
 
 SEEDS = Command(
     "seeds", "caladan_lab seeds", "Draw what several seeds measured: median, least, greatest", SEEDS_TEXT,
-    (Arg("files", "The rows [default: the standard input]", value="FILE", many=True), *CALLED, *LOOKS, PICTURE_FILE))
+    (Arg("files", "The rows [default: the standard input]", value="FILE", many=True), *CALLED, *LOOKS, PROGRAM,
+     PICTURE_FILE))
 
 
 def ending_of(file: str) -> str:
