@@ -17,11 +17,13 @@ import caladan
 import matplotlib.pyplot as plot
 
 table = caladan.Table.read(FILE, tick="us")
-key, loads = "task.0.delay", [0.2, 0.4, 0.6, 0.8]
-answer = caladan.sweep(table, loads, vary={key: [10, 80]}, service="90%:1,10%:10", turns=200, seeds=5)
+key, loads = "task.0.delay", [0.2, 0.4, 0.6]
+frame = caladan.sweep(table, loads, vary={key: [10, 80]}, service="90%:1,10%:10", turns=200, seeds=5).frame
+# A rank whose request was not answered by the end has no time.
+frame["p99"] = frame["p99 [us]"].where(frame["p99 bound"] != ">")
 figure, axes = plot.subplots(figsize=(6, 3.5))
-for delay, rows in answer.frame.groupby(key):
-    p99 = rows.pivot(index="load", columns="of 5 seeds", values="p99 [us]")
+for delay, rows in frame.groupby(key):
+    p99 = rows.pivot(index="load", columns="of 5 seeds", values="p99")
     line, = axes.plot(p99.index, p99["median"], marker="o", label=f"delay {delay} us")
     axes.fill_between(p99.index, p99["least"], p99["greatest"], color=line.get_color(), alpha=0.2)
 axes.set_xlabel("load of the service")

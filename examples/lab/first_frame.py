@@ -1,5 +1,5 @@
-"""A run as frames: the three requests of a service that waited longest, the p99 of its responses, and what the
-scheduler did in the pass before the slowest of them came.
+"""A run as frames: the three requests of a service that waited longest, the p99 of its responses, and how the service
+stood in the grants of the last pass before the slowest was begun.
 
     first_frame.py [TABLE]"""
 import sys
@@ -17,6 +17,6 @@ kv = kv.assign(wait=kv["begun [us]"] - kv["arrived [us]"])
 slowest = kv.nlargest(3, "wait")
 print(slowest[["id", "thread", "arrived [us]", "begun [us]", "wait"]])
 print("p99", run.numbers.loc["response 99 of 100 [us]", "kv lc"], "us")
-passes = run.series[run.series["clock [us]"] <= slowest["arrived [us]"].iloc[0]]
-print(run.explain(passes["pass"].max(), task=0))
+before = run.series[run.series["clock [us]"] < slowest["begun [us]"].iloc[0]]
+print(run.explain(before["pass"].max(), task=0).partition("\n5 Grants\n")[2], end="")
 # end

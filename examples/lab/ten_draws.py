@@ -1,5 +1,5 @@
-"""Ten draws of one load, under two delays that serve the same requests: p99 differs more from draw to draw than from
-delay to delay, so compare the delays draw by draw.
+"""Ten draws of one load, under two delays that serve the same requests: p99 differs more from draw to draw than
+from delay to delay, so compare the delays draw by draw.
 
     ten_draws.py [TABLE]
 
@@ -16,8 +16,10 @@ KEY = "task.0.delay"
 HOW = {"vary": {KEY: [10, 80]}, "service": "90%:1,10%:10", "turns": 200}
 
 table = caladan.Table.read(FILE, tick="us")
-draws = [caladan.sweep(table, 0.6, seed=seed, **HOW).frame.assign(seed=seed) for seed in range(1, 11)]
-p99 = pandas.concat(draws).pivot(index="seed", columns=KEY, values="p99 [us]")
+draws = pandas.concat(caladan.sweep(table, 0.6, seed=seed, **HOW).frame.assign(seed=seed) for seed in range(1, 11))
+# A rank whose request was not answered by the end has no time.
+draws["p99"] = draws["p99 [us]"].where(draws["p99 bound"] != ">")
+p99 = draws.pivot(index="seed", columns=KEY, values="p99")
 p99["more"] = p99[80] - p99[10]
 print(p99)
 print(p99.agg(["min", "max"]))

@@ -1,5 +1,5 @@
-"""Builds the package by setuptools, for pip: by that of the system where there is one, so that no network is needed; else
-pip fetches it. It builds in a copy, and leaves nothing in the checkout."""
+"""Builds the package by setuptools, for pip: by that of the system where there is one, so that no network is needed;
+else pip fetches it. It builds in a copy, and leaves nothing in the checkout."""
 import importlib.util
 import os
 import shutil

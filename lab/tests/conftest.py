@@ -104,9 +104,10 @@ elif words[0] == "measure":
 @pytest.fixture
 def stub(tmp_path: Path) -> Callable[..., str]:
     """A program in the place of caladan_view that tells these numbers."""
+    from caladan import __version__
     from caladan.measured import CORES, CROWD, MACHINE, REQUESTS
 
-    def made(measure: dict[str, str], more: str = "", version: str = "4") -> str:
+    def made(measure: dict[str, str], more: str = "", version: str = __version__) -> str:
         file = tmp_path / "caladan_view"
         file.write_text(STUB.format(python=sys.executable, version=version, measure=measure, more=more,
                                     labels=[*REQUESTS[:3], *CROWD, *REQUESTS[3:], *CORES, *MACHINE]))

@@ -3,11 +3,13 @@ from __future__ import annotations
 
 import csv
 import io
+import os
 import sys
 from fractions import Fraction
 
 import pytest
 from conftest import TABLE, TOP
+from hand_mover import moved_by_hand, text_of_arrivals, text_of_comings
 from hypothesis import given, settings
 from hypothesis import strategies as some
 
@@ -17,7 +19,8 @@ from caladan.figures import Figure, as_csv, change, figure_of, in_columns, put_f
 from caladan.files import separator
 from caladan.labels import names_of, table_names
 from caladan.measured import Measured
-from caladan.moving import Given, HandMover, NoTask
+from caladan.moving import Given, NoTask, ProgramMover
+from caladan.programs import Viewer
 from caladan.numbers import number_of, thousandths_of
 from caladan.refusal import Refusal
 from caladan.shares import MEAN, between, held_in_series, held_in_spans, rounded, share_of
@@ -163,6 +166,29 @@ def test_time_held_in_spans_and_in_series() -> None:
     assert held_in_series(series, [1]) == 10 * 1 + 10 * 2
 
 
+@settings(max_examples=20)
+@given(some.data())
+def test_what_the_program_moves_is_what_the_hand_does(data: some.DataObject) -> None:
+    view = os.environ.get("CALADAN_VIEW", "")
+    if not view:
+        pytest.skip("CALADAN_VIEW names no program")
+    turns, machine, table = 5, machine_with(data.draw(limits)), machine_with(data.draw(limits))
+    threads = some.tuples(some.integers(0, sum(machine.limits) - 1), some.integers(0, turns - 1))
+    places = sorted(data.draw(some.sets(threads)))
+    requests = [Request(k, j, 7 * n + 1, 1 + n, n % 2) for n, (k, j) in enumerate(places)]
+    came = [(it, data.draw(some.integers(0, it.turn))) for it in requests]
+    arrivals = Arrivals(((3, 4),), tuple(range(1, turns + 1)), ())
+    comings = text_of_comings(came, {0: 2}) if data.draw(some.booleans()) else None
+    of = Given(machine, text_of_arrivals(arrivals, requests), comings)
+    try:
+        wanted = moved_by_hand(of, table)
+    except NoTask as fault:
+        with pytest.raises(NoTask, match=fault.line):
+            ProgramMover(Viewer(view), of).asked(table)
+        return
+    assert ProgramMover(Viewer(view), of).asked(table) == wanted
+
+
 limits = some.lists(some.integers(1, 4), min_size=1, max_size=3)
 
 
@@ -176,14 +202,13 @@ def test_moved_requests_stay_with_their_task(given_limits: list[int], other: lis
     turns, machine, table = 6, machine_with(given_limits), machine_with(other)
     places = data.draw(some.sets(some.tuples(some.integers(0, sum(given_limits) - 1), some.integers(0, turns - 1))))
     requests = tuple(Request(k, j, n, 1 + n, 0) for n, (k, j) in enumerate(sorted(places)))
-    arrivals = Arrivals((), tuple(range(1, turns + 1)), requests)
-    of = Given(machine, arrivals.text(), None)
+    of = Given(machine, text_of_arrivals(Arrivals((), tuple(range(1, turns + 1)), ()), requests), None)
     owners = [t for t, limit in enumerate(given_limits) for _ in range(limit)]
     if any(owners[it.thread] >= len(other) for it in requests):
         with pytest.raises(NoTask):
-            HandMover(of).moved(table)
+            moved_by_hand(of, table)
         return
-    moved = HandMover(of).moved(table)
+    moved = moved_by_hand(of, table)
     now = Given(table, moved.arrivals, moved.came)
     new = [t for t, limit in enumerate(other) for _ in range(limit)]
     assert list(now.arrivals.requests) == sorted(now.arrivals.requests)

@@ -12,6 +12,8 @@ from typing import Callable
 import pytest
 from conftest import LAB, TABLE, TOP, Run
 
+from caladan import __version__
+
 Stub = Callable[..., str]
 NUMBERS = {"response median": "11", "response 90 of 100": "22", "response 99 of 100": "33", "requests served": "40",
            "response 99.9 of 100": "44", "response mean": "5.555", "mean cores held": "1.234", "requests far": "2",
@@ -50,7 +52,9 @@ def test_a_program_that_is_not_there(lab: Run) -> None:
 
 def test_a_program_of_another_version(lab: Run, stub: Stub) -> None:
     told = lab(*SWEEP, given=TABLE, view=stub(NUMBERS, version="3"))
-    assert told.status == 2 and "is caladan_view 3, and this is caladan_lab 4: install both of one version" in told.err
+    assert told.status == 2 and (
+        f"is caladan_view 3, and this is caladan_lab {__version__}: install both of one version, or name another with "
+        "--program FILE") in told.err
 
 
 def test_a_program_that_is_killed(lab: Run, stub: Stub) -> None:

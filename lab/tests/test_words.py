@@ -4,6 +4,7 @@ from __future__ import annotations
 import pytest
 from conftest import TOP, Run
 
+from caladan import __version__
 from caladan.words.arg import Number
 from caladan.words.asked import LAB
 from caladan.words.likeness import alike, jaro
@@ -24,8 +25,8 @@ def refusal(*words: str) -> str:
 
 
 def help_text(words: str) -> str:
-    """What docs/HELP.txt keeps of the program's help."""
-    lines = (TOP / "docs" / "HELP.txt").read_text().split("\n")
+    """What the program said of a word before it was caladan_lab's."""
+    lines = (TOP / "lab" / "tests" / "goldens" / "answers" / "help.txt").read_text().split("\n")
     at = lines.index(f"==== caladan_view {words}")
     while lines[at].startswith("===="):
         at += 1
@@ -117,4 +118,4 @@ def test_words_that_make_no_comparison(lab: Run) -> None:
 def test_no_word_is_no_job(lab: Run) -> None:
     status, out, err = lab()
     assert (status, out) == (2, "") and err.startswith("Many runs of the core scheduler")
-    assert lab("--version") == (0, "caladan_lab 4\n", "")
+    assert lab("--version") == (0, f"caladan_lab {__version__}\n", "")

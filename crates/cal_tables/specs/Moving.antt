@@ -1,5 +1,5 @@
 -- What an input whose arrivals go to another table comes to.
-use Rattle.std.specs.Prelude.{◌≡◌, [], map, Option, Some, None, Result, Ok, Err, ⊤, ⊥, List, ℕ}
+use Rattle.std.specs.Prelude.{◌≡◌, ℕ, List, [], map, Option, Some, None, Result, Ok, Err}
 use Rattle.cal_came.specs.Asked.{comings_asked}
 use Rattle.cal_came.specs.declared.asked.CameFile.{CameFile}
 use Rattle.cal_input.specs.Answers.{Decided}

@@ -1,1 +1,2 @@
 pub mod RecordedRuns
+pub mod MovedArrivals

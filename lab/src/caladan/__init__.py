@@ -1,7 +1,7 @@
 """Many runs of the core scheduler of Caladan: comparisons, sweeps, frames and pictures over the proved programs.
 
-One input has one exact answer, which caladan_view and caladan_sim give. Questions about many runs, such as loads, seeds,
-tables and policies side by side, are asked here.
+One input has one exact answer, which caladan_view and caladan_sim give. Questions about many runs, such as loads,
+seeds, tables and policies side by side, are asked here.
 
     table = caladan.Table.read("service.toml", names=["kv", "batch"], tick="us")
     run = table.run(task="kv", load=0.7, service="90%:1,10%:20", turns=2000, seed=7)
@@ -13,14 +13,13 @@ tables and policies side by side, are asked here.
     answer = caladan.sweep(table, [0.3, 0.6, 0.9], task="kv", seeds=10, slo="kv.p99=400")
     answer.frame, answer.is_kept, answer.misses
 
-A Table knows what its tasks are called and what a tick is, a Run also its seed and the words that made it; frames say the
-unit with each time, and are made once each. What the program refuses is a caladan.Refusal with its line. The program is
-that of CALADAN_VIEW, else the one of the checkout or the release that the package is in, else the one in the PATH; it
-must be of the same version. caladan.core has the decision core itself, over the C library.
+A Table knows what its tasks are called and what a tick is, a Run also its seed and the words that made it; frames say
+the unit with each time, and are made once each. What the program refuses is a caladan.Refusal with its line. The
+program is that of CALADAN_VIEW, else the one of the checkout or the release that the package is in, else the one in the
+PATH; it must be of the same version. caladan.core has the decision core itself, over the C library.
 
-Two things the program does not tell yet, so they are made here: what another table gets of given arrivals (moving.py),
-and the requests of a load in cores that several tables share (drawing.py). Where thousandths leave the share of best
-effort open, it is counted from the run's spans (shares.py)."""
+The program does not tell the requests of a load in cores that several tables share, so they are drawn here
+(drawing.py). Where thousandths leave the share of best effort open, it is counted from the run's spans (shares.py)."""
 from __future__ import annotations
 
 from typing import TYPE_CHECKING, Any

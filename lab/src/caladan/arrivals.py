@@ -4,7 +4,9 @@ from __future__ import annotations
 import csv
 import io
 from dataclasses import dataclass
-from typing import Iterable, Iterator, NamedTuple, Optional, Sequence
+from typing import Iterator, NamedTuple, Optional
+
+BYTE_ORDER_MARK = b"\xef\xbb\xbf"
 
 
 class Request(NamedTuple):
@@ -19,8 +21,8 @@ class Request(NamedTuple):
 
 @dataclass(frozen=True)
 class Arrivals:
-    """The passes, each with its clock and its bandwidth figure; the clocks of the turns; and the requests, by threads and
-    then by turns."""
+    """The passes, each with its clock and its bandwidth figure; the clocks of the turns; and the requests, by threads
+    and then by turns."""
 
     passes: tuple[tuple[int, int], ...]
     turns: tuple[int, ...]
@@ -30,21 +32,15 @@ class Arrivals:
     def have_misses(self) -> bool:
         return any(it.misses for it in self.requests)
 
-    def text(self) -> bytes:
-        """The arrivals as the program writes them."""
-        rows = [f"pass,{clock},{figure}" for clock, figure in self.passes]
-        rows += [f"turn,{clock}" for clock in self.turns]
-        rows += [f"request,{it.thread},{it.turn},{it.id},{it.work},{it.misses}" for it in self.requests]
-        return "\n".join(["caladan-arrivals,1", *rows, f"end,{len(rows)}", ""]).encode()
 
-
-def rows_of(text: bytes) -> Iterator[list[str]]:
-    """The rows of a CSV of the program's kind; blank lines are none."""
-    told = text.removeprefix(b"\xef\xbb\xbf").decode("latin-1")
+def rows_of(text: bytes, words: tuple[str, ...] = ("",)) -> Iterator[list[str]]:
+    """The rows of a CSV of the program's kind that begin with one of some words; blank lines are none."""
+    told = text.removeprefix(BYTE_ORDER_MARK).decode("latin-1")
     if '"' in told or "\r" in told:
-        yield from filter(None, csv.reader(io.StringIO(told, newline="")))
+        rows = csv.reader(io.StringIO(told, newline=""))
+        yield from (row for row in rows if row and row[0].startswith(words))
         return
-    yield from (line.split(",") for line in told.split("\n") if line)
+    yield from (line.split(",") for line in told.split("\n") if line and line.startswith(words))
 
 
 def arrivals_of(text: bytes) -> Arrivals:
@@ -62,12 +58,6 @@ class Comings:
 
     turns: tuple[int, ...]
     left_out: dict[int, int]
-
-    def text(self, requests: Iterable[Request]) -> bytes:
-        """The file that tells it."""
-        rows = [f"{it.id},{turn}" for it, turn in zip(requests, self.turns)]
-        rows += [f"left out,{task},{many}" for task, many in sorted(self.left_out.items()) if many]
-        return "\n".join(["id,turn", *rows, ""]).encode()
 
 
 def own_comings(arrivals: Arrivals) -> Comings:
@@ -87,12 +77,6 @@ def comings_of(text: bytes) -> Comings:
     return Comings(tuple(turns), left_out)
 
 
-def is_some_within(arrivals: Arrivals, comings: Comings, first: Optional[int], after: Optional[int]) -> bool:
-    """Whether a request came from one turn on and before another, by their clocks; from a turn that there is not none
-    did."""
-    clocks: Sequence[int] = arrivals.turns
-    if first is not None and first >= len(clocks):
-        return False
-    begin = 0 if first is None else clocks[first]
-    end = clocks[after] if after is not None and after < len(clocks) else None
-    return any(begin <= clocks[it] and (end is None or clocks[it] < end) for it in comings.turns)
+def is_some_within(comings: Comings, first: Optional[int], after: Optional[int]) -> bool:
+    """Whether a request came from one turn on and before another."""
+    return any((first or 0) <= it and (after is None or it < after) for it in comings.turns)

@@ -33,7 +33,7 @@ def answer(asked: Asked) -> int:
         from .comparisons.command import compare
         return compare(asked)
     if word == "timeline":
-        from .timeline import timeline
+        from .timelines.command import timeline
         return timeline(asked)
     say(help_of(LAB, False))
     return 2

@@ -15,8 +15,8 @@ def thousandths(number: int) -> str:
 
 @dataclass(frozen=True)
 class Figure:
-    """A number, of whole ones or of thousandths; whether there is more than that; and of how many times a rank is, where
-    it should be of more."""
+    """A number, of whole ones or of thousandths; whether there is more than that; and of how many times a rank is,
+    where it should be of more."""
 
     number: int
     is_thousandth: bool = False

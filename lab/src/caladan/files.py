@@ -6,10 +6,12 @@ import errno
 import os
 import stat
 import sys
-from typing import Iterable, Optional, Sequence
+from typing import Iterable, Optional, Sequence, Union
 
 from .refusal import Refusal
 
+# A text, or the parts of one in their order.
+Written = Union[bytes, Iterable[bytes]]
 STANDARD = "-"
 INPUT_LIMIT = 67_108_864
 CHUNK, TRIES = 1 << 20, 100
@@ -122,7 +124,7 @@ class Output:
         """Whether the answer is kept until the end."""
         return self.name is not None and self.device < 0
 
-    def put(self, text: bytes) -> None:
+    def put(self, text: Written) -> None:
         """Writes the answer to the standard output or to a device."""
         file = 1 if self.name is None else self.device
         try:
@@ -130,7 +132,7 @@ class Output:
         except OSError as fault:
             raise of_file(self.name or "write", fault, WROTE) from None
 
-    def keep(self, text: bytes) -> None:
+    def keep(self, text: Written) -> None:
         """Writes the answer to its file, whole or not at all."""
         name = self.name or ""
         try:
@@ -139,11 +141,17 @@ class Output:
             raise of_file(name, fault, WROTE) from None
 
 
-def write_all(file: int, text: bytes) -> None:
-    """Writes all of a text."""
-    rest = memoryview(text)
+def write_part(file: int, part: bytes) -> None:
+    """Writes all of a part of a text."""
+    rest = memoryview(part)
     while rest:
         rest = rest[os.write(file, rest):]
+
+
+def write_all(file: int, text: Written) -> None:
+    """Writes all of a text."""
+    for part in [text] if isinstance(text, bytes) else text:
+        write_part(file, part)
 
 
 def open_beside(name: str) -> tuple[int, str]:
@@ -176,7 +184,7 @@ def create_beside(place: str) -> tuple[int, str]:
     raise FileExistsError(errno.EEXIST, "")
 
 
-def write_beside(name: str, text: bytes) -> None:
+def write_beside(name: str, text: Written) -> None:
     """Writes this text to this place, whole or not at all, also where it is interrupted."""
     file, beside = open_beside(name)
     try:

@@ -14,10 +14,11 @@ from .comparisons.runs import Runs
 from .files import read_named
 from .labels import Labels, names_of
 from .programs import Came, Text, Viewer, Word, simulator, viewer
+from .refusal import Refusal
 from .sweeps.command import answer as swept
 from .sweeps.command import asked_of, table_of
-from .tables import SEPARATOR, Machine, table_part
-from .varying import variations_of
+from .tables import KEYS, SEPARATOR, UNKNOWN_KEY, Machine, table_part
+from .varying import key_of, variations_of
 from .words.asked import LAB
 from .words.parsing import Asked, read_words
 
@@ -32,6 +33,11 @@ Option = Union[Value, bool, None, Iterable[Value]]
 Keys = Mapping[str, Iterable[Value]]
 
 
+def each_of(value: Union[Value, Iterable[Value]]) -> Iterable[Value]:
+    """The values of several, or the only one, of whatever type that is, as a number of numpy."""
+    return [value] if isinstance(value, str) or not isinstance(value, Iterable) else value
+
+
 def words_of(options: Mapping[str, Option]) -> list[str]:
     """The words of options: a list is given again for each, True is a flag, and None is not there."""
     words: list[str] = []
@@ -41,26 +47,31 @@ def words_of(options: Mapping[str, Option]) -> list[str]:
             words.append(flag)
         elif value is None or value is False:
             continue
-        elif isinstance(value, (str, int, float)):
-            words += [flag, str(value)]
         else:
-            words += [word for it in value for word in (flag, str(it))]
+            words += [word for it in each_of(value) for word in (flag, str(it))]
     return words
 
 
+def in_table(key: str, value: Value) -> str:
+    """A value as a table has it at a key: a kind is written in quotes."""
+    return f'"{value}"' if key.endswith("kind") and not str(value).startswith('"') else str(value)
+
+
 def vary_words(vary: Optional[Keys]) -> list[str]:
-    """The words for keys with their values. A kind is written in quotes."""
-    def shown(key: str, value: Value) -> str:
-        return f'"{value}"' if key.endswith(".kind") and not str(value).startswith('"') else str(value)
+    """The words for keys with their values."""
     return [word for key, values in (vary or {}).items()
-            for word in ("--vary", f"{key}={','.join(shown(key, it) for it in values)}")]
+            for word in ("--vary", f"{key}={','.join(in_table(key, it) for it in values)}")]
+
+
+def read_frame(csv: str) -> pandas.DataFrame:
+    """The frame of a CSV, in which an empty cell and a dash are nothing."""
+    import pandas
+    return pandas.read_csv(io.StringIO(csv), keep_default_na=False, na_values=["", "-"])
 
 
 def frame_of(csv: bytes, tick: str, index: Optional[str] = None) -> pandas.DataFrame:
     """A frame of the program's CSV, in which ticks have their unit."""
-    import pandas
-    text = csv.decode().replace("[ticks]", f"[{tick}]") if tick else csv.decode()
-    frame = pandas.read_csv(io.StringIO(text))
+    frame = read_frame(csv.decode().replace("[ticks]", f"[{tick}]") if tick else csv.decode())
     return frame.set_index(index) if index else frame
 
 
@@ -90,7 +101,8 @@ class Table:
         return table_of(self.view, self.text)
 
     def __repr__(self) -> str:
-        tasks = ", ".join(f"{self.labels.task(n)} {it.kind} limit {it.limit}" for n, it in enumerate(self.machine.tasks))
+        names = map(self.labels.task, range(len(self.machine.tasks)))
+        tasks = ", ".join(f"{name} {it.kind} limit {it.limit}" for name, it in zip(names, self.machine.tasks))
         return f"<Table, {self.machine.cores} cores: {tasks}>"
 
     @property
@@ -103,8 +115,12 @@ class Table:
         return Look(width, dark, self.names, self.tick)
 
     def with_values(self, values: Mapping[str, Value]) -> "Table":
-        """The table with these values at keys, as `task.0.delay`."""
-        return replace(self, text=self.machine.text({key: str(it) for key, it in values.items()}))
+        """The table with these values at keys, as `task.0.delay`, or with a name `kv.delay`. Refusal of another key."""
+        given = {key_of(key, self.names): in_table(key, it) for key, it in values.items()}
+        unknown = next((key for key in given if not self.machine.has_key(key)), None)
+        if unknown is not None:
+            raise Refusal(f"{unknown} {UNKNOWN_KEY}", below=KEYS)
+        return replace(self, text=self.machine.text(given))
 
     def run(self, policy: str = "caladan", plan: Optional[Mapping[str, Option]] = None, **arrivals: Option) -> "Run":
         """The run on the arrivals that `caladan_view arrivals` makes by these options, such as task=0, load=0.7,
@@ -175,8 +191,8 @@ class Run:
 
     @functools.cached_property
     def numbers(self) -> pandas.DataFrame:
-        """The numbers of the run: a row for each measure, and for each task its number, whether there is more than that,
-        and of how many times a rank is."""
+        """The numbers of the run: a row for each measure, and for each task its number, whether there is more than
+        that, and of how many times a rank is."""
         names: list[Word] = ["--names", ",".join(self.table.names)] if self.table.names else []
         tick: list[Word] = ["--tick", self.tick] if self.tick else []
         return frame_of(self.told("measure", "--csv", *self.counted(), *names, *tick), "", "measure")
@@ -215,8 +231,7 @@ class Answer:
     @functools.cached_property
     def frame(self) -> pandas.DataFrame:
         """A row for each row of the CSV."""
-        import pandas
-        return pandas.read_csv(io.StringIO(self.csv.partition("\n\n")[0]))
+        return read_frame(self.csv.partition("\n\n")[0])
 
     @property
     def is_kept(self) -> bool:
@@ -263,8 +278,8 @@ def compare(runs: Union[Run, Sequence[Run]], vary: Optional[Keys] = None, **opti
 
 def sweep(table: Table, load: Union[Value, Sequence[Value], None] = None, vary: Optional[Keys] = None,
           **options: Option) -> Answer:
-    """The response of a task at rising loads. Options are those of `caladan_lab sweep`, as task=0, service=10, turns=2000,
-    seeds=5, slo="task.0.p99=400"."""
+    """The response of a task at rising loads. Options are those of `caladan_lab sweep`, as task=0, service=10,
+    turns=2000, seeds=5, slo="task.0.p99=400"."""
     loads = None if load is None else str(load) if isinstance(load, (str, int, float)) else ",".join(map(str, load))
     words, asked = _asked("sweep", table, vary, {"load": loads, **options})
     names_of(asked.one("names"))

@@ -1,22 +1,26 @@
-"""Arrivals that were given for one table, as another gets them. A Mover is what asks for that; the one here moves them
-itself, until the program has a word for it."""
+"""Arrivals that were given for one table, as another gets them. A Mover is what asks for that; the program moves
+them."""
 from __future__ import annotations
 
 import functools
+import re
 import threading
-from dataclasses import dataclass, replace
+from dataclasses import dataclass
 from typing import Optional, Protocol
 
-from .arrivals import Arrivals, Comings, Request, arrivals_of, comings_of, own_comings
-from .tables import Machine
+from .arrivals import Arrivals, Comings, arrivals_of, comings_of, own_comings
+from .programs import Came, Text, Viewer, Word, refused
+from .tables import SEPARATOR, Machine
+
+NO_TASK = re.compile(r"has no task \d+ for request \d+")
 
 
 class NoTask(Exception):
-    """A request is for a task that a table has not."""
+    """A request is for a task that a table has not: the line that says so."""
 
-    def __init__(self, task: int, request: int) -> None:
-        super().__init__(task, request)
-        self.line = f"has no task {task} for request {request}"
+    def __init__(self, line: str) -> None:
+        super().__init__(line)
+        self.line = line
 
 
 @dataclass(frozen=True)
@@ -41,8 +45,8 @@ class Mover(Protocol):
 
 @dataclass(frozen=True)
 class Given:
-    """Arrivals: the table for which they are given, their text, and the file of when their requests came, where there is
-    one. What they say is read once it is asked for."""
+    """Arrivals: the table for which they are given, their text, and the file of when their requests came, where there
+    is one. What they say is read once it is asked for."""
 
     machine: Machine
     text: bytes
@@ -56,74 +60,31 @@ class Given:
     def comings(self) -> Comings:
         return own_comings(self.arrivals) if self.came is None else comings_of(self.came)
 
-    def task_of(self, thread: int) -> tuple[int, int]:
-        """The task of a thread, and the place of the thread among the task's."""
-        task = 0
-        while thread >= self.machine.limits[task]:
-            thread -= self.machine.limits[task]
-            task += 1
-        return task, thread
 
+class ProgramMover:
+    """Asks the program for them, once for all tables with the same limits. What a table gets that has the limits of the
+    one for which they are given is what is given."""
 
-def threads_for(given: Given, machine: Machine) -> list[tuple[int, int]]:
-    """For each thread of the table that arrivals are given for its task, and which thread of a table gets what comes to
-    it; -1 where the table has not the task."""
-    found = []
-    for thread in range(sum(given.machine.limits)):
-        task, place = given.task_of(thread)
-        is_there = task < len(machine.tasks)
-        found.append((task, sum(machine.limits[:task]) + place % machine.limits[task] if is_there else -1))
-    return found
-
-
-def placed(requests: list[tuple[Request, int]], turns: int) -> list[tuple[Request, int, int]]:
-    """Requests in their order, each with the turn to which it came, and the turn before which it comes: its own, or where
-    one before it takes that the first that is free; -1 where none is left."""
-    found = []
-    of, free = 0, 0
-    for request, came in requests:
-        turn = max(request.turn, free) if request.thread == of else request.turn
-        if turn < turns:
-            of, free = request.thread, turn + 1
-        found.append((request, came, turn if turn < turns else -1))
-    return found
-
-
-class HandMover:
-    """Moves them here: each request to the thread of the same number among its task's, modulo the limit; before its turn
-    or, where another takes that, the next free one. Of two for one turn that of the lower thread goes first."""
-
-    def __init__(self, given: Given) -> None:
-        self.given, self.lock = given, threading.Lock()
+    def __init__(self, view: Viewer, given: Given) -> None:
+        self.view, self.given, self.lock = view, given, threading.Lock()
         self.kept: dict[tuple[int, ...], Moved] = {}
 
     def moved(self, machine: Machine) -> Moved:
+        limits = self.given.machine.limits
+        if machine.limits[:len(limits)] == limits:
+            return Moved(self.given.text, self.given.came)
         with self.lock:
             if machine.limits not in self.kept:
-                self.kept[machine.limits] = self.made(machine)
+                self.kept[machine.limits] = self.asked(machine)
             return self.kept[machine.limits]
 
-    def made(self, machine: Machine) -> Moved:
+    def asked(self, machine: Machine) -> Moved:
+        """What the program says."""
         given = self.given
-        if machine.limits[:len(given.machine.limits)] == given.machine.limits:
-            return Moved(given.text, given.came)
-        threads = threads_for(given, machine)
-        lacking = next((it for it in given.arrivals.requests if threads[it.thread][1] < 0), None)
-        if lacking is not None:
-            raise NoTask(threads[lacking.thread][0], lacking.id)
-        moved = [(Request(threads[it.thread][1], it.turn, it.id, it.work, it.misses), came)
-                 for it, came in zip(given.arrivals.requests, given.comings.turns)]
-        moved.sort(key=lambda it: (it[0].thread, it[0].turn))
-        return self.standing(machine, placed(moved, len(given.arrivals.turns)))
-
-    def standing(self, machine: Machine, requests: list[tuple[Request, int, int]]) -> Moved:
-        """The arrivals of requests that are placed; those that are left out are counted."""
-        stand = [(Request(it.thread, turn, it.id, it.work, it.misses), came)
-                 for it, came, turn in requests if turn >= 0]
-        arrivals = replace(self.given.arrivals, requests=tuple(it for it, _ in stand))
-        owners = [task for task, limit in enumerate(machine.limits) for _ in range(limit)]
-        left = [owners[it.thread] for it, _, turn in requests if turn < 0]
-        told = self.given.comings.left_out
-        left_out = {task: told.get(task, 0) + left.count(task) for task in range(len(machine.tasks))}
-        comings = Comings(tuple(came for _, came in stand), left_out)
-        return Moved(arrivals.text(), comings.text(arrivals.requests))
+        came: list[Word] = [] if given.came is None else ["--came", Text(given.came)]
+        ran = self.view.ask(["move", "--to", Text(machine.text()), *came, "--write-came", Came()],
+                            given.machine.text() + SEPARATOR + given.text)
+        if ran.status:
+            lacks = NO_TASK.search(ran.err)
+            raise NoTask(lacks[0]) if lacks else refused(ran)
+        return Moved(ran.out, ran.came)

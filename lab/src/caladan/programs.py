@@ -199,8 +199,8 @@ def refused(ran: Ran) -> Refusal:
 
 
 def places() -> list[str]:
-    """Where the program may be: beside this program, at the top of the checkout that this package is in, or in the prefix
-    that it is installed in."""
+    """Where the program may be: beside this program, at the top of the checkout that this package is in, or in the
+    prefix that it is installed in."""
     here = os.path.dirname(os.path.realpath(sys.argv[0] or "."))
     checkout = os.path.dirname(os.path.dirname(os.path.dirname(os.path.dirname(os.path.realpath(__file__)))))
     return [f"{here}/{VIEW}", f"{checkout}/{VIEW}", f"{os.path.dirname(checkout)}/bin/{VIEW}"]
@@ -227,8 +227,8 @@ def built(file: str) -> str:
         if ran.status or not version:
             raise Refusal(f"{file} is no {VIEW}: --program FILE names one")
         if version[1].decode() != __version__:
-            raise Refusal(f"{file} is {VIEW} {version[1].decode()}, and this is caladan_lab {__version__}: install both "
-                          "of one version, or name another with --program FILE")
+            raise Refusal(f"{file} is {VIEW} {version[1].decode()}, and this is caladan_lab {__version__}: install "
+                          "both of one version, or name another with --program FILE")
         its_own = re.search(r"^caladan_view: (?:the proved program, (.*)|unproved, (.*); make )", ran.err, re.M)
         if its_own:
             return its_own[1] or its_own[2]

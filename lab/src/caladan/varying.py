@@ -28,7 +28,7 @@ Variations = Sequence[Variation]
 Each = Callable[[Callable[[int], Optional[Refusal]], Iterable[int]], Iterable[Optional[Refusal]]]
 
 
-def _key_of(said: str, names: Sequence[str]) -> str:
+def key_of(said: str, names: Sequence[str]) -> str:
     """The key of a word: with the number of its task in place of one of these names."""
     place, point, name_of_field = said.rpartition(".")
     name = place.removeprefix("task.")
@@ -46,7 +46,7 @@ def variations_of(words: Sequence[str], names: Sequence[str]) -> list[Variation]
         said, equals, values = word.partition("=")
         if not equals:
             raise Refusal(f"{FLAG} {word}: a key is varied as task.0.delay=10,20: the key, =, and its values")
-        key = _key_of(said, names)
+        key = key_of(said, names)
         if any(it.key == key for it in found):
             raise Refusal(f"{FLAG} {word}: this key is varied already")
         found.append(Variation(key, said, tuple(values.split(","))))

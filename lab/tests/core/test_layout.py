@@ -62,7 +62,8 @@ def test_no_constant_is_there_that_the_header_has_not() -> None:
 
 
 def texts_of_header(name: str) -> tuple[str, ...]:
-    body = re.search(rf"^static inline const char \*caladan_{name}_text\(.*?texts\[\] = {{(.*?)}};", HEADER, re.S | re.M)
+    found = rf"^static inline const char \*caladan_{name}_text\(.*?texts\[\] = {{(.*?)}};"
+    body = re.search(found, HEADER, re.S | re.M)
     assert body
     return tuple(re.findall(r'"([^"]*)"', body[1]))
 

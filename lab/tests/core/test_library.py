@@ -33,8 +33,8 @@ def test_where_there_is_none_it_is_said_what_to_do(none: None) -> None:
     with pytest.raises(NoLibrary) as why:
         Scheduler(TABLE)
     name = f"libcaladan_of_nowhere.so.{core.VERSION}"
-    assert str(why.value) == (f"there is no {name}: install it (the package libcaladan-dev, or make install_library), or "
-                              "name its file in CALADAN_LIBRARY")
+    assert str(why.value) == (f"there is no {name}: install it (the package libcaladan-dev, or make install_library), "
+                              "or name its file in CALADAN_LIBRARY")
 
 
 def test_a_file_that_is_not_there_is_named(monkeypatch: pytest.MonkeyPatch) -> None:
@@ -82,6 +82,7 @@ def test_it_is_found_beside_what_is_installed(library: str, tmp_path: Path, at: 
     shutil.copytree(PACKAGE, tmp_path / at / "caladan")
     shutil.copy(library, tmp_path / lib / "libcaladan_c.so")
     environment = {name: it for name, it in os.environ.items() if name != "CALADAN_LIBRARY"}
-    ran = subprocess.run([sys.executable, "-B", "-W", "ignore", "-c", ASKS], input=TABLE, text=True, capture_output=True,
-                         env={**environment, "PYTHONPATH": str(tmp_path / at)}, check=False)
+    environment["PYTHONPATH"] = str(tmp_path / at)
+    ran = subprocess.run([sys.executable, "-B", "-W", "ignore", "-c", ASKS], input=TABLE, text=True,
+                         capture_output=True, env=environment, check=False)
     assert (ran.stdout.strip(), ran.stderr) == (str(tmp_path / lib / "libcaladan_c.so"), "")

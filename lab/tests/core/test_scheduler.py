@@ -24,11 +24,31 @@ def facts(it: Scheduler | Guard, sent: int, taken: int) -> None:
 
 def test_a_look_that_does_not_fit_is_named(library: str, lie: Look, waits: Look) -> None:
     with Scheduler(TABLE, library=library) as it:
-        with pytest.raises(Unfit, match=r"^a look does not fit: thread 0, Look\(room=1, number=1, running=129\)") as why:
+        with pytest.raises(Unfit) as why:
             it.run(111, 0, [lie])
+        assert str(why.value) == ("a look does not fit: thread 0, Look(room=1, number=1, running=129): misshapen: "
+                                  "running or misses is out of range")
         assert (why.value.thread, why.value.look, why.value.answer) == (0, lie, core.UNFIT)
         assert (it.first_unfit([lie]), it.first_unfit([waits])) == (0, None)
         assert it.run_each(111, 0, [lie]) == ([core.MISSHAPEN], [])
+
+
+@pytest.mark.parametrize("look, judged, why", [
+    (Look(number=1, misses=(1 << 56) + 1), core.MISSHAPEN, "misshapen: running or misses is out of range"),
+    (Look(busy=1, number=2, second=2), core.NO_PAIR, "its versions are no busy pair"),
+    (Look(busy=1, number=3, second=4), core.NO_PAIR, "its versions are no busy pair"),
+    (Look(number=0, stamp=105), None, "it does not follow what the thread showed before")])
+def test_why_a_look_does_not_fit(library: str, waits: Look, look: Look, judged: core.Judgement, why: str) -> None:
+    """What a thread shows, after `waits`; a guard says more of the last, which fell back."""
+    with Scheduler(TABLE, library=library) as it, Guard(TABLE, library=library) as guard:
+        it.run(105, 0, [waits])
+        guard.run(105, 0, [waits], [])
+        with pytest.raises(Unfit) as unfit:
+            it.run(106, 0, [look])
+        assert (unfit.value.judged, str(unfit.value).rpartition("): ")[2]) == (judged, why)
+        with pytest.raises(Unfit) as unfit:
+            guard.run(106, 0, [look], [])
+        assert unfit.value.judged == (judged or core.PLACE_FELL)
 
 
 def test_passes_from_a_grant_to_a_thread_that_is_gone(library: str, waits: Look) -> None:
@@ -113,8 +133,10 @@ def test_a_table_is_bytes_or_a_text(library: str, table: str | bytes) -> None:
 
 
 @pytest.mark.parametrize("table, fault, told", [
-    ("cores = 3\n", Answer.MISSING_KEY, "the table lacks a key"), ("# \u2713\n", Answer.MISSING_KEY, "the table lacks a key"),
-    (TABLE + "colour = 1\n", Answer.UNKNOWN_KEY, "the table has an unknown key"), ("=", Answer.NOT_TOML, "the table is not TOML")])
+    ("cores = 3\n", Answer.MISSING_KEY, "the table lacks a key"),
+    ("# \u2713\n", Answer.MISSING_KEY, "the table lacks a key"),
+    (TABLE + "colour = 1\n", Answer.UNKNOWN_KEY, "the table has an unknown key"),
+    ("=", Answer.NOT_TOML, "the table is not TOML")])
 def test_a_table_that_is_none_is_refused(library: str, table: str, fault: Answer, told: str) -> None:
     with pytest.raises(CallRefused) as why:
         Scheduler(table, library=library)

@@ -7,7 +7,7 @@ from typing import Optional, Sequence
 from ..arrivals import is_some_within
 from ..files import STANDARD, Output, Source, joined, read_named
 from ..labels import Labels, names_of, table_names
-from ..moving import Given, HandMover, Mover, NoTask
+from ..moving import Given, NoTask, ProgramMover
 from ..plans import plan_of
 from ..pool import each
 from ..programs import viewer
@@ -90,7 +90,7 @@ def refuse_empty_window(asked: Asked, given: Given) -> None:
     first, after = asked.number("from"), asked.number("to")
     if first is None and after is None:
         return
-    if not is_some_within(given.arrivals, given.comings, first, after):
+    if not is_some_within(given.comings, first, after):
         raise Refusal(NONE_CAME)
 
 
@@ -111,7 +111,7 @@ def runs_of(asked: Asked, reading: Reading, variations: Variations, labels: Labe
         arrivals = replace(arrivals, came=came[1])
     refuse_empty_window(asked, arrivals)
     names = [table_name(variations, it) for it in range(len(machines))]
-    return Runs(reading.view, terms_of(asked), machines, HandMover(arrivals), names)
+    return Runs(reading.view, terms_of(asked), machines, ProgramMover(reading.view, arrivals), names)
 
 
 def sheet_of(runs: Runs, variations: Variations, labels: Labels, has_came: bool, is_csv: bool) -> bytes:
@@ -126,7 +126,8 @@ def answer(asked: Asked, reading: Reading, variations: Variations, labels: Label
     """What is written of a comparison of an input, with the file of when its requests came, by its name."""
     table = asked.number("write-input")
     if table is not None:
-        return input_text(*tables_of(asked, reading, variations, labels), variations, table)
+        machines, arrivals = tables_of(asked, reading, variations, labels)
+        return input_text(ProgramMover(reading.view, arrivals), machines, variations, table)
     runs = runs_of(asked, reading, variations, labels, came)
     return sheet_of(runs, variations, labels, came is not None, asked.has("csv"))
 
@@ -136,17 +137,15 @@ def table_name(variations: Variations, table: int) -> str:
     return setting_text(variations, table) if variations else f"table {table}"
 
 
-def input_text(machines: Sequence[Machine], given: Given, variations: Variations, table: int) -> bytes:
+def input_text(mover: ProgramMover, machines: Sequence[Machine], variations: Variations, table: int) -> bytes:
     """The input of the run of one of the tables, with the arrivals that it gets."""
     if table >= len(machines):
         raise Refusal(f"table {table} is not there: there are {len(machines)}, from 0")
-    mover: Mover = HandMover(given)
     try:
-        moved = mover.moved(machines[table])
+        moved = mover.asked(machines[table])
     except NoTask as fault:
         raise Refusal(f"{table_name(variations, table)} {fault.line}") from None
-    arrivals = given.arrivals.text() if moved.arrivals == given.text else moved.arrivals
-    return machines[table].text() + SEPARATOR + arrivals
+    return machines[table].text() + SEPARATOR + moved.arrivals
 
 
 def compare(asked: Asked) -> int:

@@ -23,8 +23,8 @@ class CompareSheet:
     is_csv: bool
 
     def table_name(self, table: int) -> str:
-        """What a table is called: by its value, by each key and its value where several are varied, by its name, or else
-        by its number."""
+        """What a table is called: by its value, by each key and its value where several are varied, by its name, or
+        else by its number."""
         if len(self.variations) == 1:
             return setting_at(self.variations, table)[0]
         if self.variations:
@@ -52,7 +52,8 @@ class CompareSheet:
         return row
 
     def of_task(self, label: str, task: int) -> Cells:
-        return self.row(f"{self.labels.task(task)} {shown(label, self.labels)}", [it.of(label, task) for it in self.runs])
+        name = f"{self.labels.task(task)} {shown(label, self.labels)}"
+        return self.row(name, [it.of(label, task) for it in self.runs])
 
     def of_crowd(self, label: str, task: int) -> Cells:
         figures = [Figure(it.crowd(label, task)) if task < it.tasks else None for it in self.runs]

@@ -5,6 +5,8 @@ import enum
 from typing import Sequence
 
 MOST_CORES, MOST_THREADS, MOST_ACTIONS = 128, 128, 338
+# The most cache misses that a record may say.
+MOST_MISSES = 1 << 56
 # Of a file of docs/FORMATS.md: its passes, and its bytes with the table.
 MOST_PASSES, MOST_TEXT = 1 << 20, 1 << 26
 # The room of a thread's command ring, in commands (caladan_pages.h).

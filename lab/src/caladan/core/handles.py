@@ -1,5 +1,5 @@
-"""A scheduler, a guard and an audit: handles that close themselves. Each may move between threads, and is used by one at
-a time. Numbers that do not fit, as a negative clock, are a ValueError before anything is called."""
+"""A scheduler, a guard and an audit: handles that close themselves. Each may move between threads, and is used by one
+at a time. Numbers that do not fit, as a negative clock, are a ValueError before anything is called."""
 from __future__ import annotations
 
 import ctypes
@@ -10,7 +10,7 @@ from typing import Any, Callable, Iterable, Iterator, Optional, Sequence, TypeVa
 
 from .constants import MOST_ACTIONS, PLACES, Answer, Judgement, Kind, Policy, TaskKind
 from .layout import (SIZE, U8, U32, U64, Action, Ban, Counts, Handle, Holder, Last, Look, Machine, Numbers, Refused,
-                     TableTask, Thread, fitting)
+                     TableTask, Thread, fault_of_shape, fitting)
 from .library import GivenLibrary, library_of
 from .refusals import CallRefused, Lost, NotPermitted, Unfit
 
@@ -186,7 +186,7 @@ class Counted(Kept):
     def unfit(self, looks: Sequence[Look]) -> Unfit:
         """That a look does not fit."""
         thread = self.first_unfit(looks) or 0
-        return Unfit(thread, looks[thread])
+        return Unfit(thread, looks[thread], fault_of_shape(looks[thread]))
 
 
 class Scheduler(Counted):
@@ -203,8 +203,8 @@ class Scheduler(Counted):
         return self.call("bandwidth_limit", answers=U64)
 
     def run(self, now: int, bandwidth: int, looks: Sequence[Look]) -> tuple[list[Judgement], list[Action]]:
-        """The next pass, at a clock in ticks: what was judged of each look, and the actions. Unfit names the first thread
-        whose look does not fit; nothing has changed then."""
+        """The next pass, at a clock in ticks: what was judged of each look, and the actions. Unfit names the first
+        thread whose look does not fit; nothing has changed then."""
         answer, judged, actions = self.passed("pass", now, bandwidth, looks)
         if answer == Answer.UNFIT:
             raise self.unfit(looks)

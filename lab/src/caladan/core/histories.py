@@ -6,17 +6,17 @@ import io
 import re
 from typing import Iterable, Iterator, NamedTuple, Sequence
 
-from .constants import (BEST_EFFORT, BUSY, HISTORY_HEADER, LATENCY_CRITICAL, MOST_ACTIONS, MOST_CORES, MOST_PASSES,
-                        MOST_TEXT, WORDS, Cause, Judgement, Kind)
+from .constants import (BEST_EFFORT, BUSY, HISTORY_HEADER, LATENCY_CRITICAL, MOST_ACTIONS, MOST_CORES, MOST_MISSES,
+                        MOST_PASSES, MOST_TEXT, WORDS, Cause, Judgement, Kind)
 from .handles import Scheduler, Table
-from .layout import FIELDS, OF_CAUSE, Action, Look, Machine, TableTask, taken
+from .layout import FIELDS, OF_CAUSE, Action, Look, Machine, TableTask, is_pair, taken
 from .library import GivenLibrary
 
 SIGNALS_NAME, HISTORY_NAME = "caladan-signals", HISTORY_HEADER.partition(",")[0]
 # The words of a record in version 1 of both formats.
 FIRST_WORDS = WORDS[:7]
 MOST_NUMBER, MOST_OF_TOML = (1 << 64) - 1, (1 << 63) - 1
-MOST_OF_WORD = {"running": MOST_CORES, "misses": 1 << 56}
+MOST_OF_WORD = {"running": MOST_CORES, "misses": MOST_MISSES}
 MOST_CLASS, MOST_CAP = 5, 16
 JUDGEMENTS = {"whole": Judgement.KEPT, "busy": Judgement.BUSY, "ahead": Judgement.AHEAD, "foreign": Judgement.FOREIGN}
 KINDS = {kind.name.lower(): kind for kind in Kind}
@@ -24,8 +24,8 @@ CAUSES = {"ban": Cause.FOR_BAN, "bandwidth": Cause.FOR_BANDWIDTH, "preempt": Cau
 
 
 class Pass(NamedTuple):
-    """A pass of a file: its clock in ticks, its bandwidth figure, a look and a judgement for each thread, and its actions,
-    of which signals have none."""
+    """A pass of a file: its clock in ticks, its bandwidth figure, a look and a judgement for each thread, and its
+    actions, of which signals have none."""
 
     now: int
     bandwidth: int
@@ -75,7 +75,7 @@ def look_of(row: Sequence[str], thread: int, words: Sequence[str]) -> tuple[Look
     look = Look(busy=row[0] == "busy", room=number(row[2], 1), number=number(row[3]))
     if look.busy:
         look.second = number(row[4])
-        must(look.second == look.number if look.number % 2 else look.second > look.number, "no busy pair")
+        must(is_pair(look), "no busy pair")
     for word, field in zip(words, row[4:] if not look.busy else ()):
         setattr(look, word, number(field, MOST_OF_WORD.get(word, MOST_NUMBER)))
     return look, JUDGEMENTS[row[0]]
@@ -160,8 +160,8 @@ def look_row(thread: int, look: Look, judged: int) -> str:
 
 def written(each: bool, now: int, bandwidth: int, looks: Iterable[Look], judged: Iterable[int],
             actions: Iterable[Action]) -> Iterator[str]:
-    """The rows of a pass in a history, version 2; `each`: it took looks one by one, and of a refused look the busy one is
-    written that was taken. The line HISTORY_HEADER stands before the first, and `end,N` behind the last of N."""
+    """The rows of a pass in a history, version 2; `each`: it took looks one by one, and of a refused look the busy one
+    is written that was taken. The line HISTORY_HEADER stands before the first, and `end,N` behind the last of N."""
     yield f"pass,{now},{bandwidth}"
     for thread, (look, it) in enumerate(zip(looks, judged)):
         was_refused = each and it > BUSY

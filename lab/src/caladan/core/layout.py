@@ -4,9 +4,9 @@ from __future__ import annotations
 import ctypes
 import enum
 import operator
-from typing import Any, ClassVar, Iterable
+from typing import Any, ClassVar, Iterable, Optional
 
-from .constants import BUSY, WORDS, Cause, CoreState, Kind, TaskKind
+from .constants import BUSY, MOST_CORES, MOST_MISSES, WORDS, Cause, CoreState, Judgement, Kind, TaskKind
 
 U8, U32, U64, SIZE = ctypes.c_uint8, ctypes.c_uint32, ctypes.c_uint64, ctypes.c_size_t
 
@@ -106,8 +106,8 @@ class Look(Numbers):
 
 # The fields that each kind of action has besides, and how it is told.
 FIELDS: dict[int, tuple[str, ...]] = {
-    Kind.FREE: ("core",), Kind.UNBAN: ("core",), Kind.BAN: ("core", "thread", "started"), Kind.REVOKE: ("core", "cause"),
-    Kind.CAP: ("task", "cap"), Kind.GRANT: ("core", "thread", "core_class")}
+    Kind.FREE: ("core",), Kind.UNBAN: ("core",), Kind.BAN: ("core", "thread", "started"),
+    Kind.REVOKE: ("core", "cause"), Kind.CAP: ("task", "cap"), Kind.GRANT: ("core", "thread", "core_class")}
 ACTIONS: dict[int, str] = {
     Kind.FREE: "free core {core}", Kind.UNBAN: "unban core {core}",
     Kind.BAN: "ban core {core} for thread {thread} started {started}", Kind.CAP: "cap task {task} at {cap}",
@@ -119,7 +119,7 @@ REVOKED: dict[int, str] = {
 
 
 class Action(Numbers):
-    """An action of a pass. Fields that its kind does not use are 0. str() tells it as the report of caladan_sim does."""
+    """An action of a pass. Fields that its kind does not use are 0. str() tells it as a report of caladan_sim does."""
 
     enums = {"kind": Kind, "cause": Cause}
     _fields_ = [("kind", U8), ("core", U8), ("thread", U8), ("core_class", U8), ("cause", U8), ("by", U8), ("task", U8),
@@ -158,8 +158,8 @@ class Counts(Numbers):
 
 
 class Refused(Numbers):
-    """Where a pass was stopped: the number of the first action that is not permitted, from 0, or of all actions; why, and
-    of WHY_BANNED_HELD the core, of WHY_OVER_CAP the task."""
+    """Where a pass was stopped: the number of the first action that is not permitted, from 0, or of all actions; why,
+    and of WHY_BANNED_HELD the core, of WHY_OVER_CAP the task."""
 
     _fields_ = [("place", SIZE), ("why", U8), ("names", U8)]
     place: int
@@ -178,7 +178,7 @@ class Machine(Numbers):
 
 
 class TableTask(Numbers):
-    """What a table says of a task; `delay` and `request` are in ticks. Its threads are `limit` ones from the first on."""
+    """What a table says of a task; `delay` and `request` are in ticks. It has `limit` threads, from the first on."""
 
     enums = {"kind": TaskKind}
     _fields_ = [("kind", U8), ("guaranteed", U8), ("limit", U8), ("first_thread", U8), ("delay", U64),
@@ -201,8 +201,8 @@ class Thread(Numbers):
 
 
 class Holder(Numbers):
-    """Who has a core: the thread unless it is free; of a core that is being left the cause, and for a ban the core that it
-    was banned for, for a task that task."""
+    """Who has a core: the thread unless it is free; of a core that is being left the cause, and for a ban the core that
+    it was banned for, for a task that task."""
 
     enums = {"state": CoreState, "cause": Cause}
     _fields_ = [("state", U8), ("thread", U8), ("cause", U8), ("cause_of", U8)]
@@ -228,6 +228,18 @@ class Last(Numbers):
     granted: int
     thread: int
     task: int
+
+
+def is_pair(look: Look) -> bool:
+    """Whether the versions of a busy look are one odd version, given twice, or an even one and then a greater."""
+    return look.second == look.number if look.number % 2 else look.second > look.number
+
+
+def fault_of_shape(look: Look) -> Optional[Judgement]:
+    """Why a look fits no thread, whatever that showed before; None where it may fit."""
+    if look.busy:
+        return None if is_pair(look) else Judgement.NO_PAIR
+    return Judgement.MISSHAPEN if look.running > MOST_CORES or look.misses > MOST_MISSES else None
 
 
 def taken(look: Look, judged: int) -> Look:

@@ -3,7 +3,7 @@ from __future__ import annotations
 
 from typing import Optional, Sequence
 
-from .constants import ANSWER_TEXTS, BUSY, JUDGEMENT_TEXTS, WHY_TEXTS, Answer, Judgement, Why, text_of
+from .constants import ANSWER_TEXTS, JUDGEMENT_TEXTS, WHY_TEXTS, Answer, Judgement, Why, text_of
 from .layout import Action, Look, Refused
 
 
@@ -20,24 +20,20 @@ class CallRefused(ValueError):
         return f"{told}: {self.more}" if self.more else told
 
 
-def of_judgement(judged: Optional[Judgement]) -> str:
-    """Why a look is refused, where that was judged."""
-    return f": {text_of(JUDGEMENT_TEXTS, judged)}" if judged and judged > BUSY else ""
-
-
 class Unfit(CallRefused):
     """A look does not fit what its thread showed before, or has not the right shape: the first thread with such a look,
-    that look, and where it was judged why. Nothing has changed."""
+    that look, and its judgement, where that is known. Nothing has changed."""
 
     def __init__(self, thread: int, look: Look, judged: Optional[Judgement] = None) -> None:
-        super().__init__(Answer.UNFIT, f"thread {thread}, {look!r}{of_judgement(judged)}")
+        why = text_of(JUDGEMENT_TEXTS, judged) if judged else "it does not follow what the thread showed before"
+        super().__init__(Answer.UNFIT, f"thread {thread}, {look!r}: {why}")
         self.thread, self.look, self.judged = thread, look, judged
 
 
 class NotPermitted(CallRefused):
     """An action is not permitted: its place among those of the pass, from 0; the action, or None where the pass may not
-    end after them; why not, and of WHY_BANNED_HELD the core and of WHY_OVER_CAP the task that it names. `judged` has what
-    was judged of each look, where the pass took them one by one. Nothing has changed: hand the pass in again."""
+    end after them; why not, and of WHY_BANNED_HELD the core and of WHY_OVER_CAP the task that it names. `judged` has
+    what was judged of each look, where the pass took them one by one. Nothing has changed: hand it in again."""
 
     def __init__(self, refused: Refused, action: Optional[Action], judged: Sequence[Judgement]) -> None:
         self.refused, self.action, self.judged = refused, action, list(judged)

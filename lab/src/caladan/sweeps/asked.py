@@ -18,9 +18,9 @@ MOST_SEEDS = 1000
 
 @dataclass(frozen=True)
 class SweepAsked:
-    """What comes to tasks; the objectives; the keys that are varied; the window, from its first turn up to the one after
-    it; the seeds, the turns of a run and the ticks of a turn; the policies, the plan, what is written, and how many runs
-    are made at a time."""
+    """What comes to tasks; the objectives; the keys that are varied; the window, from its first turn up to the one
+    after it; the seeds, the turns of a run and the ticks of a turn; the policies, the plan, what is written, and how
+    many runs are made at a time."""
 
     loads: Loads
     objectives: tuple[Objective, ...]

@@ -23,8 +23,8 @@ SUMMARY = re.compile(r"^task (\d+) came (\d+) later (\d+) left out (\d+) load ",
 
 @dataclass(frozen=True)
 class Count:
-    """What came to a task: how many requests, how many of them before a later turn than they came to, and how many found
-    none."""
+    """What came to a task: how many requests, how many of them before a later turn than they came to, and how many
+    found none."""
 
     came: int
     later: int

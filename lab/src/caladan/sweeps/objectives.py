@@ -43,7 +43,8 @@ def objective_of(word: str, names: Sequence[str], tasks: Sequence[int]) -> Objec
     parts = parts_of(word)
     task = task_named(names, parts[0]) if parts else None
     if parts is None or (task is None and not names):
-        raise Refusal(f"{FLAG} {word}: an objective is as task.0.p99=65: a task, p50, p90, p99, p99.9 or max, and ticks")
+        raise Refusal(f"{FLAG} {word}: an objective is as task.0.p99=65: a task, p50, p90, p99, p99.9 or max, and "
+                      "ticks")
     if task is None:
         raise Refusal(f"{FLAG} {word}: the tasks are called {','.join(names)}")
     if task not in tasks:

@@ -36,8 +36,8 @@ class SweptRun:
 
 
 class Point:
-    """A load with a seed: its arrivals, which tables with the same limits have in common, are kept until the last of its
-    runs is made."""
+    """A load with a seed: its arrivals, which tables with the same limits have in common, are kept until the last of
+    its runs is made."""
 
     def __init__(self, load: int, seed: int, runs: int, parts: dict[str, int]) -> None:
         self.load, self.seed, self.runs, self.parts = load, seed, runs, parts

@@ -1,5 +1,5 @@
-"""Sweeps as a table: a row for each run, by loads, then by tables, by policies, and last by tasks; of several seeds three
-rows. Below it the settings that keep every objective."""
+"""Sweeps as a table: a row for each run, by loads, then by tables, by policies, and last by tasks; of several seeds
+three rows. Below it the settings that keep every objective."""
 from __future__ import annotations
 
 from typing import Optional, Sequence
@@ -102,8 +102,8 @@ class SweepSheet:
                                   for it in which)]
 
     def choices_at(self, load: int, verdict: Verdict) -> list[Cells]:
-        """The settings that keep every objective at a load: those first that leave most to best effort, of several seeds
-        in the median."""
+        """The settings that keep every objective at a load: those first that leave most to best effort, of several
+        seeds in the median."""
         kept = []
         for _, table, policy in (it for it in self.runs() if it[0] == load):
             if verdict.keeps_all(load, table, policy):

@@ -4,6 +4,14 @@ import re
 from .case import Answer
 
 KEPT_NAME = "caladan_view"
+# What reads a trace, as the kept program says it and as it is said since some of these are caladan_lab's words.
+READERS = {
+    "`caladan_sim lockstep` and `sim`, `caladan_view measure`, `compare`, `timeline`, `spans`, `series` and `requests`":
+        "`caladan_sim lockstep` and `sim`, `caladan_view measure`, `spans`, `series`, `requests`, `turns` and `move`, "
+        "and `caladan_lab compare` and `timeline`",
+    "`caladan_sim audit`, `caladan_view measure`, `timeline`, `spans`, `series` and `explain`":
+        "`caladan_sim audit`, `caladan_view measure`, `spans`, `series` and `explain`, and `caladan_lab timeline`",
+}
 
 
 def fronts(text: str, name: str) -> str:
@@ -14,6 +22,8 @@ def fronts(text: str, name: str) -> str:
 
 def neutral(text: str, name: str) -> str:
     """A text in which the name may be either, where it stands within a line, as a text names what reads an input."""
+    for was, now in READERS.items():
+        text = text.replace(was, now)
     either = f"(?:{re.escape(name)}|{KEPT_NAME})"
     return re.sub(rf"(?m)(?<!^)(?<!^Usage: )(?<![\w./-]){either}(?![\w-])", "PROGRAM", text)
 

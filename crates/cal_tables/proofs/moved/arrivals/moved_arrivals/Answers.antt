@@ -14,7 +14,7 @@ each_placed-requires-clause-within c =
     let given = c.args.given.now in
     let table = c.args.table.now in
     let arrivals = c.args.arrivals.now in
-    let order = rw c.in_ok-moved.ensures.moved at c.in_ok-ordered.ensures.ordered.same in
+    let order = rw c.in_ok-moved.ensures.moved at c.in_ok-ordered.ensures.same in
     let turns = length arrivals.turns in
     let within : Each (λ (one : Coming). one.arrival.turn < turns) c.in_ok-ordered.ordered.items =
     each_reordered (λ (one : Coming). one.arrival.turn < turns) (each_moved given table c.args.comings.now) c.in_ok-ordered.ordered.items order
@@ -28,7 +28,7 @@ returns-clause-moved c = record {
   turns = search rules;
   tasks = search rules;
   ordered = c.in_ok-ordered.ordered.items;
-  in_order = subst (λ l. AreInOrder l c.in_ok-ordered.ordered.items) c.in_ok-moved.ensures.moved c.in_ok-ordered.ensures.ordered;
+  in_order = subst (λ l. AreInOrder l c.in_ok-ordered.ordered.items) c.in_ok-moved.ensures.moved c.in_ok-ordered.ensures;
   placed = search rules;
   requests = search rules;
 }

@@ -1,0 +1,1 @@
+"""A history or a run as trace events, which Perfetto and chrome://tracing open."""
