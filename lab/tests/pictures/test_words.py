@@ -5,8 +5,10 @@ import csv
 import io
 import os
 import pty
+import signal
 import subprocess
 import sys
+import time
 from pathlib import Path
 from typing import Callable, Sequence
 
@@ -321,3 +323,33 @@ def arrivals_in(folder: Path) -> Path:
     file = folder / "arrivals"
     file.write_text(input_of("lockstep/tour").partition("---\n")[2])
     return file
+
+
+def test_a_closed_standard_input_is_told(tmp_path: Path) -> None:
+    ran = subprocess.run(f"exec '{sys.executable}' '{TOP}/caladan_lab' seeds -o x.svg <&-", shell=True, cwd=tmp_path,
+                         capture_output=True, text=True, check=False)
+    assert (ran.returncode, ran.stdout, ran.stderr) == (2, "", "caladan_lab: the standard input is closed\n")
+
+
+def test_an_interrupt_leaves_no_picture(tmp_path: Path) -> None:
+    words = ["sweep", "--load", "0.1,0.2,..,0.9", "--turns", "20000", "--seeds", "9", example("sweep/team")]
+    with subprocess.Popen([*LAB, *words, "-o", "x.svg"], cwd=tmp_path, start_new_session=True,
+                          env={**os.environ, "CALADAN_VIEW": VIEW}) as process:
+        time.sleep(2)
+        process.send_signal(signal.SIGINT)
+        assert process.wait() == -signal.SIGINT
+    assert os.listdir(tmp_path) == []
+    for _ in range(100):
+        if not is_there(process.pid):
+            return
+        time.sleep(0.1)
+    pytest.fail("a process is left")
+
+
+def is_there(group: int) -> bool:
+    """Whether a group has a process."""
+    try:
+        os.killpg(group, 0)
+    except ProcessLookupError:
+        return False
+    return True
