@@ -1,4 +1,3 @@
-pub mod AsWorked
 pub mod ByHolders
 pub mod Ending
 pub mod Legality

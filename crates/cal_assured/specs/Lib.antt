@@ -2,4 +2,3 @@ pub mod Guarantee
 pub mod Histories
 pub mod Laws
 pub mod Rings
-pub mod Worked

@@ -12,7 +12,6 @@ mod histories;
 mod order;
 mod passes;
 mod rings;
-mod worked;
 
 pub use histories::{nothing_is_legal, one_pass_more_is_legal, prefixes_are_legal};
 pub use order::{places_have_their_task, tasks_have_their_place, turns_are_in_order};
@@ -22,4 +21,3 @@ pub use passes::{
     the_later_comes_first,
 };
 pub use rings::rings_have_room;
-pub use worked::{bans_are_as_worked, flight_is_as_worked, kept_is_as_worked, order_is_as_worked};

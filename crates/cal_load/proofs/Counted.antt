@@ -1,20 +1,22 @@
 -- Requests with more at their end, and the counts of what came to some tasks with one more.
-use Rattle.std.proofs.Common.{◌≡◌, ◌≢◌, ◌<◌, ◌≤◌, ◌+◌, ◌∙◌, ◌⊎◌, inl, inr, ℕ, List, [], ◌∷◌, ◌++◌, length, Some, slice_get, refl, ap, sym, subst, append_assoc, arith, length-append}
+use Rattle.std.proofs.Common.{◌≡◌, ◌≢◌, ◌<◌, ◌≤◌, ◌+◌, ◌∙◌, ◌⊎◌, inl, inr, ℕ, List, [], ◌∷◌, ◌++◌, All, length, Some, slice_get, refl, ap, sym, subst, append_assoc, arith, length-append}
 use Rattle.std.proofs.lemmas.List.{append-nil}
 use Rattle.std.proofs.lemmas.List.Sums.{sum_by_push}
 use Rattle.std.proofs.lemmas.Bool.{cases_eq}
 use Rattle.std.proofs.lemmas.Option.{slice_get_within}
 use Rattle.cal_load.specs.Built.{AreBuilt, HasMoreFor}
-use Rattle.cal_load.specs.Counts.{came_in}
-use Rattle.cal_load.specs.Made.{HasLoad, HasCount, IsCountOf, AreCountedBy, AreCountsOf, AreGathered}
+use Rattle.cal_load.specs.Comings.{IsComingTo, IsQueue}
+use Rattle.cal_load.specs.Counts.{came_in, count_of}
+use Rattle.cal_load.specs.Made.{AreCountedBy, AreCountsOf, AreGathered, HasCount, IsCountOf, IsLoadCount, IsLoadOf, IsPut}
 use Rattle.cal_load.specs.declared.made.Count.{Count}
 use Rattle.cal_load.specs.declared.made.Gathered.{Gathered}
 use Rattle.cal_load.specs.declared.made.TheConstants.{MOST_REQUESTS}
+use Rattle.cal_load.specs.declared.making.Coming.{Coming}
 use Rattle.cal_load.specs.declared.making.TaskLoad.{TaskLoad}
 use Rattle.cal_machine.specs.Table.{Table}
-use Rattle.cal_machine.specs.Tasks.{first_thread, task_at, task_of, threads_in}
+use Rattle.cal_machine.specs.Tasks.{first_thread, task_at, threads_in}
 use Rattle.cal_machine.proofs.Last.{slice_get-last, slice_get-other}
-use Rattle.cal_machine.proofs.ThreadNumbers.{first_next, task_there}
+use Rattle.cal_machine.proofs.ThreadNumbers.{first_next, next_le, task_there}
 use Rattle.cal_trace.specs.History.Ranges.{Each}
 use Rattle.cal_trace.specs.declared.arrivals.Arrival.{Arrival}
 use Rattle.cal_trace.proofs.ListLemmas.EachLater.{later_push}
@@ -47,11 +49,10 @@ more_on first middle after misses old mid new a b le lt =
       missed = each_append (λ x. x.request.misses ≡ misses) a.own b.own a.missed b.missed;
     }
 
-counted_push : (table : Table) (loads : List TaskLoad) (counts : List Count) (count : Count) (requests own : List Arrival) → AreCountedBy table loads counts requests
-    → IsCountOf table loads count own → AreCountedBy table loads (counts ++ count ∷ []) (requests ++ own)
-counted_push table loads [] count requests own none is = (own, [], rw none (sym (append-nil own)), is, refl)
-counted_push table loads (c ∷ counts) count requests own h is =
-    (h.0, h.1 ++ own, ap (λ l. l ++ own) h.2 ∙ append_assoc h.0 h.1 own, h.3, counted_push table loads counts count h.1 own h.4 is)
+pub counted_push : (P : Count → List Arrival → Type 0) (counts : List Count) (count : Count) (requests own : List Arrival) → AreCountedBy P counts requests → P count own
+    → AreCountedBy P (counts ++ count ∷ []) (requests ++ own)
+counted_push P [] count requests own none is = (own, [], rw none (sym (append-nil own)), is, refl)
+counted_push P (c ∷ counts) count requests own h is = (h.0, h.1 ++ own, ap (λ l. l ++ own) h.2 ∙ append_assoc h.0 h.1 own, h.3, counted_push P counts count h.1 own h.4 is)
 
 has_more : (counts : List Count) (count : Count) (task : ℕ) → HasCount counts task → HasCount (counts ++ count ∷ []) task
 has_more counts count task h =
@@ -89,32 +90,56 @@ gathered_skip table loads turns n gathered lt h none = record {
       (let next = first_next table.tasks n lt in omega (arith, next)) h.built;
   counts = counts_skip loads n gathered.counts.items h.counts none;
   counted = h.counted;
-  came = h.came;
   few = h.few;
 }
 
--- the requests of the next task are put, and counted
-pub gathered_more : (table : Table) (loads : List TaskLoad) (turns n first threads : ℕ) (old new : Gathered) (count : Count) → n < length table.tasks → first ≡ first_thread table.tasks n
-    → threads ≡ (task_at table.tasks n).limit → AreGathered table loads turns n old → (has : HasLoad loads count.task count.load) → count.task ≡ n
-    → HasMoreFor first (first + threads) has.of_task.misses old.requests.items new.requests.items → AreBuilt (threads_in table.tasks) turns (first + threads) new.requests.items
-    → length new.requests.items + count.left_out ≡ length old.requests.items + count.came → new.counts.items ≡ old.counts.items ++ count ∷ []
-    → new.came ≡ old.came + count.came → new.came ≤ MOST_REQUESTS → AreGathered table loads turns (n + 1) new
-gathered_more table loads turns n first threads old new count lt at many h has is own built counted counts came few =
-    let next : first + threads ≡ first_thread table.tasks (n + 1) = let e = first_next table.tasks n lt in omega (arith, e, at, many) in
-    let long = ap (λ (l : List Arrival). length l) own.more ∙ length-append old.requests.items own.own in
-    let all : Each (λ a. task_of table.tasks a.thread ≡ count.task) own.own = record {
-      at = λ k a e.
-          let within = own.each.at k a e in
-          let from = within.0 in
-          let below = within.1 in
-          task_there table.tasks n a.thread lt (omega (arith, from, at)) (omega (arith, below, at, many)) ∙ sym is;
-    } in
-    let of : IsCountOf table loads count own.own = record { asked = has; counted = omega (arith, long, counted); own = all; missed = own.missed } in
-    let pushed = counted_push table loads old.counts.items count old.requests.items own.own h.counted of in
-    record {
-      built = subst (λ n. AreBuilt (threads_in table.tasks) turns n new.requests.items) next built;
-      counts = subst (λ l. AreCountsOf loads (n + 1) l) (sym counts) (counts_push loads n old.counts.items count h.counts is);
-      counted = rw (counts, own.more) pushed;
-      came = came ∙ ap (λ n. n + count.came) h.came ∙ sym (sum_by_push (λ (c : Count). c.came) old.counts.items count) ∙ ap came_in (sym counts);
-      few = few;
-    }
+-- what comes to the next task is put
+pub task_put : (table : Table) (turns n misses first : ℕ) (coming : Coming) (old new : Gathered) → n < length table.tasks → first ≡ first_thread table.tasks n
+    → IsComingTo (task_at table.tasks n).limit turns coming → AreBuilt (threads_in table.tasks) turns (first_thread table.tasks n) old.requests.items
+    → (put : IsPut n misses first coming old new)
+    → AreBuilt (threads_in table.tasks) turns (first_thread table.tasks (n + 1)) new.requests.items × IsCountOf table misses (count_of n coming) put.own.own
+task_put table turns n misses first coming old new lt at comes built put =
+    let threads = threads_in table.tasks in
+    let many = comes.queues in
+    let next : first + length coming.queues.items ≡ first_thread table.tasks (n + 1) = let e = first_next table.tasks n lt in omega (arith, e, at, many) in
+    let room : first + length coming.queues.items ≤ threads = let e = next_le table.tasks n lt in omega (arith, e, at, many) in
+    let all = subst (λ (m : ℕ). All (IsQueue m) coming.queues.items) comes.ends comes.is.queues in
+    let before = subst (λ (m : ℕ). AreBuilt threads turns m old.requests.items) (sym at) built in
+    let few = comes.few in
+    let limit : MOST_REQUESTS ≡ 1000000 = refl in
+    let counted = comes.is.counted (omega (arith, few, limit)) in
+    let long = ap (λ (l : List Arrival). length l) put.own.more ∙ length-append old.requests.items put.own.own in
+    let more = put.many in (
+      subst (λ (m : ℕ). AreBuilt threads turns m new.requests.items) next (put.built threads turns before room all),
+      record {
+        counted = omega (arith, long, more, counted);
+        own = record {
+          at = λ k a e.
+              let within = put.own.each.at k a e in
+              let from = within.0 in
+              let below = within.1 in
+              task_there table.tasks n a.thread lt (omega (arith, from, at)) (omega (arith, below, at, many));
+        };
+        missed = put.own.missed;
+      },
+    )
+
+-- what comes to the next task by its load is put, where it is not too much
+pub gathered_more : (table : Table) (loads : List TaskLoad) (turns n first : ℕ) (load : TaskLoad) (coming : Coming) (old new : Gathered) → n < length table.tasks
+    → first ≡ first_thread table.tasks n → IsLoadOf loads n load → IsComingTo (task_at table.tasks n).limit turns coming → AreGathered table loads turns n old
+    → IsPut n load.misses first coming old new → came_in old.counts.items + coming.came ≤ MOST_REQUESTS
+    → AreGathered table loads turns (n + 1) new × (came_in new.counts.items ≡ came_in old.counts.items + coming.came)
+gathered_more table loads turns n first load coming old new lt at asked comes h put few =
+    let now = task_put table turns n load.misses first coming old new lt at comes h.built put in
+    let count : Count = count_of n coming in
+    let of : IsLoadCount table loads count put.own.own = record { load = load; asked = asked; of = now.1 } in
+    let pushed = counted_push (IsLoadCount table loads) old.counts.items count old.requests.items put.own.own h.counted of in
+    let came : came_in new.counts.items ≡ came_in old.counts.items + coming.came = ap came_in put.counts ∙ sum_by_push (λ (c : Count). c.came) old.counts.items count in (
+      record {
+        built = now.0;
+        counts = subst (λ (l : List Count). AreCountsOf loads (n + 1) l) (sym put.counts) (counts_push loads n old.counts.items count h.counts refl);
+        counted = rw (put.counts, put.own.more) pushed;
+        few = omega (arith, came, few);
+      },
+      came,
+    )

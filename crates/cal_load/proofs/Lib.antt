@@ -2,7 +2,4 @@ mod Assembled
 mod Built
 mod ClockLemmas
 mod Counted
-mod Dealt
-mod DealtDrawn
-mod On
-mod TasksOfLog
+mod LogCounts

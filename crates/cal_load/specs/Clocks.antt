@@ -1,5 +1,5 @@
 -- The clocks of a run that is made.
-use Rattle.std.specs.Prelude.{◌≡◌, ◌≤◌, ◌+◌, ◌*◌, ◌/◌, nat_lt, min, max, ℕ, List, length}
+use Rattle.std.specs.Prelude.{◌≡◌, ◌≤◌, ◌+◌, ◌*◌, ◌/◌, nat_lt, ℕ, List, length}
 use Rattle.std.specs.Prelude.{Some, slice_get, if◌then◌else◌}
 use Rattle.cal_load.specs.declared.clocks.Timing.{Timing}
 use Rattle.cal_load.specs.declared.clocks.TheConstants.{MOST_TICKS}
@@ -12,10 +12,6 @@ pub record IsTiming (timing : Timing) : Type 0 where
   pub most_turns : timing.turns ≤ MOST_TURNS
   pub some_ticks : 1 ≤ timing.ticks
   pub most_ticks : timing.ticks ≤ MOST_TICKS
-
--- how many turns a run has, or the nearest that arrivals can have
-abbrev pub nearest_turns : Timing → ℕ
-nearest_turns timing = min (max timing.turns 1) MOST_TURNS
 
 -- so many things, the one at each place being this
 pub record AreAt {X : Type 0} (many : ℕ) (at : ℕ → X) (xs : List X) : Type 0 where

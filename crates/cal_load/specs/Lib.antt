@@ -3,8 +3,6 @@ pub mod Clocks
 pub mod Comings
 pub mod Counts
 pub mod Decimals
-pub mod Drawn
-pub mod Giving
 pub mod Known
 pub mod Loads
 pub mod Logs
@@ -12,4 +10,3 @@ pub mod Made
 pub mod Refused
 pub mod Said
 pub mod Services
-pub mod Taken

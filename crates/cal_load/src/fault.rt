@@ -48,22 +48,6 @@ pub enum Why<'a> {
     NotAUnit,
     /// It is no length: a number above 0, with up to nine digits after the point, and a unit.
     NotALength,
-    /// It is no objective of the form `task.0.p99=65`.
-    NotAnObjective,
-    /// No requests come to the task of the objective.
-    NothingComes,
-    /// It is no key of a table with values.
-    NotAVariation,
-    /// The key is varied before.
-    VariedTwice,
-    /// With this key there would be more tables than so many.
-    TooManyTables(u64),
-    /// It is no turn of a run, or its end: a number of at most so many turns.
-    NotATurn(u64),
-    /// There are no turns from this one up to that.
-    NoTurns(u64, u64),
-    /// It is no number of seeds, of which there may be so many.
-    NotSeeds(u64),
 }
 
 /// The reason in words.
@@ -125,18 +109,6 @@ shares, as 90%:1,10%:20",
                 "a length is a number above 0, with up to nine digits after the point, and ns, \
 us, ms or s, as 10us",
             ),
-            Why::NotAnObjective => f.write_str(
-                "an objective is as task.0.p99=65: a task, p50, p90, p99, p99.9 or max, and ticks",
-            ),
-            Why::NothingComes => f.write_str("the objective is of a task that has no load"),
-            Why::NotAVariation => f.write_str(
-                "a key is varied as task.0.delay=10,20: the key, =, and its values",
-            ),
-            Why::VariedTwice => f.write_str("this key is varied already"),
-            Why::TooManyTables(most) => write!(f, "the keys make more than {most} tables"),
-            Why::NotATurn(turns) => write!(f, "a turn is a number up to {turns}, the run's end"),
-            Why::NoTurns(first, after) => write!(f, "no turns are from {first} up to {after}"),
-            Why::NotSeeds(most) => write!(f, "a number of seeds is from 1 to {most}"),
         }
     }
 }

@@ -8,7 +8,6 @@ mod reading;
 mod row_fault;
 
 pub use columns::LogTerms;
-pub(crate) use giving::slot_of;
 pub use length::{LogScale, UNITS, scale_of};
 pub use logged::{logged_arrivals, turns_for};
 pub use reading::read_log;

@@ -1,28 +1,22 @@
 //! The arrivals of a plan.
 
-ghost use Rattle.std.specs.Prelude.{◌≡◌, ◌≢◌, ◌<◌, ◌≤◌, ◌+◌, ℕ, List, [], length, true, None};
-ghost use Rattle.std.specs.Prelude.{IfErr, IfOk, IfSome, Some, slice_get};
+ghost use Rattle.std.specs.Prelude.{◌≡◌, ◌≢◌, ◌<◌, ◌≤◌, ◌+◌, ℕ, List, [], length, None};
+ghost use Rattle.std.specs.Prelude.{IfErr, IfOk, IfSome, OnOk};
 ghost use Rattle.cal_machine.specs.Table.{Table};
-ghost use Rattle.cal_machine.specs.Tasks.{first_thread, task_at, threads_in};
+ghost use Rattle.cal_machine.specs.Tasks.{threads_in};
 ghost use Rattle.cal_load.specs.Built.{AreBuilt};
-ghost use Rattle.cal_load.specs.Clocks.{IsTiming, nearest_turns};
-ghost use Rattle.cal_load.specs.Comings.{IsComingTo};
-ghost use Rattle.cal_load.specs.Counts.{came_in};
-ghost use Rattle.cal_load.specs.Drawn.{AreArrivalsOf, AreDealtOf, AreDrawnFor, AreDrawnOf};
-ghost use Rattle.cal_load.specs.Drawn.{IsDealtTo, IsLoadAt, IsMadeAlone};
-ghost use Rattle.cal_load.specs.Loads.{flag_of, greatest_limit, measure_in};
-ghost use Rattle.cal_load.specs.Logs.{AreArrivals};
-ghost use Rattle.cal_load.specs.Made.{AreGathered, IsMadeOf, IsTimedBy};
+ghost use Rattle.cal_load.specs.Clocks.{IsTiming};
+ghost use Rattle.cal_load.specs.Counts.{came_in, count_of};
+ghost use Rattle.cal_load.specs.Loads.{flag_of, measure_in};
+ghost use Rattle.cal_load.specs.Made.{AreArrivals, AreGathered, IsLoadOf, IsMadeOf, IsPut};
+ghost use Rattle.cal_load.specs.Made.{IsTimedBy};
 ghost use Rattle.cal_load.specs.Refused.{IsRefusedFor};
-ghost use Rattle.cal_load.specs.declared.drawing.DrawnLoad.{DrawnLoad};
 ghost use Rattle.cal_load.specs.declared.making.TaskLoad.{TaskLoad};
 ghost use Rattle.cal_trace.specs.History.Ranges.{Each};
 
 use crate::clocks::{Timing, passes_of, turns_of};
 use crate::comings::came_of;
-use crate::drawing::{DrawnLoad, dealt};
 use crate::fault::{LoadFault, Why, refused};
-use crate::limits::greatest_limit;
 use crate::loads::{Measure, flag_of};
 use crate::making::{Coming, TaskLoad};
 use crate::requests::{put_queues, put_turns};
@@ -32,7 +26,6 @@ use cal_trace::{Arrival, Arrivals};
 use rand_core::SeedableRng;
 use rand_xoshiro::Xoshiro256PlusPlus;
 use std::alloc::{AllocError, Global};
-use std::slice;
 
 /// The most requests of all tasks.
 pub const MOST_REQUESTS: u64 = 1_000_000;
@@ -42,18 +35,12 @@ pub const MOST_REQUESTS: u64 = 1_000_000;
 pub struct Count {
     /// The number of the task.
     pub task: usize,
-    /// Its load, in thousandths.
-    pub load: u64,
     /// How many requests came.
     pub came: u64,
     /// How many of these come before a later turn than they came to, which was taken.
     pub later: u64,
-    /// How many of these were moved by more than one turn.
-    pub far: u64,
     /// How many found no turn any more, and are left out.
     pub left_out: u64,
-    /// The turn to which the first of these came.
-    pub left_from: Option<u64>,
     /// The turns that all others take.
     pub work: u64,
 }
@@ -70,25 +57,17 @@ pub struct ArrivalPlan<'a> {
 }
 
 impl<'a> ArrivalPlan<'a> {
-    /// The place of the load of a task, where it has one.
-    fn place_of(&self, task: usize) -> Option<usize>
-        ensures some { IfSome result (λ place. IsLoadAt self.now.loads.now place task) }
+    /// The load of a task, where it has one.
+    fn load_of(&self, task: usize) -> Option<&'a TaskLoad>
+        ensures some { IfSome result (λ load. IsLoadOf self.now.loads.now task load.now) }
         ensures none { result ≡ None → Each (λ load. load.task ≢ task) self.now.loads.now }
     {
         for place in 0..self.loads.len() {
             if self.loads[place].task == task {
-                return Some(place);
+                return Some(&self.loads[place]);
             }
         }
         None
-    }
-
-    /// The load at a place.
-    fn load_at(&self, place: usize) -> &'a TaskLoad
-        requires { place < length self.now.loads.now }
-        ensures { slice_get self.now.loads.now place ≡ Some result.now }
-    {
-        &self.loads[place]
     }
 
     /// What the loads are measured in: the first of them.
@@ -123,40 +102,26 @@ pub(crate) fn generator(seed: u64, task: usize) -> Xoshiro256PlusPlus {
     rng
 }
 
+/// What came to a task.
+fn count_of(task: usize, coming: &Coming) -> Count
+    ensures { result ≡ count_of task coming.now }
+{
+    Count {
+        task,
+        came: coming.came,
+        later: coming.later,
+        left_out: coming.left_out,
+        work: coming.work,
+    }
+}
+
 /// What came to the tasks so far.
 #[derive(Drop)]
 pub(crate) struct Gathered {
-    pub(crate) requests: Vec<Arrival>,
+    requests: Vec<Arrival>,
     /// The turn to which each of them came.
-    pub(crate) came_to: Vec<u64>,
-    pub(crate) counts: Vec<Count>,
-    /// How many requests came in all.
-    came: u64,
-}
-
-/// What came to a task by its load.
-fn count_of(load: &TaskLoad, coming: &Coming) -> Count
-    ensures { result ≡ record {
-      task = load.now.task;
-      load = load.now.load;
-      came = coming.now.came;
-      later = coming.now.later;
-      far = coming.now.far;
-      left_out = coming.now.left_out;
-      left_from = coming.now.left_from;
-      work = coming.now.work;
-    } }
-{
-    Count {
-        task: load.task,
-        load: load.load,
-        came: coming.came,
-        later: coming.later,
-        far: coming.far,
-        left_out: coming.left_out,
-        left_from: coming.left_from,
-        work: coming.work,
-    }
+    came_to: Vec<u64>,
+    counts: Vec<Count>,
 }
 
 impl Gathered {
@@ -171,46 +136,25 @@ impl Gathered {
             requests: Vec::new(alloc),
             came_to: Vec::new(alloc),
             counts: Vec::new(alloc),
-            came: 0,
         }
     }
 
-    /// Takes what comes to the next task by its load, of whose threads this is the first. Answers
-    /// false where more than `MOST_REQUESTS` came then.
-    fn take(&mut self, load: &TaskLoad, first: usize, coming: &Coming) -> Result<bool, AllocError>
+    /// Puts what comes to a task, of whose threads this is the first, each request with these misses.
+    pub(crate) fn put(
+        &mut self,
+        task: usize,
+        misses: u32,
+        first: usize,
+        coming: &Coming,
+    ) -> Result<(), AllocError>
         requires { first + length coming.now.queues.items ≤ 256 }
-        ensures gathered { (table : Table) (loads : List TaskLoad) (turns place : ℕ) →
-            load.now.task < length table.tasks →
-            first ≡ first_thread table.tasks load.now.task →
-            slice_get loads place ≡ Some load.now →
-            IsComingTo (task_at table.tasks load.now.task).limit turns coming.now →
-            AreGathered table loads turns load.now.task self.old →
-            IfOk result (λ fits. fits ≡ true →
-            AreGathered table loads turns (load.now.task + 1) self.new) }
-        ensures dealt { (table : Table) (loads : List TaskLoad) (drawn : List DrawnLoad)
-            (turns place : ℕ) (own : DrawnLoad) →
-            load.now.task < length table.tasks →
-            first ≡ first_thread table.tasks load.now.task →
-            slice_get loads place ≡ Some load.now → slice_get drawn place ≡ Some own →
-            IsDealtTo (task_at table.tasks load.now.task).limit turns own.requests.items
-            coming.now →
-            AreDealtOf table loads drawn turns load.now.task self.old →
-            IfOk result (λ fits. fits ≡ true →
-            AreDealtOf table loads drawn turns (load.now.task + 1) self.new) }
+        ensures { OnOk result (IsPut task misses first coming.now self.old self.new) }
     {
-        self.came = self.came.saturating_add(coming.came);
-        if self.came > MOST_REQUESTS {
-            return Ok(false);
-        }
-        put_queues(
-            &mut self.requests,
-            first,
-            coming.queues.as_slice(),
-            load.misses,
-        )?;
-        put_turns(&mut self.came_to, coming.queues.as_slice())?;
-        self.counts.push(count_of(load, coming))?;
-        Ok(true)
+        let queues = coming.queues.as_slice();
+        put_queues(&mut self.requests, first, queues, misses)?;
+        put_turns(&mut self.came_to, queues)?;
+        self.counts.push(count_of(task, coming))?;
+        Ok(())
     }
 
     /// What came, as arrivals of this timing. Fails only when out of memory.
@@ -238,134 +182,42 @@ impl Gathered {
     }
 }
 
-/// The requests of each load of a plan, in their order, each of a task drawn for as many threads as
-/// it has at most in these tables; nothing where more than `MOST_REQUESTS` come to one. Fails only
-/// when out of memory.
-fn all_drawn(
-    alloc: Global,
-    tables: &[Config],
-    plan: &ArrivalPlan<'_>,
-    turns: u64,
-) -> Result<Option<Vec<DrawnLoad>>, AllocError>
-    ensures { IfOk result (λ answer. IfSome answer (λ drawn.
-        AreDrawnFor (greatest_limit tables.now) plan.now.loads.now turns drawn.items)) }
-{
-    let mut drawn = Vec::new(alloc);
-    for place in 0..plan.loads.len() {
-        let load = plan.load_at(place);
-        let mut rng = generator(plan.seed, load.task);
-        let threads = greatest_limit(tables, load.task);
-        let Some(of_load) = load.draw(alloc, &mut rng, threads, turns)? else {
-            return Ok(None);
-        };
-        drawn.push(of_load)?;
-    }
-    Ok(Some(drawn))
-}
-
-/// What was drawn for the load at a place.
-fn drawn_at(drawn: &[DrawnLoad], place: usize) -> &DrawnLoad
-    requires { place < length drawn.now }
-    ensures { slice_get drawn.now place ≡ Some result.now }
-{
-    &drawn[place]
-}
-
-/// What comes to each task that has a load, by their numbers, of what was drawn for these; nothing
-/// where it is more than `MOST_REQUESTS`. Fails only when out of memory.
+/// What comes to each task that has a load, by their numbers; nothing where it is more than
+/// `MOST_REQUESTS`. Fails only when out of memory.
 fn all_that_come(
     alloc: Global,
     config: &Config,
     plan: &ArrivalPlan<'_>,
-    drawn: &[DrawnLoad],
     turns: u64,
 ) -> Result<Option<Gathered>, AllocError>
-    requires { AreDrawnOf plan.now.loads.now drawn.now }
-    ensures gathered { IfOk result (λ answer. IfSome answer
+    ensures { IfOk result (λ answer. IfSome answer
         (AreGathered config.now plan.now.loads.now turns (length config.now.tasks))) }
-    ensures dealt { IfOk result (λ answer. IfSome answer (AreDealtOf config.now
-        plan.now.loads.now drawn.now turns (length config.now.tasks))) }
 {
     config.limits();
     let mut gathered = Gathered::new(alloc);
+    let mut came = 0u64;
     for task in 0..config.tasks() {
-        let Some(place) = plan.place_of(task) else {
+        let Some(load) = plan.load_of(task) else {
             continue;
         };
         let (first, threads) = config.threads_of(task);
-        let load = plan.load_at(place);
-        let own = drawn_at(drawn, place);
-        let coming = dealt(alloc, own.requests.as_slice(), threads, turns)?;
-        if !gathered.take(load, first, &coming)? {
+        let mut rng = generator(plan.seed, task);
+        let Some(coming) = load.come(alloc, &mut rng, threads, turns)? else {
+            return Ok(None);
+        };
+        came = came.saturating_add(coming.came);
+        if came > MOST_REQUESTS {
             return Ok(None);
         }
+        gathered.put(task, load.misses, first, &coming)?;
     }
     Ok(Some(gathered))
 }
 
-/// The requests of each load of a plan, in their order, each of a task drawn for as many threads as
-/// it has at most in these tables: what comes to a task depends on the seed, its number, its load
-/// and, but for the threads of a load in cores, that limit alone. A timing that no arrivals can have
-/// is taken as the nearest.
-///
-/// The fault is that of this word, that of the first load, where more than `MOST_REQUESTS` come.
-pub fn drawn_loads<'a>(
-    alloc: Global,
-    tables: &[Config],
-    plan: &ArrivalPlan<'_>,
-    word: &'a str,
-) -> Result<Vec<DrawnLoad>, LoadFault<'a>>
-    ensures drawn { IfOk result (λ drawn. AreDrawnFor (greatest_limit tables.now)
-        plan.now.loads.now (nearest_turns plan.now.timing) drawn.items) }
-    ensures fault { IfErr result (IsRefusedFor (flag_of (measure_in plan.now.loads.now)) word.now
-        (Why.TooMany MOST_REQUESTS)) }
-{
-    let turns = plan.timing.nearest().turns;
-    let Some(drawn) = all_drawn(alloc, tables, plan, turns)? else {
-        let why = Why::TooMany(MOST_REQUESTS);
-        return Err(refused(flag_of(plan.measure()), word, why));
-    };
-    Ok(drawn)
-}
-
-/// The arrivals of what was drawn for the loads of a plan, for a table: so many passes and turns, and
-/// each request at the thread of its number among the task's, modulo its limit, before the turn to
-/// which it comes or the first after it that is free there. A timing that no arrivals can have is
-/// taken as the nearest.
-///
-/// The fault is that of this word, that of the first load, where more than `MOST_REQUESTS` come.
-pub fn dealt_arrivals<'a>(
-    alloc: Global,
-    config: &Config,
-    plan: &ArrivalPlan<'_>,
-    drawn: &[DrawnLoad],
-    word: &'a str,
-) -> Result<Made, LoadFault<'a>>
-    requires { AreDrawnOf plan.now.loads.now drawn.now }
-    // They fit the table, and of each task they have as many requests as its count says, each with
-    // the misses of its load.
-    ensures made { IfOk result (IsMadeOf config.now plan.now.loads.now) }
-    // Each task has all requests that were drawn for it, but those that are counted as left out.
-    ensures dealt { IfOk result (AreArrivalsOf config.now plan.now.loads.now drawn.now
-        (nearest_turns plan.now.timing)) }
-    ensures timed { IsTiming plan.now.timing →
-        IfOk result (λ made. IsTimedBy plan.now.timing made.arrivals) }
-    ensures few { IfOk result (λ made. came_in made.counts.items ≤ MOST_REQUESTS) }
-    ensures fault { IfErr result (IsRefusedFor (flag_of (measure_in plan.now.loads.now)) word.now
-        (Why.TooMany MOST_REQUESTS)) }
-{
-    let timing = plan.timing.nearest();
-    let Some(gathered) = all_that_come(alloc, config, plan, drawn, timing.turns)? else {
-        let why = Why::TooMany(MOST_REQUESTS);
-        return Err(refused(flag_of(plan.measure()), word, why));
-    };
-    let made = gathered.assembled(alloc, timing)?;
-    Ok(made)
-}
-
-/// The arrivals of a plan for a table: so many passes and turns, and the requests of its loads. What
-/// comes to a task depends on the seed, its number, its limit and its load alone. A timing that no
-/// arrivals can have is taken as the nearest.
+/// The arrivals of a plan for a table: so many passes and turns, and the requests of its loads, each
+/// before the turn to which it comes or the first after it that is free at its thread. What comes to a
+/// task depends on the seed, its number, its limit and its load alone. A timing that no arrivals can
+/// have is taken as the nearest.
 ///
 /// The fault is that of this word, that of the first load, where more than `MOST_REQUESTS` come.
 pub fn made_arrivals<'a>(
@@ -377,16 +229,17 @@ pub fn made_arrivals<'a>(
     // They fit the table, and of each task they have as many requests as its count says, each with
     // the misses of its load.
     ensures made { IfOk result (IsMadeOf config.now plan.now.loads.now) }
-    // The requests are drawn for this table alone, and dealt to its threads.
-    ensures drawn { IfOk result (IsMadeAlone config.now plan.now.loads.now
-        (nearest_turns plan.now.timing)) }
     ensures timed { IsTiming plan.now.timing →
         IfOk result (λ made. IsTimedBy plan.now.timing made.arrivals) }
     ensures few { IfOk result (λ made. came_in made.counts.items ≤ MOST_REQUESTS) }
     ensures fault { IfErr result (IsRefusedFor (flag_of (measure_in plan.now.loads.now)) word.now
         (Why.TooMany MOST_REQUESTS)) }
 {
-    let drawn = drawn_loads(alloc, slice::from_ref(config), plan, word)?;
-    let made = dealt_arrivals(alloc, config, plan, drawn.as_slice(), word)?;
+    let timing = plan.timing.nearest();
+    let Some(gathered) = all_that_come(alloc, config, plan, timing.turns)? else {
+        let why = Why::TooMany(MOST_REQUESTS);
+        return Err(refused(flag_of(plan.measure()), word, why));
+    };
+    let made = gathered.assembled(alloc, timing)?;
     Ok(made)
 }

@@ -1,8 +1,7 @@
 //! The requests that come to the threads of a task.
 
-ghost use Rattle.std.specs.Prelude.{◌≡◌, ◌<◌, ◌+◌, codes, length, IfErr, IfOk, OnOk};
+ghost use Rattle.std.specs.Prelude.{◌≡◌, ◌<◌, ◌+◌, ◌-◌, ◌^◌, codes, length, IfErr, IfOk, OnOk};
 ghost use Rattle.cal_load.specs.Comings.{IsComing, IsQueue, taken_in};
-ghost use Rattle.cal_load.specs.Giving.{IsGiving, IsNothing, IsTaken};
 ghost use Rattle.cal_load.specs.Refused.{IsRefusedFor};
 ghost use Rattle.cal_load.specs.Said.{Names};
 ghost use Rattle.cal_load.specs.Services.{IsWork};
@@ -94,7 +93,6 @@ impl Queue {
             OnOk result (IsQueue turns self.new) }
         ensures many { IfOk result (λ taken. length self.new.slots.items ≡
             length self.old.slots.items + taken_in taken) }
-        ensures told { IfOk result (IsTaken turns slot self.old self.new) }
     {
         let turn = slot.turn.max(self.free);
         if turn >= turns {
@@ -119,12 +117,8 @@ pub struct Coming {
     pub came: u64,
     /// How many come before a later turn than they came to, which was taken.
     pub later: u64,
-    /// How many of these were moved by more than one turn.
-    pub far: u64,
     /// How many found no turn any more, and are left out.
     pub left_out: u64,
-    /// The turn to which the first of these came.
-    pub left_from: Option<u64>,
     /// The turns that all others take.
     pub work: u64,
     /// How many turns each thread makes.
@@ -137,7 +131,7 @@ impl Coming {
         ensures is { IfOk result IsComing }
         ensures threads { IfOk result (λ coming. length coming.queues.items ≡ threads) }
         ensures turns { IfOk result (λ coming. coming.turns ≡ turns) }
-        ensures nothing { IfOk result IsNothing }
+        ensures none { IfOk result (λ coming. coming.came ≡ 0) }
     {
         let mut queues = Vec::new(alloc);
         for _k in 0..threads {
@@ -150,9 +144,7 @@ impl Coming {
             queues,
             came: 0,
             later: 0,
-            far: 0,
             left_out: 0,
-            left_from: None,
             work: 0,
             turns,
         })
@@ -167,19 +159,18 @@ impl Coming {
         ensures is { OnOk result (IsComing self.new) }
         ensures threads { length self.new.queues.items ≡ length self.old.queues.items }
         ensures turns { self.new.turns ≡ self.old.turns }
-        ensures told { OnOk result (IsGiving thread slot self.old self.new) }
+        ensures came { self.old.came < 2 ^ 64 - 1 →
+            OnOk result (self.new.came ≡ self.old.came + 1) }
     {
         let taken = self.queues[thread].take(slot, self.turns)?;
         self.came = self.came.saturating_add(1);
         match taken {
             None => {
                 self.left_out = self.left_out.saturating_add(1);
-                self.left_from = self.left_from.or(Some(slot.turn));
             }
             Some(turn) => {
-                let by = turn.saturating_sub(slot.turn);
-                self.later = self.later.saturating_add(u64::from(by > 0));
-                self.far = self.far.saturating_add(u64::from(by > 1));
+                let is_later = turn > slot.turn;
+                self.later = self.later.saturating_add(u64::from(is_later));
                 self.work = self.work.saturating_add(slot.work);
             }
         }

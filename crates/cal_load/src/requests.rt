@@ -1,9 +1,6 @@
 //! The requests of arrivals, thread by thread, each with the next id from 1.
 
-ghost use Rattle.std.specs.Prelude.{◌≡◌, ◌<◌, ◌≤◌, ◌+◌, ◌++◌, ◌^◌, ℕ, All, OnOk, Some, length, map};
-ghost use Rattle.std.specs.Prelude.{slice_get};
-ghost use Rattle.cal_load.specs.Taken.{IsNoneOf, all_on, own_on, taken_by};
-ghost use Rattle.cal_load.specs.declared.making.Queue.{Queue};
+ghost use Rattle.std.specs.Prelude.{◌≡◌, ◌<◌, ◌≤◌, ◌+◌, ◌^◌, ℕ, All, OnOk, length};
 ghost use Rattle.cal_load.specs.Built.{AreBuilt, HasMoreFor};
 ghost use Rattle.cal_load.specs.Comings.{IsQueue, slots_in};
 
@@ -48,8 +45,6 @@ fn put_queue(
         requests.new.items) }
     ensures many { OnOk result (length requests.new.items ≡
         length requests.old.items + length queue.now.slots.items) }
-    ensures told { (k : ℕ) → OnOk result (all_on k requests.new.items ≡
-        all_on k requests.old.items ++ own_on k thread queue.now) }
 {
     let slots = queue.slots.as_slice();
     for place in 0..slots.len() {
@@ -90,11 +85,6 @@ pub fn put_queues(
         requests.old.items requests.new.items) }
     ensures many { OnOk result (length requests.new.items ≡
         length requests.old.items + slots_in queues.now) }
-    ensures told { (place : ℕ) (queue : Queue) → slice_get queues.now place ≡ Some queue →
-        OnOk result (all_on (first + place) requests.new.items ≡
-        all_on (first + place) requests.old.items ++ map taken_by queue.slots.items) }
-    ensures others { (k : ℕ) → IsNoneOf first (length queues.now) k →
-        OnOk result (all_on k requests.new.items ≡ all_on k requests.old.items) }
 {
     for place in 0..queues.len() {
         put_queue(requests, (first + place) as u8, &queues[place], misses)?;

@@ -12,6 +12,10 @@ class Refusal(Exception):
         super().__init__(line)
         self.line, self.status, self.below = line, status, below
 
+    def __str__(self) -> str:
+        """The line, and those below it."""
+        return f"{self.line}\n{self.below}".strip("\n")
+
     @property
     def said(self) -> str:
         return self.told_by(NAME)

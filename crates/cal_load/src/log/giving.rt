@@ -1,7 +1,8 @@
 //! The requests of a log, given to the threads of a task.
 
 ghost use Rattle.std.specs.Prelude.{◌≡◌, ◌<◌, ◌≤◌, IfOk, Some, length, slice_get};
-ghost use Rattle.cal_load.specs.Logs.{IsGivenTo, rows_for, slot_of};
+ghost use Rattle.cal_load.specs.Comings.{IsComingTo};
+ghost use Rattle.cal_load.specs.Logs.{rows_for};
 ghost use Rattle.cal_load.specs.Services.{IsWork};
 ghost use Rattle.cal_load.specs.declared.made.TheConstants.{MOST_REQUESTS};
 ghost use Rattle.cal_trace.specs.History.Ranges.{Each};
@@ -13,8 +14,8 @@ use rand_xoshiro::Xoshiro256PlusPlus;
 use std::alloc::{AllocError, Global};
 
 /// The request of a log, as it comes to a thread.
-pub(crate) fn slot_of(row: LogRow) -> Slot
-    ensures { result ≡ slot_of row }
+fn slot_of(row: LogRow) -> Slot
+    ensures { result.work ≡ row.work }
 {
     Slot {
         turn: row.turn,
@@ -45,7 +46,8 @@ pub(crate) fn come_of(
     requires logged { Each (λ row. IsWork row.work) rows.now }
     requires few { length rows.now ≤ MOST_REQUESTS }
     requires threads { 0 < threads }
-    ensures { IfOk result (IsGivenTo threads turns (rows_for task rows.now)) }
+    ensures coming { IfOk result (IsComingTo threads turns) }
+    ensures came { IfOk result (λ coming. coming.came ≡ length (rows_for task rows.now)) }
 {
     let mut coming = Coming::new(alloc, threads, turns)?;
     for place in 0..rows.len() {

@@ -1,16 +1,14 @@
 //! The arrivals of a log.
 
-ghost use Rattle.std.specs.Prelude.{◌≡◌, ◌<◌, IfOk, length};
+ghost use Rattle.std.specs.Prelude.{IfOk, length};
 ghost use Rattle.cal_load.specs.Clocks.{IsTiming};
-ghost use Rattle.cal_load.specs.Logs.{AreArrivals, AreGiven, AreLogged, AreOfLog};
-ghost use Rattle.cal_load.specs.Made.{IsTimedBy};
+ghost use Rattle.cal_load.specs.Logs.{AreGiven, AreLogged, AreOfLog};
+ghost use Rattle.cal_load.specs.Made.{AreArrivals, IsTimedBy};
 
 use crate::clocks::Timing;
 use crate::log::LogRow;
 use crate::log::giving::come_of;
-use crate::made::{Count, Gathered, Made, generator};
-use crate::making::Coming;
-use crate::requests::{put_queues, put_turns};
+use crate::made::{Gathered, Made, generator};
 use cal_machine::Config;
 use std::alloc::{AllocError, Global};
 
@@ -26,24 +24,6 @@ pub fn turns_for(rows: &[LogRow]) -> u64 {
         longest = longest.max(row.work);
     }
     last.saturating_add(1).saturating_add(longest)
-}
-
-/// What came to a task by a log.
-fn count_in(task: usize, coming: &Coming) -> Count
-    ensures task { result.task ≡ task }
-    ensures came { result.came ≡ coming.now.came }
-    ensures left_out { result.left_out ≡ coming.now.left_out }
-{
-    Count {
-        task,
-        load: 0,
-        came: coming.came,
-        later: coming.later,
-        far: coming.far,
-        left_out: coming.left_out,
-        left_from: coming.left_from,
-        work: coming.work,
-    }
 }
 
 /// What a log gives to each task of a table.
@@ -62,10 +42,7 @@ fn all_of_log(
         let (first, threads) = config.threads_of(task);
         let mut rng = generator(SEED, task);
         let coming = come_of(alloc, &mut rng, rows, task, threads, turns)?;
-        let queues = coming.queues.as_slice();
-        put_queues(&mut gathered.requests, first, queues, 0)?;
-        put_turns(&mut gathered.came_to, queues)?;
-        gathered.counts.push(count_in(task, &coming))?;
+        gathered.put(task, 0, first, &coming)?;
     }
     Ok(gathered)
 }
@@ -82,10 +59,10 @@ pub fn logged_arrivals(
     timing: Timing,
 ) -> Result<Made, AllocError>
     requires { AreLogged (length config.now.tasks) rows.now }
-    // They fit the table. Each task has all its requests of the log, in their order, each before
-    // its turn or the first free one after it, but those that are counted as left out.
+    // They fit the table, and each task has as many requests as the log has for it, but those that
+    // are counted as left out.
     ensures made { IfOk result (AreArrivals config.now) }
-    ensures given { IsTiming timing → IfOk result (AreOfLog config.now rows.now timing.turns) }
+    ensures counted { IfOk result (AreOfLog config.now rows.now) }
     ensures timed { IsTiming timing → IfOk result (λ made. IsTimedBy timing made.arrivals) }
 {
     let timing = timing.nearest();

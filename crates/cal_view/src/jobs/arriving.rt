@@ -25,7 +25,6 @@ use cal_trace::{Arrivals, write_arrivals};
 use std::alloc::{AllocError, Global};
 use std::io::{Read, Write};
 use std::rt::Files;
-use std::slice;
 
 /// Arrivals that words ask for.
 #[derive(Clone, Copy)]
@@ -139,7 +138,7 @@ impl<'a> Arriving<'a> {
         let words = &self.asked.load;
         self.are_counted(config)?;
         are_known(config, loads, words.tasks.as_slice())?;
-        are_held(slice::from_ref(config), loads, words.offered.as_slice())?;
+        are_held(config, loads, words.offered.as_slice())?;
         let plan = ArrivalPlan {
             loads,
             timing: words.timing,

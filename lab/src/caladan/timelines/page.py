@@ -36,7 +36,9 @@ def times_in(tick: str) -> Callable[[int], str]:
 
     def micros_of(ticks: int) -> str:
         return str(min(ticks * micros, WORD - 1))
-    return micros_of
+    if micros > 1:
+        return micros_of
+    return str
 
 
 @dataclass(frozen=True)
@@ -59,7 +61,7 @@ class Page:
 
     def at(self, clock: int) -> str:
         """When something is, in microseconds."""
-        return self.time(max(clock - self.zero, 0))
+        return self.time(clock - self.zero if clock > self.zero else 0)
 
     def stretch(self, first: int, last: int) -> str:
         """From when on something is, and how long it takes, as an event begins."""

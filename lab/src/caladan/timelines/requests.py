@@ -2,48 +2,55 @@
 begun a flow, from its arrival over each turn that worked at it to the one that served it."""
 from __future__ import annotations
 
-from typing import Iterator, NamedTuple, Optional
+from typing import Iterable, Iterator, NamedTuple, Optional, Sequence
 
 from ..arrivals import Arrivals, Request
 from .page import ARRIVALS, RESPONSES, WORK, Page
 
 
-class Turn(NamedTuple):
-    """A turn in which a kernel thread worked at a request, from one clock to another, and whether it served it."""
-
-    thread: int
-    request: int
-    first: int
-    last: int
-    is_served: bool
-
-
 class Begun(NamedTuple):
-    """When a request was begun, and when it was answered, if it was."""
+    """When a request was begun, and when it was answered, if it was: clocks as they are written."""
 
-    clock: int
-    answered: Optional[int]
-
-
-def turns_of(csv: bytes) -> Iterator[Turn]:
-    """The turns of what `turns` tells."""
-    for line in csv.decode().splitlines()[1:]:
-        thread, _, request, first, last, served = line.split(",")
-        yield Turn(int(thread), int(request), int(first), int(last), served == "1")
+    clock: str
+    answered: str
 
 
-def _slice(page: Page, head: str, thread: int, request: int, first: int, last: int) -> str:
-    """A request on a track of a thread."""
-    owner = page.owners[thread]
-    return (f'{page.stretch(first, last)},"name":"{owner.front}request {request}",{head},"ph":"X",'
-            f'"cname":"{owner.colour}","pid":{ARRIVALS if "arrival" in head else WORK},"tid":{thread},'
-            f'"args":{{"request":{request},"from_clock":{first}}}}}')
+def turns_of(csv: bytes) -> Iterator[Sequence[str]]:
+    """The rows of what `turns` tells: the thread, its task, the request, the clocks at which the turn begins and ends,
+    and 1 where it served the request. There are many, so they are taken as they stand."""
+    return (line.split(",") for line in csv.decode().splitlines()[1:])
 
 
-def _flow(page: Page, phase: str, group: int, thread: int, request: int, clock: int) -> str:
-    """A part of a request's flow, at the beginning of the slice to which it is bound."""
-    return (f'{{"ts":{page.at(clock)},"name":"request","cat":"request","ph":"{phase}","id":{request},"bp":"e",'
-            f'"pid":{group},"tid":{thread}}}')
+def begun_in(turns: Iterable[Sequence[str]]) -> dict[str, Begun]:
+    """When each request of which turns tell was begun and answered, by its id."""
+    begun: dict[str, Begun] = {}
+    for _, _, request, first, last, served in turns:
+        clock = begun[request].clock if request in begun else first
+        begun[request] = Begun(clock, last if served == "1" else "")
+    return begun
+
+
+class Track:
+    """What stands on the tracks of the threads in a group: slices of requests, and the parts of their flows, each at the
+    beginning of the slice to which it is bound."""
+
+    def __init__(self, page: Page, group: int, cat: str) -> None:
+        self.page = page
+        self.names = [f'"name":"{owner.front}request ' for owner in page.owners]
+        self.places = [f'","cat":"{cat}","ph":"X","cname":"{owner.colour}","pid":{group},"tid":{thread},'
+                       '"args":{"request":' for thread, owner in enumerate(page.owners)]
+        self.ends = [f'"bp":"e","pid":{group},"tid":{thread}}}' for thread in range(len(page.owners))]
+
+    def put(self, thread: int, request: str, first: int, last: int, phase: str) -> str:
+        """A slice of a request from one clock to another, and the part of its flow of this phase, where there is one."""
+        at = self.page.at(first)
+        lasts = self.page.time(last - first if last > first else 0)
+        text = (f'{{"ts":{at},"dur":{lasts},{self.names[thread]}{request}{self.places[thread]}{request},'
+                f'"from_clock":{first}}}}}')
+        if not phase:
+            return text
+        return (f'{text},\n{{"ts":{at},"name":"request","cat":"request","ph":"{phase}","id":{request},'
+                f'{self.ends[thread]}')
 
 
 class Told:
@@ -51,26 +58,22 @@ class Told:
 
     def __init__(self, page: Page, arrivals: Arrivals, turns: bytes, end: int) -> None:
         self.page, self.arrivals, self.turns, self.end = page, arrivals, turns, end
-        self.begun: dict[int, Begun] = {}
-        for turn in turns_of(turns):
-            before = self.begun.get(turn.request)
-            clock = turn.first if before is None else before.clock
-            self.begun[turn.request] = Begun(clock, turn.last if turn.is_served else None)
+        self.begun = begun_in(turns_of(turns))
 
     def arguments(self, request: Request, arrived: int, begun: Optional[Begun]) -> str:
         """What is said of a request and of what came of it."""
         said = f'"request":{request.id},"thread":{request.thread},"task":{self.page.owners[request.thread].task},'
         said += f'"work":{request.work},"arrived":{arrived},'
         said += f'"begun":{begun.clock},' if begun is not None else ""
-        if begun is not None and begun.answered is not None:
-            return said + f'"answered":{begun.answered},"response":{max(begun.answered - arrived, 0)}'
+        if begun is not None and begun.answered:
+            return said + f'"answered":{begun.answered},"response":{max(int(begun.answered) - arrived, 0)}'
         return said + f'"pending":{max(self.end - arrived, 0)}'
 
     def response(self, request: Request, arrived: int, begun: Optional[Begun]) -> Iterator[str]:
         """A request from its arrival to its answer or, where it is pending, to the run's last clock."""
         page = self.page
         name = page.tasks[page.owners[request.thread].task]
-        answered = begun.answered if begun is not None and begun.answered is not None else self.end
+        answered = int(begun.answered) if begun is not None and begun.answered else self.end
 
         def ends(clock: int, phase: str, rest: str) -> str:
             return (f'{{"ts":{page.at(clock)},"name":"{name}","cat":"response","ph":"{phase}","id":{request.id},'
@@ -78,21 +81,24 @@ class Told:
         yield ends(arrived, "b", f',"args":{{{self.arguments(request, arrived, begun)}}}')
         yield ends(max(answered, arrived), "e", "")
 
-    def coming(self, request: Request) -> Iterator[str]:
-        """A request that comes: its response, a slice for the turn before which it does, and where it was begun the
-        start of its flow."""
-        turns, place = self.arrivals.turns, request.turn
-        arrived, begun = turns[place], self.begun.get(request.id)
-        yield from self.response(request, arrived, begun)
-        last = turns[place + 1] if place + 1 < len(turns) else self.end
-        yield _slice(self.page, '"cat":"arrival"', request.thread, request.id, arrived, last)
-        if begun is not None:
-            yield _flow(self.page, "s", ARRIVALS, request.thread, request.id, arrived)
+    def comings(self) -> Iterator[str]:
+        """The requests as they come: of each its response, a slice for the turn before which it comes, and where it was
+        begun the start of its flow."""
+        track, turns = Track(self.page, ARRIVALS, "arrival"), self.arrivals.turns
+        for request in self.arrivals.requests:
+            name, arrived = str(request.id), turns[request.turn]
+            begun = self.begun.get(name)
+            yield from self.response(request, arrived, begun)
+            last = turns[request.turn + 1] if request.turn + 1 < len(turns) else self.end
+            yield track.put(request.thread, name, arrived, last, "" if begun is None else "s")
+
+    def works(self) -> Iterator[str]:
+        """The turns in which each thread worked."""
+        track = Track(self.page, WORK, "work")
+        for thread, _, request, first, last, served in turns_of(self.turns):
+            yield track.put(int(thread), request, int(first), int(last), "f" if served == "1" else "t")
 
     def events(self) -> Iterator[str]:
-        """All of it: the requests as they come, and then the turns in which each thread worked."""
-        for request in self.arrivals.requests:
-            yield from self.coming(request)
-        for turn in turns_of(self.turns):
-            yield _slice(self.page, '"cat":"work"', turn.thread, turn.request, turn.first, turn.last)
-            yield _flow(self.page, "f" if turn.is_served else "t", WORK, turn.thread, turn.request, turn.first)
+        """All of it."""
+        yield from self.comings()
+        yield from self.works()

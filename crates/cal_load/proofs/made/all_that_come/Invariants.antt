@@ -1,9 +1,10 @@
-use Rattle.cal_load.specs.Drawn.{AreDealtOf}
+use Rattle.std.proofs.Common.{◌≡◌}
+use Rattle.cal_load.specs.Counts.{came_in}
 use Rattle.cal_load.specs.Made.{AreGathered}
 use Rattle.cal_load.proofs.made.all_that_come.Given as goal
 
 abbrev pub invariant-loop-task : goal.invariant-loop-task
 invariant-loop-task l = record {
   gathered : AreGathered l.config l.plan.loads.now l.turns l.task l.gathered;
-  dealt : AreDealtOf l.config l.plan.loads.now l.drawn l.turns l.task l.gathered;
+  came : l.came ≡ came_in l.gathered.counts.items;
 }

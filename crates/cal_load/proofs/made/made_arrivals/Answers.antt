@@ -1,25 +1,32 @@
-use Rattle.std.proofs.Common.{List, subst, sym}
-use Rattle.cal_load.specs.Clocks.{nearest_turns}
-use Rattle.cal_load.specs.Drawn.{AreArrivalsOf, AreDrawnFor}
-use Rattle.cal_load.specs.Loads.{greatest_limit}
-use Rattle.cal_load.specs.declared.drawing.DrawnLoad.{DrawnLoad}
-use Rattle.cal_machine.specs.Table.{Table}
+use Rattle.std.proofs.Common.{◌≤◌, List, length, sym, subst}
+use Rattle.cal_load.specs.Counts.{came_in}
+use Rattle.cal_load.specs.Made.{AreCountedBy, AreCountsOf, AreGathered, IsLoadCount, IsTimedBy}
+use Rattle.cal_load.specs.declared.clocks.Timing.{Timing}
+use Rattle.cal_load.specs.declared.made.Count.{Count}
+use Rattle.cal_load.specs.declared.made.TheConstants.{MOST_REQUESTS}
+use Rattle.cal_machine.specs.Tasks.{first_thread}
+use Rattle.cal_trace.specs.declared.arrivals.Arrival.{Arrival}
 use Rattle.cal_load.proofs.made.made_arrivals.Goals as goal
 
-pub dealt_arrivals-requires : goal.dealt_arrivals-requires
-dealt_arrivals-requires c = record {
-  limits = greatest_limit c.from_ref.result.now;
-  turns = nearest_turns c.args.plan.now.timing;
-  are = subst (λ (l : List DrawnLoad). AreDrawnFor (greatest_limit c.from_ref.result.now) c.args.plan.now.loads.now (nearest_turns c.args.plan.now.timing) l)
-      (sym c.as_slice.ensures.value) c.in_ok-drawn.ensures.drawn;
-}
-
-pub returns-clause-drawn : goal.returns-clause-drawn
-returns-clause-drawn c =
+pub returns-clause-made : goal.returns-clause-made
+returns-clause-made c =
+    let table = c.args.config.now in
     let loads = c.args.plan.now.loads.now in
-    let drawn : List DrawnLoad = c.in_ok-drawn.drawn.items in
+    let gathered = c.in-Some.gathered in
+    let made = c.in_ok-made.made in
+    let is : AreGathered table loads c.nearest-timing.result.turns (length table.tasks) gathered = rw c.in-Some.is at c.in_ok-gathered.ensures in
+    let counted = subst (λ (l : List Count). AreCountedBy (IsLoadCount table loads) l gathered.requests.items) (sym c.in_ok-made.ensures.counts) is.counted in
     record {
-      drawn = drawn;
-      are = subst (λ (l : List Table). AreDrawnFor (greatest_limit l) loads (nearest_turns c.args.plan.now.timing) drawn) c.from_ref.ensures.value c.in_ok-drawn.ensures.drawn;
-      of = subst (λ (l : List DrawnLoad). AreArrivalsOf c.args.config.now loads l (nearest_turns c.args.plan.now.timing) c.in_ok-made.made) c.as_slice.ensures.value c.in_ok-made.ensures.dealt;
+      are = c.in_ok-made.ensures.whole table (first_thread table.tasks (length table.tasks)) is.built;
+      counts = subst (λ (l : List Count). AreCountsOf loads (length table.tasks) l) (sym c.in_ok-made.ensures.counts) is.counts;
+      counted = subst (λ (l : List Arrival). AreCountedBy (IsLoadCount table loads) made.counts.items l) (sym c.in_ok-made.ensures.requests) counted;
     }
+
+pub returns-clause-few : goal.returns-clause-few
+returns-clause-few c =
+    let table = c.args.config.now in
+    let is : AreGathered table c.args.plan.now.loads.now c.nearest-timing.result.turns (length table.tasks) c.in-Some.gathered = rw c.in-Some.is at c.in_ok-gathered.ensures in
+    subst (λ (l : List Count). came_in l ≤ MOST_REQUESTS) (sym c.in_ok-made.ensures.counts) is.few
+
+pub returns-clause-timed : goal.returns-clause-timed
+returns-clause-timed c = λ is. subst (λ (t : Timing). IsTimedBy t c.in_ok-made.made.arrivals) (c.nearest-timing.ensures.same is) c.in_ok-made.ensures.timed

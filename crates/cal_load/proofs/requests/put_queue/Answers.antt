@@ -1,11 +1,9 @@
-use Rattle.std.proofs.Common.{◌≡◌, ◌<◌, ◌≤◌, ◌+◌, ◌∙◌, ◌++◌, ◌∷◌, [], List, length, length-append, take, take_all, ap, sym, arith}
+use Rattle.std.proofs.Common.{◌≡◌, ◌<◌, ◌≤◌, ◌+◌, ◌++◌, ◌∷◌, [], List, length, length-append, ap, sym, arith}
 use Rattle.std.proofs.lemmas.List.{append-nil}
-use Rattle.cal_load.specs.Taken.{all_on}
 use Rattle.cal_load.specs.declared.making.Slot.{Slot}
 use Rattle.cal_trace.specs.declared.arrivals.Arrival.{Arrival}
 use Rattle.cal_load.proofs.Built.{put_more}
 use Rattle.cal_load.proofs.Counted.{more_push}
-use Rattle.cal_load.proofs.On.{none_yet, on_more, taken_of}
 use Rattle.cal_trace.proofs.ListLemmas.EachOne.{each_none}
 use Rattle.cal_load.proofs.requests.put_queue.Goals as goal
 
@@ -14,15 +12,7 @@ loop-place-init c = record {
   built = λ threads turns b below queue. b;
   own = record { own = []; more = sym (append-nil c.args.requests.now.items); each = each_none (λ a. (c.args.thread ≤ a.thread) × (a.thread < c.args.thread + 1)); missed = each_none (λ a. a.request.misses ≡ c.args.misses) };
   many = omega arith;
-  told = λ k. none_yet k c.args.thread c.args.requests.now.items;
 }
-
-pub returns-clause-told : goal.returns-clause-told
-returns-clause-told c = λ k.
-    let slots = c.args.queue.now.slots.items in
-    let size = ap (λ (l : List Slot). length l) c.as_slice-slots.ensures.value in
-    let all : take c.loop-place.place slots ≡ slots = take_all c.loop-place.place slots (let test = c.loop-place-test.false in let len = c.as_slice-slots.ensures.len in omega (arith, test, len, size)) in
-    c.loop-place.invariant.told k ∙ ap (λ (l : List Slot). all_on k c.args.requests.now.items ++ taken_of k c.args.thread l) all
 
 pub loop-place-preserved : goal.loop-place-preserved
 loop-place-preserved c =
@@ -46,8 +36,5 @@ loop-place-preserved c =
           (ap (λ (a : Arrival). a.turn) c.arrival_of.ensures.is) (ap (λ (a : Arrival). a.request.work) c.arrival_of.ensures.is) (let few = c.arrival_of.ensures.few in omega (arith, missed, few))
           (omega (arith, id, count)) (let word = c.arrival_of.ensures.word in omega (arith, id, word)) more (c.loop-place.invariant.built threads turns b below queue);
       own = more_push thread (thread + 1) c.args.misses c.args.requests.now.items old new arrival c.loop-place.invariant.own more (omega (arith, of_thread)) (omega (arith, of_thread)) missed;
-      told = λ k.
-          on_more k thread i slots c.as_slice-slots.result.now _ c.args.requests.now.items old new arrival same lt of_thread (ap (λ (a : Arrival). a.turn) c.arrival_of.ensures.is)
-          (ap (λ (a : Arrival). a.request.work) c.arrival_of.ensures.is) more (c.loop-place.invariant.told k);
       many = let long = ap (λ (l : List Arrival). length l) more in let before = c.loop-place.invariant.many in omega (arith, long, before, length-append old (arrival ∷ []));
     }

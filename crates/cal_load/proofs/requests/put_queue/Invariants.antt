@@ -1,9 +1,7 @@
-use Rattle.std.proofs.Common.{◌≡◌, ◌<◌, ◌+◌, ◌++◌, ℕ, length, take}
+use Rattle.std.proofs.Common.{◌≡◌, ◌<◌, ◌+◌, ℕ, length, take}
 use Rattle.cal_load.specs.Built.{AreBuilt, AreBuiltTo, HasMoreFor}
 use Rattle.cal_load.specs.Comings.{IsQueue}
-use Rattle.cal_load.specs.Taken.{all_on}
 use Rattle.cal_load.proofs.Built.{end_of}
-use Rattle.cal_load.proofs.On.{taken_of}
 use Rattle.cal_load.proofs.requests.put_queue.Given as goal
 
 -- all before the turn after the last one
@@ -13,5 +11,4 @@ invariant-loop-place l = record {
       → AreBuiltTo threads turns l.thread (end_of (take l.place l.queue.slots.items)) l.requests.items;
   own : HasMoreFor l.thread (l.thread + 1) l.misses l.initial.requests.items l.requests.items;
   many : length l.requests.items ≡ length l.initial.requests.items + l.place;
-  told : (k : ℕ) → all_on k l.requests.items ≡ all_on k l.initial.requests.items ++ taken_of k l.thread (take l.place l.queue.slots.items);
 }

@@ -5,7 +5,6 @@ use Rattle.cal_load.specs.Built.{AreBuilt, HasMoreFor}
 use Rattle.cal_load.specs.Comings.{IsQueue}
 use Rattle.cal_load.specs.declared.making.Queue.{Queue}
 use Rattle.cal_load.proofs.Counted.{more_on}
-use Rattle.cal_load.proofs.On.{none_next, on_next}
 use Rattle.cal_load.proofs.requests.put_queues.Goals as goal
 
 pub loop-place-preserved : goal.loop-place-preserved
@@ -25,8 +24,6 @@ loop-place-preserved c =
           (c.in_ok-put_queue.ensures.put threads turns (c.loop-place.invariant.built threads turns b below all) (omega (arith, lt, below)) of);
       own = more_on first (first + i) (first + (i + 1)) c.args.misses c.args.requests.now.items c.loop-place.requests.items new c.loop-place.invariant.own
           (subst (λ (n : ℕ). HasMoreFor (first + i) n c.args.misses c.loop-place.requests.items new) next c.in_ok-put_queue.ensures.own) (omega arith) (omega arith);
-      told = on_next first i queues queue c.args.requests.now.items c.loop-place.requests.items new lt is c.in_ok-put_queue.ensures.told c.loop-place.invariant.told c.loop-place.invariant.others;
-      others = none_next first i queue c.args.requests.now.items c.loop-place.requests.items new c.in_ok-put_queue.ensures.told c.loop-place.invariant.others;
       many =
           let long = c.in_ok-put_queue.ensures.many in
           let before = c.loop-place.invariant.many in

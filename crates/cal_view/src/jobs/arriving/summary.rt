@@ -34,7 +34,6 @@ fn put_count(
         later,
         left_out,
         work,
-        ..
     } = *count;
     let load = load_of(work, turns, threads_of(config, task));
     let (ones, rest) = (load / 1000, load % 1000);

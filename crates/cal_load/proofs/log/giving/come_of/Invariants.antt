@@ -1,12 +1,13 @@
-use Rattle.std.proofs.Common.{◌≡◌, take}
+use Rattle.std.proofs.Common.{◌≡◌, length, take}
 use Rattle.cal_load.specs.Comings.{IsComing}
-use Rattle.cal_load.specs.Logs.{IsGivenTo, rows_for}
+use Rattle.cal_load.specs.Logs.{rows_for}
 use Rattle.cal_load.proofs.log.giving.come_of.Given as goal
 
--- what was given of the rows so far
+-- as many as the rows so far have
 abbrev pub invariant-loop-place : goal.invariant-loop-place
 invariant-loop-place l = record {
   is : IsComing l.coming;
+  threads : length l.coming.queues.items ≡ l.threads;
   turns : l.coming.turns ≡ l.turns;
-  given : IsGivenTo l.threads l.turns (rows_for l.task (take l.place l.rows)) l.coming;
+  came : l.coming.came ≡ length (rows_for l.task (take l.place l.rows));
 }

@@ -1,4 +1,4 @@
-use Rattle.std.proofs.Common.{◌++◌, ◌∷◌, [], List, length, length-append, ap, sym, subst, arith}
+use Rattle.std.proofs.Common.{◌∷◌, [], List, length, length-append, ap, sym, subst, arith}
 use Rattle.cal_load.specs.Logs.{IsLogRow}
 use Rattle.cal_load.specs.declared.log.LogRow.{LogRow}
 use Rattle.cal_trace.specs.History.Ranges.{Each}

@@ -1,9 +1,7 @@
-use Rattle.std.proofs.Common.{◌≡◌, ◌∙◌, ◌<◌, ℕ, List, Some, length, get_or, slice_get, refl, ap, sym, subst, arith}
+use Rattle.std.proofs.Common.{◌≡◌, ◌<◌, length, get_or, ap, sym, subst, arith}
 use Rattle.std.proofs.lemmas.List.Elements.{All-get_or, All-set}
 use Rattle.std.proofs.lemmas.List.Sums.{sum_by-set}
-use Rattle.std.proofs.lemmas.Option.{slice_get-get_or}
 use Rattle.cal_load.specs.Comings.{IsQueue, taken_in}
-use Rattle.cal_load.specs.Giving.{out_in}
 use Rattle.cal_load.specs.declared.making.Queue.{Queue}
 use Rattle.cal_load.proofs.making.Coming.give.Goals as goal
 
@@ -51,31 +49,3 @@ returns-in-Some-clause-is c =
           let same = ap (λ (q : Queue). length q.slots.items) is in
           omega (arith, came, low, before, one, many, sum, same);
     }
-
--- what is at a place
-there : (queues : List Queue) (place : ℕ) (queue : Queue) → place < length queues → queue ≡ get_or queues place queue → slice_get queues place ≡ Some queue
-there queues place queue lt is = slice_get-get_or queues place queue lt ∙ ap (λ (q : Queue). Some q) (sym is)
-
-pub returns-in-None-clause-told : goal.returns-in-None-clause-told
-returns-in-None-clause-told c = record {
-  was = c.index_mut.result.now;
-  now = c.take.new.self;
-  taken = c.in_ok-taken.taken;
-  at = there c.args.self.now.queues.items c.args.thread c.index_mut.result.now c.requires.thread c.index_mut.ensures.value;
-  taking = c.in_ok-taken.ensures.told;
-  queues = refl;
-  came = λ low. let came = c.saturating_add-self.ensures in omega (arith, came, low);
-  left = λ low. let out = c.saturating_add-self-in-None.ensures in let none = ap out_in c.in-None.is in omega (arith, out, none, low);
-}
-
-pub returns-in-Some-clause-told : goal.returns-in-Some-clause-told
-returns-in-Some-clause-told c = record {
-  was = c.index_mut.result.now;
-  now = c.take.new.self;
-  taken = c.in_ok-taken.taken;
-  at = there c.args.self.now.queues.items c.args.thread c.index_mut.result.now c.requires.thread c.index_mut.ensures.value;
-  taking = c.in_ok-taken.ensures.told;
-  queues = refl;
-  came = λ low. let came = c.saturating_add-self.ensures in omega (arith, came, low);
-  left = λ low. let one = ap out_in c.in-Some.is in omega (arith, one);
-}

@@ -1,6 +1,5 @@
 use Rattle.std.proofs.Common.{◌≡◌, All, length}
 use Rattle.cal_load.specs.Comings.{IsQueue, slots_in}
-use Rattle.cal_load.specs.Giving.{IsEmpty}
 use Rattle.cal_load.proofs.making.Coming.new.Given as goal
 
 abbrev pub invariant-loop-k : goal.invariant-loop-k
@@ -8,5 +7,4 @@ invariant-loop-k l = record {
   queues : All (IsQueue l.turns) l.queues.items;
   many : length l.queues.items ≡ l._k;
   none : slots_in l.queues.items ≡ 0;
-  nothing : All IsEmpty l.queues.items;
 }

@@ -1,6 +1,6 @@
 use Rattle.std.proofs.Common.{◌≢◌, take}
 use Rattle.cal_trace.specs.History.Ranges.{Each}
-use Rattle.cal_load.proofs.made.ArrivalPlan.place_of.Given as goal
+use Rattle.cal_load.proofs.made.ArrivalPlan.load_of.Given as goal
 
 -- none of those that were passed
 abbrev pub invariant-loop-place : goal.invariant-loop-place

@@ -1,18 +1,22 @@
-use Rattle.std.proofs.Common.{◌≡◌, ◌≢◌, ◌<◌, List, take, length, Some, slice_get, get_or, sym, subst, arith}
+use Rattle.std.proofs.Common.{◌≡◌, ◌≢◌, ◌<◌, ◌∙◌, List, take, length, Some, slice_get, get_or, ap, sym, subst, arith}
 use Rattle.std.proofs.lemmas.List.{take_more}
 use Rattle.std.proofs.lemmas.Option.{slice_get-get_or}
 use Rattle.cal_load.specs.declared.making.TaskLoad.{TaskLoad}
 use Rattle.cal_trace.specs.History.Ranges.{Each}
 use Rattle.cal_trace.proofs.ListLemmas.EachOne.{each_push}
-use Rattle.cal_load.proofs.made.ArrivalPlan.place_of.Goals as goal
+use Rattle.cal_load.proofs.made.ArrivalPlan.load_of.Goals as goal
 
 pub returns-then-self-place-clause-some : goal.returns-then-self-place-clause-some
 returns-then-self-place-clause-some c =
     let xs = c.args.self.now.loads.now in
     let i = c.loop-place.place in
     let first : TaskLoad = c.index-self-place.result in
+    let last : TaskLoad = c.index-self-place-then-self-place.result in
     let lt : i < length xs = let test = c.loop-place-test.true in omega (arith, test) in
-    record { load = get_or xs i first; at = slice_get-get_or xs i first lt; is_for = c.if-self-place.true }
+    let one : slice_get xs i ≡ Some (get_or xs i first) = slice_get-get_or xs i first lt in
+    let two : slice_get xs i ≡ Some (get_or xs i last) = slice_get-get_or xs i last lt in
+    let same : get_or xs i last ≡ get_or xs i first = cc in
+    record { place = i; at = two; is_for = ap (λ (l : TaskLoad). l.task) same ∙ c.if-self-place.true }
 
 pub loop-place-preserved : goal.loop-place-preserved
 loop-place-preserved c =

@@ -1,0 +1,10 @@
+use Rattle.std.proofs.Common.{◌≡◌, length}
+use Rattle.cal_load.specs.Comings.{IsComing}
+use Rattle.cal_load.proofs.making.TaskLoad.come.Given as goal
+
+abbrev pub invariant-loop-k : goal.invariant-loop-k
+invariant-loop-k g l = record {
+  is : IsComing l.coming;
+  threads : length l.coming.queues.items ≡ l.threads;
+  turns : l.coming.turns ≡ l.turns;
+}
