@@ -34,8 +34,11 @@ pub fn end_refusal<E: Write>(
 }
 
 /// The input of a job, for where it is refused; a run alone may be asked for.
-pub fn refused_input(job: InputJob, alone: bool, input: &[u8]) -> RefusedInput<'_> {
-    refused_with(input, traces_of(job, alone))
+pub fn refused_input<'a>(job: InputJob, alone: bool, input: &'a [u8]) -> RefusedInput<'a> {
+    RefusedInput {
+        input,
+        wanted: traces_of(job, alone),
+    }
 }
 
 /// An input of a table and one of these traces, for where it is refused.
