@@ -1,20 +1,26 @@
 use Rattle.std.proofs.Common.{◌∙◌, ℕ, List, ap, sym}
 use Rattle.cal_kthread.specs.declared.journal.entry.Entry.{Entry}
+use Rattle.cal_machine.specs.TableTasks.{threads_of_table}
 use Rattle.cal_machine.specs.declared.request.Request.{Request}
+use Rattle.cal_measure.specs.Clocks.{run_end}
 use Rattle.cal_facts.specs.WorkTurns.{works_below}
 use Rattle.cal_facts.proofs.turns.collecting.turns_of_run.Goals as goal
 
 pub returns-clause-turns : goal.returns-clause-turns
 returns-clause-turns c =
+    let given = c.collected_by.new.given in
     let run = c.in_ok-left.ensures.run c.args.arrivals c.in_ok-given.ensures.planned in
+    let threads = threads_of_table c.args.config.now in
+    let last = run_end given in
     let journals = c.as_slice.ensures.value ∙ c.in_ok-journals.ensures.journals ∙ run.collected in
     let left = c.as_slice-2.ensures ∙ sym run.left in
     record {
-      given = c.collected_by.new.given;
+      given = given;
       outcome = run.outcome;
       run = run.run;
-      are = c.in_ok-works.ensures ∙ ap (λ (n : ℕ). works_below n c.run_end.result c.as_slice.result.now c.as_slice-2.result.now) c.threads.ensures.count
-          ∙ ap (λ (n : ℕ). works_below _ n c.as_slice.result.now c.as_slice-2.result.now) c.run_end.ensures
-          ∙ ap (λ (l : List (List Entry)). works_below _ _ l c.as_slice-2.result.now) journals
-          ∙ ap (λ (l : List (List Request)). works_below _ _ run.outcome.journals l) left;
+      are = c.in_ok-works.ensures
+          ∙ ap (λ (n : ℕ). works_below n c.run_end-last.result c.as_slice.result.now c.as_slice-2.result.now) c.threads-threads.ensures.count
+          ∙ ap (λ (n : ℕ). works_below threads n c.as_slice.result.now c.as_slice-2.result.now) c.run_end-last.ensures
+          ∙ ap (λ (l : List (List Entry)). works_below threads last l c.as_slice-2.result.now) journals
+          ∙ ap (λ (l : List (List Request)). works_below threads last run.outcome.journals l) left;
     }

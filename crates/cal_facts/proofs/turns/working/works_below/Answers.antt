@@ -1,10 +1,10 @@
-use Rattle.std.proofs.Common.{◌++◌, ◌∙◌, List, ap, arith}
-use Rattle.cal_machine.specs.Limits.{most_threads-is}
+use Rattle.std.proofs.Common.{◌++◌, ◌∙◌, ℕ, List, Option, ap}
 use Rattle.cal_measure.specs.Joined.{joined_below}
 use Rattle.cal_measure.proofs.Steps.{joined_more}
+use Rattle.cal_measure.specs.Work.{turns_at}
+use Rattle.cal_measure.specs.declared.ends.TimedTurn.{TimedTurn}
 use Rattle.cal_facts.specs.WorkTurns.{works_by, works_of}
 use Rattle.cal_facts.specs.declared.turns.work.WorkTurn.{WorkTurn}
-use Rattle.cal_measure.specs.declared.ends.TimedTurn.{TimedTurn}
 use Rattle.cal_facts.proofs.turns.working.works_below.Goals as goal
 
 pub loop-thread-preserved : goal.loop-thread-preserved
@@ -14,5 +14,5 @@ loop-thread-preserved c =
     c.in_ok-put_works.ensures
     ∙ ap (λ (l : List WorkTurn). l ++ works_of k c.as_slice.result.now c.first_left-first.result) c.loop-thread.invariant
     ∙ ap (λ (l : List TimedTurn). joined_below f k ++ works_of k l c.first_left-first.result) (c.as_slice.ensures.value ∙ c.in_ok-turns.ensures)
-    ∙ ap (λ o. joined_below f k ++ works_of k _ o) c.first_left-first.ensures
+    ∙ ap (λ (o : Option ℕ). joined_below f k ++ works_of k (turns_at c.args.last c.args.journals.now k) o) c.first_left-first.ensures
     ∙ joined_more f k
