@@ -38,6 +38,12 @@ def test_a_comparison_shows_what_the_program_tells(lab: Run, stub: Stub) -> None
     assert rows["task 0 response median"] == ["11", "", "", "11", "", "", "0"]
 
 
+def test_the_head_names_what_is_offered(lab: Run, stub: Stub) -> None:
+    words = ["sweep", "--offered", "0.5", "--turns", "9", "--csv", "--names", "kv,batch"]
+    assert lab(*words, given=TABLE, view=stub(NUMBERS)).out.startswith("offered to kv,p50,")
+    assert lab(*words[:6], given=TABLE, view=stub(NUMBERS)).out.startswith("offered,p50,")
+
+
 def test_a_missed_objective(lab: Run, stub: Stub) -> None:
     told = lab(*SWEEP, "--slo", "task.0.p99=32", given=TABLE, view=stub(NUMBERS))
     assert told.status == 1
