@@ -90,10 +90,10 @@ class Stopped(BaseException):
 
 def main(does: Callable[[Sequence[str]], int] = run) -> int:
     """Does what the command line says. A signal leaves no process and no file."""
-    for each in (signal.SIGINT, signal.SIGTERM, signal.SIGHUP):
-        if signal.getsignal(each) is not signal.SIG_IGN:
-            signal.signal(each, stop)
     try:
+        for each in (signal.SIGINT, signal.SIGTERM, signal.SIGHUP):
+            if signal.getsignal(each) is not signal.SIG_IGN:
+                signal.signal(each, stop)
         return does(sys.argv[1:])
     except (Stopped, Interrupted) as fault:
         ASKING.end()
