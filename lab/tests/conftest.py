@@ -2,6 +2,7 @@
 from __future__ import annotations
 
 import os
+import signal
 import subprocess
 import sys
 import tempfile
@@ -14,6 +15,8 @@ import pytest
 os.environ["HYPOTHESIS_STORAGE_DIRECTORY"] = tempfile.mkdtemp(prefix="hypothesis.")
 from hypothesis import HealthCheck, settings  # noqa: E402
 
+# What a shell begins in the background ignores interrupts, and so would all that the tests begin.
+signal.signal(signal.SIGINT, signal.default_int_handler)
 # The same examples each time, however slow the machine is.
 settings.register_profile("lab", deadline=None, derandomize=True, database=None, max_examples=50,
                           suppress_health_check=[HealthCheck.too_slow])
