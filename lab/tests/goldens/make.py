@@ -10,6 +10,9 @@
     make.py count [SOURCE..]                                  in how many cases each option is, each status and each
                                                               text of these sources for what is refused
 
+What is kept are the answers of the unproved build of caladan_view at commit 7eba4d94, whose proofs the gate had passed.
+A case to which no answer is kept yet is passed over, and counted; `write --missing` with that program adds it.
+
 A case has words, files and a standard input, made from seeds by the modules of frozen/, and runs in a folder of its
 own. Its answer is the exit status, both outputs, and each file that is new, changed or gone. `check` compares all to
 the byte, but for the name of the program: a line that begins with `caladan_view:`, or with `Usage: caladan_view`, must
@@ -75,8 +78,6 @@ def kept_answers(folder: Path, commit_too: bool = True) -> "dict[str, Kept]":
 
 def faults(case: Case, answer: Answer, kept: "dict[str, Kept]", name: str) -> "list[str]":
     """What is wrong with an answer."""
-    if case.name not in kept:
-        return ["no answer to it is kept"]
     if kept[case.name].digest != case.digest():
         return ["the case is another than the kept answer is of"]
     return differences(kept[case.name].answer, answer, name)
@@ -87,7 +88,8 @@ def check(given: argparse.Namespace) -> int:
     program, asked, passed = words_of_program(given.program), chosen(given.word, given.some), 0
     name = given.name or os.path.basename(shlex.split(given.program)[-1])
     kept, failed = kept_answers(given.answers), 0
-    for case, answer in answers_of(program, asked, given.jobs):
+    waiting = [it for it in asked if it.name not in kept]
+    for case, answer in answers_of(program, [it for it in asked if it.name in kept], given.jobs):
         found = faults(case, answer, kept, name)
         passed, failed = passed + (not found), failed + bool(found)
         if found:
@@ -96,6 +98,8 @@ def check(given: argparse.Namespace) -> int:
     for each in gone:
         print(f"differs: {each}: there is no such case")
     failed += len(gone)
+    if waiting:
+        print(f"no answer to {len(waiting)} other cases is kept yet")
     print(f"{passed} passed, {failed} failed")
     return 1 if failed or not passed else 0
 

@@ -14,7 +14,7 @@ import make  # noqa: E402
 from frozen.case import Answer  # noqa: E402
 from frozen.chance import Chance  # noqa: E402
 from frozen.comparing import differences  # noqa: E402
-from frozen.every import cases, chosen  # noqa: E402
+from frozen.every import cases, chosen, sample  # noqa: E402
 from frozen.running import answer_of  # noqa: E402
 from frozen.store import KINDS, read_kind, write_all  # noqa: E402
 
@@ -53,9 +53,14 @@ def altered(answer: Answer, chance: Chance) -> "list[Answer]":
 class Kept(unittest.TestCase):
     """What is kept, and what is said of an answer that is another."""
 
-    def test_all_cases_are_kept(self) -> None:
-        kept = {name: it.digest for kind in KINDS for name, it in read_kind(make.ANSWERS, kind).answers.items()}
-        self.assertEqual(kept, {it.name: it.digest() for it in cases()})
+    def test_the_cases_are_those_that_are_kept(self) -> None:
+        every = {it.name: it.digest() for it in cases()}
+        for kind, many in (("sweep", 300), ("compare", 300), ("timeline", 100)):
+            kept = {name: it.digest for name, it in read_kind(make.ANSWERS, kind).answers.items()}
+            self.assertGreaterEqual(len(kept), many)
+            self.assertEqual(kept, {name: digest for name, digest in every.items() if name in kept})
+        names = {name for kind in KINDS for name in read_kind(make.ANSWERS, kind).answers}
+        self.assertTrue({it.name for it in sample(cases())} <= names)
 
     def test_another_answer_is_seen(self) -> None:
         for kind in KINDS:

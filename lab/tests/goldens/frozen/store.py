@@ -9,6 +9,8 @@ from typing import Mapping, Sequence
 from .case import Answer, Case
 
 KINDS = ("sweep", "compare", "timeline")
+# What gave the answers, as the index says it.
+BUILD = "build unproved: the proofs of that commit had passed"
 
 
 @dataclasses.dataclass(frozen=True)
@@ -62,7 +64,7 @@ def line_of(case: Case, answer: Answer) -> str:
 def write_all(folder: Path, commit: str, version: str, made: "Sequence[tuple[Case, Answer]]") -> None:
     """Writes all answers and the index."""
     folder.mkdir(exist_ok=True)
-    lines = [f"commit {commit}", f"version {version}", "case status bytes-written bytes-said sum words"]
+    lines = [f"commit {commit}", f"version {version}", BUILD, "case status bytes-written bytes-said sum words"]
     for kind in KINDS:
         of_kind = [(case, answer) for case, answer in made if case.kind == kind]
         write_kind(folder, kind, Kind(commit, version, {case.name: Kept(case.digest(), it) for case, it in of_kind}))
