@@ -18,7 +18,8 @@ import matplotlib.pyplot as plot
 
 table = caladan.Table.read(FILE, tick="us")
 key, loads = "task.0.delay", [0.2, 0.4, 0.6]
-frame = caladan.sweep(table, loads, vary={key: [10, 80]}, service="90%:1,10%:10", turns=200, seeds=5).frame
+how = {"service": "90%:1,10%:10", "turns": 200, "to": 160, "seeds": 5}
+frame = caladan.sweep(table, loads, vary={key: [10, 80]}, **how).frame
 # A rank whose request was not answered by the end has no time.
 frame["p99"] = frame["p99 [us]"].where(frame["p99 bound"] != ">")
 figure, axes = plot.subplots(figsize=(6, 3.5))

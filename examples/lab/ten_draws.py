@@ -13,7 +13,8 @@ import pandas
 
 FILE = sys.argv[1] if sys.argv[1:] else Path(__file__).resolve().parents[1] / "sweep/which_delay/input"
 KEY = "task.0.delay"
-HOW = {"vary": {KEY: [10, 80]}, "service": "90%:1,10%:10", "turns": 200}
+# Requests that came from turn 160 on are not ranked: the last 40 turns are there to answer the others.
+HOW = {"vary": {KEY: [10, 80]}, "service": "90%:1,10%:10", "turns": 200, "to": 160}
 
 table = caladan.Table.read(FILE, tick="us")
 draws = pandas.concat(caladan.sweep(table, 0.6, seed=seed, **HOW).frame.assign(seed=seed) for seed in range(1, 11))

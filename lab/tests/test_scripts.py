@@ -19,8 +19,8 @@ SCRIPTS = TOP / "examples" / "lab"
 TABLE = TOP / "examples" / "sweep" / "which_delay" / "input"
 LOG = TOP / "examples" / "tutorial" / "requests.csv"
 DRAW = ["--task", "0", "--load", "0.6", "--service", "90%:1,10%:10", "--turns", "200"]
-# The window of a sweep of 200 turns.
-WINDOW = ["--from", "20", "--to", "180"]
+# The window: from a tenth on, as of a sweep, to the turn that the scripts name.
+WINDOW = ["--from", "20", "--to", "160"]
 
 
 @pytest.fixture(autouse=True)
@@ -86,7 +86,8 @@ def test_first_frame(view: str) -> None:
     assert lines[4] == f"p99 {float(measured(view, given)['response 99 of 100'])} us\n"
     clocks = [int(row.split(",")[1]) for row in given.decode().splitlines() if row.startswith("pass,")]
     last = max(number for number, clock in enumerate(clocks) if clock < int(slowest[0][6]))
-    history = asked(view.replace("caladan_view", "caladan_sim"), "lockstep", "--table", given=given).encode()
+    simulator = os.environ.get("CALADAN_SIM") or view.replace("caladan_view", "caladan_sim")
+    history = asked(simulator, "lockstep", "--table", given=given).encode()
     explained = asked(view, "explain", "--pass", str(last), "--task", "0", given=history)
     assert "".join(lines[5:]) == explained.partition("5 Grants\n")[2]
 

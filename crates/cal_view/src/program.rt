@@ -319,7 +319,8 @@ impl<'h, 'a, H: Files> ProgramRun<'h, 'a, H> {
             Ok(came) => came,
             Err(failure) => return Ok(failure.end(errors)),
         };
-        let read = refused_input(job, self.request, bytes.as_slice());
+        let alone = self.request.plan.is_some() || self.request.counting.are_given();
+        let read = refused_input(job, alone, bytes.as_slice());
         let input = self.job_input(read, came.as_slice(), labels);
         match answer_read(job, &input, output, errors) {
             Ok(status) => Ok(status),

@@ -5,7 +5,7 @@ ghost use Rattle.std.specs.Prelude.{◌≡◌, IfErr, IfOk};
 use crate::command_words::command_line::{InputJob, Job, Request};
 use crate::edge::sources::STANDARD;
 use crate::jobs::telling::Facts;
-use cal_input::RunFault;
+use cal_input::{RunFault, status};
 use cal_load::WordFault;
 use cal_why::{RefusedInput, TraceKind, end_explained};
 use std::alloc::Global;
@@ -23,6 +23,8 @@ pub fn end_refusal<E: Write>(
     ensures kind { IfErr result (λ other. other ≡ fault) }
 {
     match fault {
+        // Memory that was refused to a part is no fault of the part.
+        fault if status(&fault) != 2 => Err(fault),
         RunFault::Separator | RunFault::Config(_) | RunFault::Trace(_) => {
             end_explained(alloc, "caladan_view", refused, &fault, errors);
             Ok(2)
@@ -31,14 +33,12 @@ pub fn end_refusal<E: Write>(
     }
 }
 
-/// The input of a request for this job, for where it is refused.
-pub fn refused_input<'a>(
-    job: InputJob,
-    request: &Request<'_>,
-    input: &'a [u8],
-) -> RefusedInput<'a> {
-    let alone = request.plan.is_some() || request.counting.are_given();
-    refused_with(input, traces_of(job, alone))
+/// The input of a job, for where it is refused; a run alone may be asked for.
+pub fn refused_input<'a>(job: InputJob, alone: bool, input: &'a [u8]) -> RefusedInput<'a> {
+    RefusedInput {
+        input,
+        wanted: traces_of(job, alone),
+    }
 }
 
 /// An input of a table and one of these traces, for where it is refused.

@@ -12,6 +12,7 @@ seeds, tables and policies side by side, are asked here.
     caladan.compare(run, vary={"kv.delay": [10, 40]}).frame
     answer = caladan.sweep(table, [0.3, 0.6, 0.9], task="kv", seeds=10, slo="kv.p99=400")
     answer.frame, answer.is_kept, answer.misses
+    run.picture("run.svg"), answer.picture("sweep.svg")
 
 A Table knows what its tasks are called and what a tick is, a Run also its seed and the words that made it; frames say
 the unit with each time, and are made once each. What the program refuses is a caladan.Refusal with its line. The

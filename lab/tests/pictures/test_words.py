@@ -5,12 +5,18 @@ import csv
 import io
 import os
 import pty
+import signal
 import subprocess
 import sys
+import time
 from pathlib import Path
+from typing import Callable, Sequence
 
 import pytest
 from conftest import LAB, TABLE, TOP, Ran, Run
+
+from caladan import command, programs
+from caladan.pictures import old_words
 
 from .given import DELAYS, KEPT_RUNS, VIEW, compared, example, input_of, run_files, text_of
 
@@ -31,14 +37,28 @@ os.execv({view!r}, [{view!r}, *sys.argv[1:]])
 """
 
 
-@pytest.fixture
-def old() -> Run:
-    """The command line under its old name."""
-    def ran(*words: str, given: str = "") -> Ran:
-        it = subprocess.run([*DRAW, *words], input=given, capture_output=True, text=True, check=False,
-                            env={**os.environ, "CALADAN_VIEW": VIEW})
-        return Ran(it.returncode, it.stdout, it.stderr)
+def here(does: Callable[[Sequence[str]], int], capfd: pytest.CaptureFixture[str],
+         monkeypatch: pytest.MonkeyPatch) -> Run:
+    """A command line in this process, which has imported what draws."""
+    def ran(*words: str, given: str = "", view: str = VIEW) -> Ran:
+        monkeypatch.setenv("CALADAN_VIEW", view)
+        monkeypatch.setattr(sys, "stdin", io.StringIO(given))
+        programs.viewer.cache_clear()
+        capfd.readouterr()
+        return Ran(does(words), *capfd.readouterr())
     return ran
+
+
+@pytest.fixture
+def lab(capfd: pytest.CaptureFixture[str], monkeypatch: pytest.MonkeyPatch) -> Run:
+    """The command line."""
+    return here(command.run, capfd, monkeypatch)
+
+
+@pytest.fixture
+def old(capfd: pytest.CaptureFixture[str], monkeypatch: pytest.MonkeyPatch) -> Run:
+    """The command line under its old name."""
+    return here(old_words.run, capfd, monkeypatch)
 
 
 @pytest.fixture
@@ -57,6 +77,15 @@ def test_both_names_draw_the_same(word: str, lab: Run, old: Run, words_alone: st
     assert old(*WORDS[word], "-o", str(old_file)) == (0, "", "")
     assert new_file.read_bytes() == old_file.read_bytes()
     assert new_file.read_bytes().startswith(b"<?xml")
+
+
+def test_as_processes_both_names_draw(tmp_path: Path) -> None:
+    for command_line in (LAB, DRAW):
+        ran = subprocess.run([*command_line, *WORDS["run"], "-o", str(tmp_path / "x.svg")], capture_output=True,
+                             check=False, env={**os.environ, "CALADAN_VIEW": VIEW})
+        assert (ran.returncode, ran.stdout, ran.stderr) == (0, b"", b"")
+        assert (tmp_path / "x.svg").read_bytes().startswith(b"<?xml")
+        (tmp_path / "x.svg").unlink()
 
 
 def test_the_ending_says_the_format(lab: Run, tmp_path: Path) -> None:
@@ -294,3 +323,33 @@ def arrivals_in(folder: Path) -> Path:
     file = folder / "arrivals"
     file.write_text(input_of("lockstep/tour").partition("---\n")[2])
     return file
+
+
+def test_a_closed_standard_input_is_told(tmp_path: Path) -> None:
+    ran = subprocess.run(f"exec '{sys.executable}' '{TOP}/caladan_lab' seeds -o x.svg <&-", shell=True, cwd=tmp_path,
+                         capture_output=True, text=True, check=False)
+    assert (ran.returncode, ran.stdout, ran.stderr) == (2, "", "caladan_lab: the standard input is closed\n")
+
+
+def test_an_interrupt_leaves_no_picture(tmp_path: Path) -> None:
+    words = ["sweep", "--load", "0.1,0.2,..,0.9", "--turns", "20000", "--seeds", "9", example("sweep/team")]
+    with subprocess.Popen([*LAB, *words, "-o", "x.svg"], cwd=tmp_path, start_new_session=True,
+                          env={**os.environ, "CALADAN_VIEW": VIEW}) as process:
+        time.sleep(2)
+        process.send_signal(signal.SIGINT)
+        assert process.wait() == -signal.SIGINT
+    assert os.listdir(tmp_path) == []
+    for _ in range(100):
+        if not is_there(process.pid):
+            return
+        time.sleep(0.1)
+    pytest.fail("a process is left")
+
+
+def is_there(group: int) -> bool:
+    """Whether a group has a process."""
+    try:
+        os.killpg(group, 0)
+    except ProcessLookupError:
+        return False
+    return True

@@ -15,7 +15,7 @@ use crate::refusing::{end_refusal, refused_with, table_alone};
 use cal_came::{CameFile, CountFault};
 use cal_input::{RunFault, read_input};
 use cal_tables::{MoveAsked, MoveFault, moved_input};
-use cal_trace::write_arrivals;
+use cal_trace::{TraceFault, write_arrivals};
 use cal_why::{TraceKind, explain_fault};
 use std::alloc::Global;
 use std::io::{Read, Write};
@@ -130,23 +130,27 @@ impl<'a> Moving<'a> {
             Ok(texts) => texts,
             Err(failure) => return Ok(failure.end(errors)),
         };
-        let came = match self.came {
-            Some(name) => Some(CameText {
-                name,
-                text: texts.came.as_slice(),
-            }),
-            None => None,
-        };
-        let asked = MoveAsked {
-            bytes: input.as_slice(),
-            table: texts.table.as_slice(),
-            came: came.map(|came| CameFile { text: came.text }),
-        };
+        let asked = self.asked(input.as_slice(), &texts);
         match write_moved(rt, self.alloc, asked, self.words.write_came, output) {
             Ok(()) => Ok(0),
             Err(Unmoved::File(failure)) => Ok(failure.end(errors)),
             Err(Unmoved::Fault(MoveFault::Run(RunFault::Write))) => Err(RunFault::Write),
-            Err(Unmoved::Fault(fault)) => self.refuse(asked, came, fault, errors),
+            Err(Unmoved::Fault(fault)) => self.refuse(asked, fault, errors),
+        }
+    }
+
+    /// The input with these bytes as it is to be moved, by these texts of files.
+    fn asked<'i>(&self, bytes: &'i [u8], texts: &'i Texts) -> MoveAsked<'i> {
+        let came = match self.came {
+            Some(_) => Some(CameFile {
+                text: texts.came.as_slice(),
+            }),
+            None => None,
+        };
+        MoveAsked {
+            bytes,
+            table: texts.table.as_slice(),
+            came,
         }
     }
 
@@ -165,7 +169,6 @@ impl<'a> Moving<'a> {
     fn refuse<E: Write>(
         &self,
         asked: MoveAsked<'_>,
-        came: Option<CameText<'_>>,
         fault: MoveFault,
         errors: &mut E,
     ) -> Result<u8, RunFault> {
@@ -175,9 +178,7 @@ impl<'a> Moving<'a> {
                 let read = refused_with(asked.bytes, &[TraceKind::Arrivals]);
                 return end_refusal(alloc, read, fault, errors);
             }
-            MoveFault::Came(fault) => {
-                return refuse_counting(alloc, came, CountFault::Came(fault), errors);
-            }
+            MoveFault::Came(fault) => return self.refuse_came(asked.came, fault, errors),
             MoveFault::Table(fault) => {
                 let fault = RunFault::Config(fault);
                 let _ = writeln!(errors, "caladan_view: {name} {fault}");
@@ -192,4 +193,27 @@ impl<'a> Moving<'a> {
         }
         Ok(2)
     }
+
+    /// Says why the file of when the requests came is refused, and answers the exit status, 2. The
+    /// fault is `Memory`.
+    fn refuse_came<E: Write>(
+        &self,
+        file: Option<CameFile<'_>>,
+        fault: TraceFault,
+        errors: &mut E,
+    ) -> Result<u8, RunFault> {
+        let fault = CountFault::Came(fault);
+        let text = match file {
+            Some(file) => file.text,
+            None => &[],
+        };
+        let name = self.came.unwrap_or("");
+        let came = came_text(name, text);
+        refuse_counting(self.alloc, Some(came), fault, errors)
+    }
+}
+
+/// A file of when requests came, of this name and with these bytes.
+fn came_text<'x>(name: &'x str, text: &'x [u8]) -> CameText<'x> {
+    CameText { name, text }
 }

@@ -3,9 +3,10 @@
 ghost use Rattle.std.specs.Prelude.{◌≡◌};
 
 use crate::jobs::input::JobInput;
-use cal_input::{RunFault, run_input, status};
+use cal_input::{RunFault, read_parts, status};
 use cal_paced::{PaceFault, have_misses};
 use cal_tables::PlannedFault;
+use cal_trace::{FaultKind, read_arrivals};
 use std::alloc::Global;
 use std::io::Write;
 
@@ -61,9 +62,14 @@ pub fn refuse_no_misses<E: Write>(errors: &mut E) -> u8
 
 /// Whether an input has arrivals of which no request has misses. The fault is `Memory`.
 fn has_no_misses(alloc: Global, input: &[u8]) -> Result<bool, RunFault> {
-    match run_input(alloc, input) {
-        Ok((_, arrivals)) => Ok(!have_misses(arrivals.requests.as_slice())),
-        Err(fault) if status(&fault) != 2 => Err(RunFault::Memory),
+    let (table, trace) = match read_parts(alloc, input) {
+        Ok(parts) => parts,
+        Err(fault) if status(&fault) != 2 => return Err(RunFault::Memory),
+        Err(_) => return Ok(false),
+    };
+    match read_arrivals(alloc, &table, trace) {
+        Ok(arrivals) => Ok(!have_misses(arrivals.requests.as_slice())),
+        Err(fault) if fault.kind == FaultKind::Memory => Err(RunFault::Memory),
         Err(_) => Ok(false),
     }
 }

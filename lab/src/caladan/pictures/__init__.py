@@ -1,3 +1,2 @@
-"""Pictures of runs, comparisons and sweeps, from the facts that caladan_view prints as CSV."""
-
-__version__ = "4"
+"""Pictures of runs, comparisons, sweeps and seeds, from the facts that the programs print as CSV. They need numpy and
+matplotlib."""

@@ -51,6 +51,8 @@ class Given:
 def read_file(file: str) -> Given:
     """A file by its name; `-` is the standard input."""
     try:
+        if file == "-" and sys.stdin is None:
+            raise Refusal("the standard input is closed")
         if file == "-":
             return Given("the standard input", sys.stdin.read())
         with open(file, encoding="utf-8") as it:

@@ -58,7 +58,7 @@ END"""
 PROGRAM = option("program", "FILE", "The caladan_view that makes the runs")
 DRAWN_TABLE = option("table", "FILE", "Of CSV the task table: its cores and its tasks")
 LOOKS = (
-    flag("dark", "On a dark ground; else an SVG is light or dark as its reader has it"),
+    flag("dark", "On a dark ground; else an SVG is as its reader has it"),
     option("width", "PIXELS", f"How wide it is [default: {WIDTH}]", number=Number(LEAST_WIDTH, MOST_WIDTH)),
 )
 # The options of a picture, which -o with .svg, .png or .pdf asks for.
