@@ -15,12 +15,14 @@ Written = Union[bytes, Iterable[bytes]]
 STANDARD = "-"
 INPUT_LIMIT = 67_108_864
 CHUNK, TRIES = 1 << 20, 100
+# What stands between the name of a place and the number of a new file beside it.
+PART = ".part"
 READ, WROTE = 2, 3
 
 
 def reason(fault: OSError) -> str:
-    """What the system says."""
-    return f"{os.strerror(fault.errno or 0)} (os error {fault.errno})"
+    """What the system says, or what is said in its place."""
+    return f"{os.strerror(fault.errno)} (os error {fault.errno})" if fault.errno else str(fault)
 
 
 def of_file(name: str, fault: OSError, status: int) -> Refusal:
@@ -178,10 +180,10 @@ def open_beside(name: str) -> tuple[int, str]:
 def create_beside(place: str) -> tuple[int, str]:
     """A new file beside this place, with its name."""
     for number in range(TRIES):
-        beside = f"{place}.part{number}"
+        beside = f"{place}{PART}{number}"
         with contextlib.suppress(FileExistsError):
             return os.open(beside, os.O_WRONLY | os.O_CREAT | os.O_EXCL | os.O_CLOEXEC, 0o666), beside
-    raise FileExistsError(errno.EEXIST, "")
+    raise OSError("entity already exists")
 
 
 def write_beside(name: str, text: Written) -> None:
@@ -190,7 +192,7 @@ def write_beside(name: str, text: Written) -> None:
     try:
         write_all(file, text)
         if beside:
-            os.replace(beside, os.path.realpath(name))
+            os.replace(beside, beside.rpartition(PART)[0])
     except BaseException:
         if beside:
             with contextlib.suppress(OSError):

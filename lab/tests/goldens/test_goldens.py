@@ -18,6 +18,8 @@ from frozen.every import cases, chosen, sample  # noqa: E402
 from frozen.running import answer_of  # noqa: E402
 from frozen.store import KINDS, read_kind, write_all  # noqa: E402
 
+# Of so many kept answers one is altered.
+EACH = 10
 STUB = """#!/bin/sh
 echo "$#,12345"
 echo "caladan_view: $1 is read" >&2
@@ -64,7 +66,7 @@ class Kept(unittest.TestCase):
 
     def test_another_answer_is_seen(self) -> None:
         for kind in KINDS:
-            for name, it in read_kind(make.ANSWERS, kind).answers.items():
+            for name, it in [*read_kind(make.ANSWERS, kind).answers.items()][::EACH]:
                 self.assertEqual(differences(it.answer, it.answer, "caladan_view"), [])
                 for other in altered(it.answer, Chance(name)):
                     self.assertNotEqual(differences(it.answer, other, "caladan_view"), [], name)
