@@ -21,7 +21,7 @@ typedef struct options {
 
 enum { HOST_GUESTS = 8 };
 
-/* A connection of whom nothing is known yet, and since when, by the scheduler's own clock. */
+/* A connection of whom nothing is known yet, and since when, by the scheduler's run time. */
 typedef struct host_guest {
     int connection;
     uint64_t at;
@@ -41,15 +41,25 @@ typedef struct host_task {
     pid_t pid;             /* 0: nobody has the segment */
     bool is_attached;      /* it said that it has mapped the segment */
     int file, connection;  /* of the process */
-    uint64_t handed_at, killed_at; /* by the scheduler's own clock; 0: not */
+    uint64_t handed_at, killed_at; /* by the scheduler's run time; 0: not */
+    uint64_t killed_at_wall, dump_asked_at; /* by its wall time */
     host_guest guest[HOST_GUESTS];
 } host_task;
 
-/* A core whose thread was sent Park and is to leave it. */
+enum { NO_CORE = HOST_CORES };
+
+/* A thread that was sent Park and is to leave its core; or one without a core (NO_CORE) that is to say that it
+ * publishes nothing more, since a piece ends. */
 typedef struct leaving {
     bool is_set, again;    /* it was interrupted once more */
     unsigned core;
-    uint64_t since, looks; /* by the scheduler's own clock, and by its count of looks */
+    uint64_t since, looks; /* by the scheduler's run time, and by its count of looks */
+    uint64_t since_wall;   /* and by its wall time */
+    /* What the kernel counts of it, asked now and then: how long it ran since it was asked first, and how long it could
+     * have run and did not want to. */
+    pid_t tid;
+    uint64_t ran, rested;
+    uint64_t on_cpu, sampled, sampled_wall; /* when it was asked last: its count, run time and wall time */
 } leaving;
 
 /* A kernel thread of a process. While it has moves that are not done (moves.c), what stands before
@@ -102,7 +112,7 @@ typedef struct host_thread {
 } host_thread;
 
 typedef struct counts {
-    uint64_t passes, pieces, attached, ended, given_up, killed, written_off, refused;
+    uint64_t passes, pieces, attached, ended, given_up, killed, written_off, refused, dumped;
     uint64_t foreign_tids, unpinned, slow_pins, strayed, jumped, outran, worn;
     uint64_t given_way, notes, taken_off; /* of threads that stand under: under.c */
     uint64_t longest_gap; /* between two passes, in nanoseconds */
@@ -128,7 +138,10 @@ typedef struct scheduler {
     unsigned on_core[HOST_CORES]; /* the thread that holds or leaves it, plus one; or 0 */
     bool is_banned[HOST_CORES];
     bool has_mover;
-    uint64_t clock, ticked; /* patience.c: the time in which the scheduler worked, and when it was counted last */
+    /* patience.c: the time in which the scheduler itself ran; the time that went by, but for standstills; and when
+     * both were counted last */
+    uint64_t run_time, wall_time, accounted_at;
+    uint64_t delayed; /* and how long it had waited for its processor by then */
     uint64_t looks;         /* how often all pages were looked at */
     uint64_t complained;
     uint8_t looked_after; /* the thread whose pin was looked at last */
@@ -178,17 +191,27 @@ bool close_segment(const host_task *task); /* false: who was handed it has seale
 void open_tasks(scheduler *s);
 void close_tasks(scheduler *s);
 void tend_each(scheduler *s); /* who wants to attach, who left, who ended */
+bool has_ended(const host_task *task); /* its process */
+void bury(scheduler *s, host_task *task); /* its process has ended, or is about to without another word */
 bool is_own_thread(const host_task *task, pid_t tid);
 void interrupt(const host_task *task, const host_slot *slot);
 unsigned number_of(const scheduler *s, const host_task *task);
 
 /* patience.c */
 enum { LEAST_LOOKS = 16 }; /* the least number of looks at a process's pages before it is killed for what they show */
-void tick(scheduler *s, uint64_t now);
+enum { WALL_BOUND = 5 }; /* no patience lasts longer than so many times its length by the wall clock */
+void account_time(scheduler *s, uint64_t now);
 void note_leaving(scheduler *s, size_t thread, unsigned core);
 void kill_the_deaf(scheduler *s); /* processes with a thread that does not leave its core in time */
 void kill_process(scheduler *s, host_task *task, const char *why);
 void write_off(scheduler *s, host_task *task);
+
+/* proc.c: what the kernel tells of processes */
+uint64_t run_delay(void); /* how long the calling thread, always the same, waited for its processor so far, in ns */
+uint64_t on_cpu_time(pid_t pid, pid_t tid); /* in nanoseconds; 0: it does not tell */
+bool is_runnable(pid_t pid, pid_t tid);     /* it runs, or waits for its processor */
+const char *what_stops(pid_t pid, pid_t tid); /* the end of a line; "" where nothing does */
+bool is_dumping_core(pid_t pid);            /* its threads are dead, and it has not ended */
 
 /* pass.c */
 void make_pass(scheduler *s);

@@ -22,8 +22,8 @@ void print_summary(scheduler *s) {
     for (int k = CALADAN_FREE; k <= CALADAN_GRANT; k++)
         printf("%s %s %" PRIu64, k > 1 ? "," : "", kinds[k], c->actions[k]);
     printf("\nprocesses: attached %" PRIu64 ", ended %" PRIu64 ", left %" PRIu64 ", refused %" PRIu64
-           ", killed %" PRIu64 ", written off %" PRIu64 "\n",
-           c->attached, c->ended, c->given_up, c->refused, c->killed, c->written_off);
+           ", killed %" PRIu64 ", written off %" PRIu64 ", dumped core %" PRIu64 "\n",
+           c->attached, c->ended, c->given_up, c->refused, c->killed, c->written_off, c->dumped);
     printf("longest gap between passes %" PRIu64 " ns, lines lost %" PRIu64 "\n", c->longest_gap, lost_lines());
     printf("threads: not the process's own %" PRIu64 ", not pinned %" PRIu64
            ", pinned slowly %" PRIu64 ", strayed %" PRIu64 ", worn out %" PRIu64 "\n",
@@ -66,6 +66,7 @@ static void put_counts(FILE *out, const counts *c) {
                 {"refused_total", c->refused},
                 {"killed_total", c->killed},
                 {"written_off_total", c->written_off},
+                {"dumped_core_total", c->dumped},
                 {"places_too_far_total", c->jumped},
                 {"misses_too_many_total", c->outran},
                 {"foreign_threads_total", c->foreign_tids},

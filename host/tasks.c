@@ -176,12 +176,12 @@ static void dismiss(scheduler *s, host_guest *guest, uint32_t status) {
     s->counts.refused++;
 }
 
-static bool has_ended(const host_task *task) {
+bool has_ended(const host_task *task) {
     struct pollfd file = {task->file, POLLIN, 0};
     return task->pid && poll(&file, 1, 0) > 0;
 }
 
-static void bury(scheduler *s, host_task *task) {
+void bury(scheduler *s, host_task *task) {
     s->counts.ended += task->is_attached;
     give_up(s, task);
 }
@@ -205,7 +205,7 @@ static void hand_over(scheduler *s, host_task *task, host_guest *guest, const ho
     }
     task->pid = peer.pid, task->file = file, task->connection = guest->connection;
     guest->connection = -1;
-    task->handed_at = s->clock + !s->clock;
+    task->handed_at = s->run_time + !s->run_time;
     answer(task->connection, HOST_DONE, task->memory);
 }
 
@@ -214,7 +214,7 @@ static void hear_guest(scheduler *s, host_task *task, host_guest *guest) {
     pid_t sender;
     int heard = hear(guest->connection, &word, &sender);
     if (heard > 0) return hand_over(s, task, guest, &word, sender);
-    if (heard < 0 || s->clock - guest->at >= GREETING) send_away(guest); /* it only looked in */
+    if (heard < 0 || s->run_time - guest->at >= GREETING) send_away(guest); /* it only looked in */
 }
 
 /* The process that has the segment says that it has mapped it, or closes the connection. */
@@ -222,7 +222,7 @@ static void hear_owner(scheduler *s, host_task *task) {
     host_word word;
     pid_t sender = 0;
     int heard = hear(task->connection, &word, &sender);
-    bool is_late = !task->is_attached && s->clock - task->handed_at >= GREETING;
+    bool is_late = !task->is_attached && s->run_time - task->handed_at >= GREETING;
     if (heard == 0 && !is_late) return;
     if (heard > 0 && word.word == HOST_MAPPED && sender == task->pid && !task->is_attached && !has_ended(task) &&
         close_segment(task)) {
@@ -244,7 +244,7 @@ static host_guest *place_of_next(const scheduler *s, host_task *task) {
         if (guest->connection < 0) return guest;
         if (guest->at < place->at) place = guest;
     }
-    return s->clock - place->at >= MANNERS ? place : NULL;
+    return s->run_time - place->at >= MANNERS ? place : NULL;
 }
 
 static void welcome(scheduler *s, host_task *task) {
@@ -253,7 +253,7 @@ static void welcome(scheduler *s, host_task *task) {
         int connection = accept4(task->listener, NULL, NULL, SOCK_CLOEXEC | SOCK_NONBLOCK);
         if (connection < 0) break;
         send_away(guest);
-        *guest = (host_guest){connection, s->clock};
+        *guest = (host_guest){connection, s->run_time};
         if (!watch(s, task, connection)) send_away(guest);
     }
     for (int i = 0; i < HOST_GUESTS; i++)

@@ -1,6 +1,6 @@
 # common.sh: what the tests of host/check share: schedulers and processes of a run, and what is asked of them.
 
-child=none deaf=none daemon=none runtime=none visitor=none closer=none # processes that a test could not start are none
+spinners=() child=none deaf=none daemon=none runtime=none visitor=none closer=none # processes that a test could not start are none
 life=600 # the seconds of a process that lives until its test ends it, however slow the machine is
 
 # refuses WORDS COMMAND..: it prints one line with WORDS, ends with status 2, and leaves nothing; with judge=timed that needs
@@ -97,6 +97,16 @@ are_legal() { # each piece of the record is whole and legal
     done
 }
 end() { stop "$@"; are_legal; }
+
+# spin_on PROCESSOR NUMBER: so many loops that never end on it, until unspin.
+spin_on() {
+    local i
+    for ((i = 0; i < $2; i++)); do
+        taskset -c "$1" sh -c 'while :; do :; done' &
+        spinners+=($!)
+    done
+}
+unspin() { kill -9 "${spinners[@]}"; wait "${spinners[@]}"; spinners=(); } 2> /dev/null
 
 counter() { od -A n -v -t u8 "$counter" 2> /dev/null | awk '{ for (i = 1; i <= NF; i++) sum += $i } END { print sum + 0 }'; }
 counts_on() { local before=${1:-$(counter)}; [ "$(counter)" -gt "$before" ]; }

@@ -63,6 +63,53 @@ unkillable() { # nobody can be killed: a piece ends without who does not leave, 
     end $deaf $last
 }
 
+# What others take of the scheduler's processor does not lengthen its patience, nor its end: five times the patience by the
+# wall clock, and two seconds in which the scheduler has its turns and the test looks.
+crowded_scheduler() {
+    local from
+    what="a deaf process beside sixteen loops on the scheduler's processor"
+    { [ "$count" -ge 3 ] && command -v taskset > /dev/null; } || { skip "$what, for want of three processors, or of taskset"; return; }
+    start -k 500 -g 0
+    go $life "$bin/misbehave" "$name" 1 $life deaf
+    wait_for 20 only_child_of $last && deaf=$child
+    wait_for 20 counts 'actions_total{kind="grant"}' 2; timed $? "$what: it was granted no cores"
+    spin_on "${own[1]}" 16
+    go $life "$bin/load" lc -n "$name" -u 0 -k 200 -q 2000 -s $life
+    wait_for 60 counts 'actions_total{kind="revoke"}' 1; timed $? "$what: nothing was revoked"
+    wait_at_most 4 is_gone "$deaf"; timed $? "$what: it is not killed in four and a half seconds"
+    says "is killed: thread [0-9]+ did not leave core [01] in [0-9]+ ms, and ran for [0-9]+ ms of them"
+    go $life "$bin/misbehave" "$name" 1 $life deaf
+    wait_for 60 counts attached_total 3; timed $? "$what: the next one does not attach"
+    only_child_of $scheduler && daemon=$child
+    from=$SECONDS
+    kill -TERM "$daemon"
+    wait_at_most 5 is_gone "$daemon"; timed $? "$what: the scheduler has not ended after $((SECONDS - from)) s"
+    unspin
+    kill -9 "$deaf"
+    stop
+    above 1 killed
+} 2> /dev/null
+
+dumped() { # who dumps core is not killed for it, and its cores are free meanwhile
+    local folder=$build/dump size dumper
+    what="a process that dumps core"
+    mkdir -p "$folder"
+    { [ "$(cat /proc/sys/kernel/core_pattern)" = core ] && (ulimit -c unlimited); } 2> /dev/null || { skip "$what, since core files are elsewhere, or may not be long"; return; }
+    start -k 100 -g 20000
+    (cd "$folder" && ulimit -c unlimited && exec timeout -k 100 $life "$build/plain/misbehave" "$name" 1 $life dumps) > "$build/process.dump" 2>&1 &
+    dumper=$!
+    wait_for 60 counts attached_total 1; timed $? "$what: it does not attach: $(cat "$build/process.dump")"
+    go $life "$bin/load" lc -n "$name" -u 0 -k 200 -q 2000 -s $life
+    wait $dumper
+    size=$(cat "$folder"/core* | wc -c)
+    rm -rf "$folder"
+    [ "$size" -gt 530000000 ]; timed $? "$what: of its core file there are $size bytes"
+    says "process [0-9]+ of task 1 dumps core: its cores are free at once"
+    stop $last
+    exactly 0 killed
+    above 1 "dumped core"
+} 2> /dev/null
+
 told_beside_deaf() { # told_beside_deaf MILLISECONDS: $daemon is told to end, beside one that does not leave in its patience
     start -k "$1" -g 50000
     only_child_of $scheduler && daemon=$child
