@@ -10,6 +10,7 @@
 #include <stdlib.h>
 #include <sys/mman.h>
 #include <sys/socket.h>
+#include "helper.h"
 #include "host.h"
 
 #define MOST_MISSES ((uint64_t)1 << 56) /* what a record may count */
@@ -53,6 +54,8 @@ struct caladan_rt {
     char name[HOST_NAME + 1];
     unsigned task;
     unsigned forks;    /* how many forks lie between it and the process that started the first one */
+    pid_t process;     /* its number: a child by vfork has the parent's memory, and another number */
+    helper *helper;
     bool stands_under;
     uint64_t epoch;    /* tick 0 of the runtime's own clock: the first scheduler's */
     uint64_t idle_ns;
@@ -78,9 +81,14 @@ static _Thread_local kernel_thread *self __attribute__((tls_model("initial-exec"
  * for it, and nobody there is a kernel thread. */
 static unsigned forks;
 static int not_noticed; /* the error with which forks cannot be, or 0 */
-static void in_child(void) { forks++, self = NULL; }
+static void leave_core(const caladan_rt *rt);
+static void in_child(void) {
+    forks++;
+    if (self) leave_core(self->rt); /* whose core the child has not */
+    self = NULL;
+}
 static void notice_forks(void) { not_noticed = pthread_atfork(NULL, NULL, in_child); }
-static bool is_of_parent(const caladan_rt *rt) { return rt->forks != forks; }
+static bool is_of_parent(const caladan_rt *rt) { return rt->forks != forks || getpid() != rt->process; }
 
 uint64_t caladan_rt_now(const caladan_rt *rt) { return host_clock() - rt->epoch; }
 unsigned caladan_rt_threads(const caladan_rt *rt) { return rt->threads; }
@@ -320,15 +328,20 @@ static bool some_queued(caladan_rt *rt) {
 
 /* ---- without a scheduler ---- */
 
+/* The calling thread is where the process was when the runtime began, and in that class, where it may. */
+static void leave_core(const caladan_rt *rt) {
+    struct sched_param none = {0};
+    sched_setaffinity(0, sizeof rt->allowed, &rt->allowed);
+    if (rt->stands_under) sched_setscheduler(0, rt->class, &none);
+}
+
 /* On no page any more, and on no core that somebody else may be granted. */
 static void let_go(kernel_thread *k) {
-    struct sched_param none = {0};
     lock(k);
     k->open = false;
     put_on(k, CALADAN_PARK, 0);
     unlock(k);
-    sched_setaffinity(0, sizeof k->rt->allowed, &k->rt->allowed);
-    if (k->rt->stands_under) sched_setscheduler(0, k->rt->class, &none); /* where it may */
+    leave_core(k->rt);
 }
 
 static void wait_for_turn(kernel_thread *k) {
@@ -554,6 +567,19 @@ int caladan_rt_processor(void) {
 
 bool caladan_rt_stands_under(const caladan_rt *rt) { return rt->stands_under; }
 
+/* ---- what is not to be on a core ---- */
+
+int caladan_rt_thread(caladan_rt *rt, pthread_t *thread, const pthread_attr_t *attributes, void *(*start)(void *),
+                      void *with) {
+    return is_of_parent(rt) ? ECHILD : helper_thread(rt->helper, thread, attributes, start, with);
+}
+
+int caladan_rt_spawn(caladan_rt *rt, pid_t *pid, const char *path, const posix_spawn_file_actions_t *actions,
+                     const posix_spawnattr_t *attributes, char *const *words, char *const *environment) {
+    if (is_of_parent(rt)) return ECHILD;
+    return helper_spawn(rt->helper, pid, path, actions, attributes, words, environment);
+}
+
 /* ---- the start ---- */
 
 static caladan_rt *make_rt(host_segment *segment) {
@@ -563,6 +589,7 @@ static caladan_rt *make_rt(host_segment *segment) {
     __builtin_memset(rt, 0, size);
     rt->segment = segment;
     rt->forks = forks;
+    rt->process = getpid();
     rt->stands_under = segment->stands_under;
     rt->epoch = segment->epoch;
     atomic_store(&rt->tick_0, segment->epoch);
@@ -582,6 +609,7 @@ static void unmake(caladan_rt *rt, unsigned started) {
     futex_wake_all(&rt->begun);
     for (unsigned i = 0; i < started; i++) pthread_join(rt->thread[i].thread, NULL);
     for (unsigned i = 0; i < rt->threads; i++) free(rt->thread[i].queue);
+    helper_end(rt->helper);
     free(rt);
 }
 
@@ -594,6 +622,7 @@ static caladan_rt *start_threads(caladan_rt *rt) {
     for (unsigned i = 0; i < rt->threads && !error; i++) error = rt->thread[i].queue ? 0 : ENOMEM;
     for (; started < rt->threads && !error; started += !error)
         error = pthread_create(&rt->thread[started].thread, NULL, live, &rt->thread[started]);
+    if (!error) rt->helper = helper_begin(), error = rt->helper ? 0 : errno;
     if (!error) error = begin_to_watch(rt);
     if (error) {
         unmake(rt, started);

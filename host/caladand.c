@@ -112,7 +112,7 @@ static void begin(scheduler *s) {
     take_processors(s);
     take_folder(s);
     if (s->options.folder) open_record(s);
-    if (!begin_lines(&s->others) || !begin_metrics(s)) fail("a clerk", "no thread can be begun");
+    if (!begin_lines(&s->others) || !begin_metrics(s) || !begin_strays(s)) fail("a clerk", "no thread can be begun");
     if (!begin_moves(s)) fail("-m", "no thread can be begun");
     warn_of_class(s);
     warn_of_place(s);
@@ -135,6 +135,7 @@ static void keep_house(scheduler *s, uint64_t now) {
     look_after_pin(s);
     if (now - s->metrics_at < FLUSH) return;
     s->metrics_at = now;
+    strays_say(s);
     look_after_record(s);
     hand_metrics(s);
 }
@@ -172,6 +173,7 @@ int main(int count, char **words) {
     wait_for_moves(&s);
     close_tasks(&s);
     if (s.options.folder) record_close();
+    strays_say(&s);
     print_summary(&s);
     end_metrics();
     end_lines();

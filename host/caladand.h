@@ -111,9 +111,12 @@ typedef struct host_thread {
     uint64_t misses;    /* of those that came before what its page counts */
 } host_thread;
 
+typedef struct strays strays; /* strays.c */
+
 typedef struct counts {
     uint64_t passes, pieces, attached, ended, given_up, killed, written_off, refused, dumped;
     uint64_t foreign_tids, unpinned, slow_pins, strayed, jumped, outran, worn;
+    uint64_t put_back; /* threads and children of processes that were pinned without a core: strays.c */
     uint64_t given_way, notes, taken_off; /* of threads that stand under: under.c */
     uint64_t longest_gap; /* between two passes, in nanoseconds */
     uint64_t judged[CALADAN_WORD_FELL + 1], actions[CALADAN_GRANT + 1];
@@ -150,6 +153,10 @@ typedef struct scheduler {
     bool is_closing;
     bool is_due; /* the next pass is made at once: it frees a core that nobody has to leave */
     record *record; /* NULL: nothing is recorded */
+    strays *strays; /* NULL: nobody looks for them */
+    uint64_t strays_told, strays_told_at; /* how many it has told of, and when */
+    /* of each kernel thread of a task, the thread that was pinned; 0: none */
+    _Atomic int32_t seated[HOST_TASKS][HOST_LIMIT];
     uint64_t passes; /* of this piece */
     uint64_t passed_at, metrics_at;
     latency latency;
@@ -228,6 +235,12 @@ void carry_out(scheduler *s);
 void wait_for_moves(scheduler *s); /* until the mover has done what it was handed */
 void look_after_pin(scheduler *s); /* of one thread, in turn */
 void lift(scheduler *s, size_t k); /* out of SCHED_IDLE, where it may be, until its next Run */
+
+/* strays.c: what is pinned to a managed processor, and has no core */
+bool begin_strays(scheduler *s);
+void strays_attach(scheduler *s, const host_task *task);  /* its process is looked at from now on */
+void strays_give_up(scheduler *s, const host_task *task); /* at once, and once more */
+void strays_say(scheduler *s);
 
 /* under.c: tasks that stand under */
 bool stands_under(const scheduler *s, size_t k);

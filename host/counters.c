@@ -26,8 +26,8 @@ void print_summary(scheduler *s) {
            c->attached, c->ended, c->given_up, c->refused, c->killed, c->written_off, c->dumped);
     printf("longest gap between passes %" PRIu64 " ns, lines lost %" PRIu64 "\n", c->longest_gap, lost_lines());
     printf("threads: not the process's own %" PRIu64 ", not pinned %" PRIu64
-           ", pinned slowly %" PRIu64 ", strayed %" PRIu64 ", worn out %" PRIu64 "\n",
-           c->foreign_tids, c->unpinned, c->slow_pins, c->strayed, c->worn);
+           ", pinned slowly %" PRIu64 ", strayed %" PRIu64 ", worn out %" PRIu64 ", put back %" PRIu64 "\n",
+           c->foreign_tids, c->unpinned, c->slow_pins, c->strayed, c->worn, c->put_back);
     printf("standing under: gave way %" PRIu64 ", had their core back %" PRIu64
            ", taken off %" PRIu64 "\n", c->given_way, c->notes, c->taken_off);
     latency_print(&s->latency, stdout);
@@ -73,6 +73,7 @@ static void put_counts(FILE *out, const counts *c) {
                 {"unpinned_total", c->unpinned},
                 {"strayed_total", c->strayed},
                 {"slow_pins_total", c->slow_pins},
+                {"put_back_total", c->put_back},
                 {"gave_way_total", c->given_way},
                 {"had_back_total", c->notes},
                 {"taken_off_total", c->taken_off}};

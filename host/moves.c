@@ -67,6 +67,12 @@ static long waits(void) {
     return getrusage(RUSAGE_THREAD, &used) ? 0 : used.ru_nvcsw;
 }
 
+/* Whoever looks for strays is to know it before it is pinned. */
+static void take_seat(scheduler *s, const host_thread *thread, pid_t tid) {
+    const host_task *task = &s->task[thread->task];
+    atomic_store(&s->seated[thread->task][thread->seat.slot - task->segment->slot], tid);
+}
+
 static bool put_under(host_seat *seat, pid_t tid) {
     struct sched_param none = {0};
     if (seat->idle == tid) return true;
@@ -76,7 +82,7 @@ static bool put_under(host_seat *seat, pid_t tid) {
 }
 
 /* The thread sleeps, and so wakes on the core's processor. False: it is not pinned there. */
-static bool pin(const scheduler *s, host_thread *thread, unsigned core) {
+static bool pin(scheduler *s, host_thread *thread, unsigned core) {
     host_seat *seat = &thread->seat;
     const host_task *task = &s->task[thread->task];
     pid_t tid = atomic_load(&seat->slot->tid);
@@ -84,6 +90,7 @@ static bool pin(const scheduler *s, host_thread *thread, unsigned core) {
     seat->pinned = seat->unpinned_for = 0;
     seat->is_lost = true;
     if (!is_own_thread(task, tid)) return false;
+    take_seat(s, thread, tid);
     long before = waits();
     uint64_t from = host_clock();
     if ((task->is_under && !put_under(seat, tid)) || !put_on(s, tid, core)) {

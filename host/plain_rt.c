@@ -140,6 +140,14 @@ int caladan_rt_processor(void) { return -1; }
 bool caladan_rt_stands_under(const caladan_rt *rt) { return (void)rt, false; }
 void caladan_rt_hold(void) {}
 void caladan_rt_release(void) {}
+int caladan_rt_thread(caladan_rt *rt, pthread_t *thread, const pthread_attr_t *attributes, void *(*start)(void *),
+                      void *with) {
+    return (void)rt, pthread_create(thread, attributes, start, with);
+}
+int caladan_rt_spawn(caladan_rt *rt, pid_t *pid, const char *path, const posix_spawn_file_actions_t *actions,
+                     const posix_spawnattr_t *attributes, char *const *words, char *const *environment) {
+    return (void)rt, posix_spawn(pid, path, actions, attributes, words, environment);
+}
 
 static bool read_name(caladan_rt *rt, const char *name) {
     char text[256], *rest = text;

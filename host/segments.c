@@ -90,6 +90,8 @@ static void unpin_each(scheduler *s, const host_task *task) {
 void give_up(scheduler *s, host_task *task) {
     wait_for_moves(s);
     unpin_each(s, task);
+    for (unsigned i = 0; i < HOST_LIMIT; i++) atomic_store(&s->seated[number_of(s, task)][i], 0);
+    strays_give_up(s, task);
     drop_segment(task);
     make_segment(s, task);
     for (unsigned k = task->first; k < task->first + task->limit; k++) bury_thread(s, k);

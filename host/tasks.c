@@ -206,6 +206,7 @@ static void hand_over(scheduler *s, host_task *task, host_guest *guest, const ho
     task->pid = peer.pid, task->file = file, task->connection = guest->connection;
     guest->connection = -1;
     task->handed_at = s->run_time + !s->run_time;
+    strays_attach(s, task);
     answer(task->connection, HOST_DONE, task->memory);
 }
 
