@@ -133,9 +133,12 @@ static void keep_house(scheduler *s, uint64_t now) {
     tend_each(s);
     kill_the_deaf(s);
     look_after_pin(s);
+    look_after_own_place(s);
+    look_after_mover(s);
     if (now - s->metrics_at < FLUSH) return;
     s->metrics_at = now;
     strays_say(s);
+    look_after_clerks(s);
     look_after_record(s);
     hand_metrics(s);
 }
@@ -172,10 +175,12 @@ int main(int count, char **words) {
     while (!is_over(&s)) run_piece(&s);
     wait_for_moves(&s);
     close_tasks(&s);
-    if (s.options.folder) record_close();
+    bool is_kept = s.options.folder == NULL || record_close();
+    end_metrics();
+    leave_places(); /* whoever does not read the summary keeps neither a name nor a processor from others */
     strays_say(&s);
     print_summary(&s);
-    end_metrics();
     end_lines();
-    return fflush(stdout) ? 2 : 0;
+    if (fflush(stdout)) return 2;
+    return is_kept ? 0 : 3;
 }

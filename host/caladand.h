@@ -116,6 +116,7 @@ typedef struct strays strays; /* strays.c */
 typedef struct counts {
     uint64_t passes, pieces, attached, ended, given_up, killed, written_off, refused, dumped;
     uint64_t foreign_tids, unpinned, slow_pins, strayed, jumped, outran, worn;
+    uint64_t displaced; /* the scheduler itself */
     uint64_t put_back; /* threads and children of processes that were pinned without a core: strays.c */
     uint64_t given_way, notes, taken_off; /* of threads that stand under: under.c */
     uint64_t longest_gap; /* between two passes, in nanoseconds */
@@ -127,6 +128,8 @@ typedef struct scheduler {
     char *table;
     uint64_t epoch;
     cpu_set_t others; /* the processors that it may use and does not manage */
+    cpu_set_t place;  /* and where the passes are made; empty: anywhere */
+    uint64_t displaced_at;
     int folder;       /* its own */
     int events;       /* an epoll of all sockets, and of the files of processes */
     caladan handle;
@@ -172,6 +175,8 @@ unsigned stop_signals(void); /* how often it was told to end */
 #define CLERKS_LAST ((uint64_t)1000000000) /* how long a clerk is waited for at the end, in nanoseconds, at least */
 typedef void clerk_work(void *with);
 bool start_clerk(clerk_work *work, void *with, const cpu_set_t *where); /* on these processors, if there are any */
+bool place_clerk(clerk_work *work, const cpu_set_t *where); /* from now on it runs there */
+void look_after_clerks(scheduler *s); /* those that were moved go back */
 bool wait_for_clerk(bool is_idle(void), uint64_t most);                  /* false: it was not idle in so long */
 /* A line on standard error; it waits for nobody. */
 void complain(const char *format, ...) __attribute__((format(printf, 1, 2)));
@@ -186,6 +191,9 @@ char *text_of(const char *path);
 /* places.c: what only one scheduler may have: its folder, and its processors */
 void take_folder(scheduler *s); /* it is left, and gone, when the process ends */
 void take_processors(scheduler *s);
+void leave_places(void);
+void look_after_own_place(scheduler *s);
+bool can_be_found(unsigned tasks); /* its folder, with the sockets of so many tasks; by a clerk */
 void tell_ready(void); /* to whom started it, where NOTIFY_SOCKET says */
 
 /* segments.c */
@@ -233,6 +241,7 @@ void plan_park(scheduler *s, size_t k, unsigned from, unsigned to);
 void plan_nothing(scheduler *s, size_t k);
 void carry_out(scheduler *s);
 void wait_for_moves(scheduler *s); /* until the mover has done what it was handed */
+void look_after_mover(const scheduler *s); /* that makes no moves: it is put elsewhere, or the run ends */
 void look_after_pin(scheduler *s); /* of one thread, in turn */
 void lift(scheduler *s, size_t k); /* out of SCHED_IDLE, where it may be, until its next Run */
 
