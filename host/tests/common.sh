@@ -73,13 +73,13 @@ all_end() { # the processes of the test end by themselves
     wait
 }
 is_gone() { ! kill -0 "$1" 2> /dev/null; }
-stop() { # the scheduler ends when it is told to, and nothing of it is left; so do the processes that are named
+stop() { # the scheduler ends when it is told to, with status 0 or $ends_with, and nothing of it is left; so do the processes that are named
     local judge=note status
     kill -TERM $scheduler
     wait $scheduler
     status=$?
     case $status in 124 | 137) judge=timed ;; esac # timeout has ended it
-    $judge $status "$what: the scheduler's status is $status; $(tail -n 5 "$build/said")"
+    [ $status = "${ends_with-0}" ]; $judge $? "$what: the scheduler's status is $status; $(tail -n 5 "$build/said")"
     [ $# = 0 ] || kill -TERM "$@" 2> /dev/null
     all_end
     [ ! -e "$CALADAN_FOLDER/$name" ]; $judge $? "$what: the scheduler's folder is still there"

@@ -221,6 +221,24 @@ orphans() {
     exactly 0 killed
 }
 
+is_at() { [ "$(sed -n 's/^Cpus_allowed_list:[[:space:]]*//p' "/proc/$1/status")" = "$2" ]; } # is_at PID PROCESSORS
+moved() { # who moves the scheduler, or one of its clerks, does not keep it there
+    local each before
+    what="a scheduler that is moved to a processor that it manages"
+    { [ "$count" -ge 3 ] && command -v taskset > /dev/null; } || { skip "$what, for want of three processors, or of taskset"; return; }
+    start -k 1000 -g 100000
+    only_child_of $scheduler && daemon=$child
+    wait_for 20 counts passes_total 1; timed $? "$what: it does not count"
+    for each in "/proc/$daemon/task/"*; do taskset -pc "${managed#*,}" "${each##*/}" > /dev/null 2>&1; done
+    wait_for 5 is_at "$daemon" "${own[1]}"; timed $? "$what: it is left there"
+    says "the scheduler was moved to processor ${managed#*,}, and went back"
+    wait_for 5 are_elsewhere "$daemon"; timed $? "$what: a clerk is left there: $(grep Cpus_allowed_list "/proc/$daemon/task/"*/status)"
+    works
+    stop
+    above 2 "moved itself back"
+}
+are_elsewhere() { ! grep -qE "^Cpus_allowed_list:[[:space:]]*${managed#*,}\$" "/proc/$1/task/"*/status; }
+
 processors() { # without -o the scheduler stays off what it manages
     local each theirs
     what="a scheduler without a processor of its own"
