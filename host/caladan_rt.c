@@ -14,6 +14,7 @@
 #include "host.h"
 
 #define MOST_MISSES ((uint64_t)1 << 56) /* what a record may count */
+#define FEEL 10000000                   /* how often the scheduler's heartbeat is felt, in nanoseconds */
 #define NAP 200000                      /* between two looks for work where there is no scheduler, in nanoseconds */
 /* how long one that dozes may take to be at work, in nanoseconds */
 #define WAKES ((uint64_t)30000)
@@ -43,6 +44,8 @@ typedef struct kernel_thread {
     caladan_request current;
     uint32_t phase;
     pthread_t thread;
+    bool is_away, was_open; /* it does without the scheduler, and whether its page was open before */
+    cpu_set_t place;        /* and where it was then */
     _Atomic uint32_t waits; /* the turn that it waits for, and until then it looks at nothing else */
     volatile sig_atomic_t held;    /* how often a Park is held off */
     volatile sig_atomic_t pending; /* a signal came meanwhile */
@@ -69,6 +72,9 @@ struct caladan_rt {
     _Atomic bool is_over;     /* the scheduler has ended, or gave the task up */
     _Atomic bool is_watched;  /* a thread waits for that, or has still to tell the others */
     _Atomic int after;        /* what threads do then */
+    _Atomic uint64_t lost_after; /* so long without a heartbeat the scheduler is lost; 0: never */
+    _Atomic uint32_t is_lost;    /* a futex: it has shown nothing for so long */
+    _Atomic int32_t watcher;     /* the thread that feels that */
     _Atomic bool is_waiting;  /* all are to wait, for they get another segment */
     _Atomic uint32_t turn;    /* a futex: it grows when they go on */
     _Atomic uint64_t tick_0;  /* of the scheduler, or of the last one */
@@ -186,6 +192,8 @@ static void follow_phase(kernel_thread *k) {
 }
 
 static bool outlives(kernel_thread *k);
+static bool does_without(kernel_thread *k);
+static void come_back(kernel_thread *k);
 
 /* Takes what was sent, shows it, and is back when the thread has a core, or needs none. Held, or in the handler. */
 static void obey(kernel_thread *k) {
@@ -196,6 +204,11 @@ static void obey(kernel_thread *k) {
             if (outlives(k)) return;
             continue;
         }
+        if (atomic_load(&k->rt->is_lost)) {
+            if (does_without(k)) return;
+            continue;
+        }
+        if (k->is_away) come_back(k);
         follow_phase(k);
         take_commands(k);
         if (k->words[RUNNING] != 0) return;
@@ -338,7 +351,7 @@ static void leave_core(const caladan_rt *rt) {
 /* On no page any more, and on no core that somebody else may be granted. */
 static void let_go(kernel_thread *k) {
     lock(k);
-    k->open = false;
+    k->open = k->is_away = false;
     put_on(k, CALADAN_PARK, 0);
     unlock(k);
     leave_core(k->rt);
@@ -369,6 +382,47 @@ static bool outlives(kernel_thread *k) {
     return false;
 }
 
+/* ---- while the scheduler shows nothing ---- */
+
+/* Its page stays as it is until the thread comes back: as if it went on in a long request. */
+static void go_away(kernel_thread *k) {
+    sched_getaffinity(0, sizeof k->place, &k->place);
+    lock(k);
+    k->was_open = k->open;
+    k->open = false;
+    put_on(k, CALADAN_PARK, 0);
+    unlock(k);
+    leave_core(k->rt);
+    k->is_away = true;
+}
+
+/* Where it was, so that the scheduler need not pin it again; without a core, as one that has given it up. */
+static void come_back(kernel_thread *k) {
+    struct sched_param none = {0};
+    sched_setaffinity(0, sizeof k->place, &k->place);
+    if (k->rt->stands_under) sched_setscheduler(0, SCHED_IDLE, &none);
+    lock(k);
+    k->is_away = false;
+    k->open = k->was_open;
+    put_on(k, CALADAN_PARK, 0);
+    show_queue(k);
+    publish(k, caladan_rt_now(k->rt));
+    unlock(k);
+}
+
+/* True where the thread goes on by itself; false when it has waited. */
+static bool does_without(kernel_thread *k) {
+    caladan_rt *rt = k->rt;
+    struct timespec nap = {0, NAP};
+    if (!k->is_away) go_away(k);
+    if (atomic_load(&rt->after) == CALADAN_RT_RUN) {
+        if (!k->working && !some_queued(rt)) nanosleep(&nap, NULL);
+        return true;
+    }
+    futex_wait(&rt->is_lost, 1);
+    return false;
+}
+
 static void interrupt_each(caladan_rt *rt) {
     for (unsigned i = 0; i < rt->threads; i++) {
         pthread_kill(rt->thread[i].thread, HOST_SIGNAL);
@@ -376,21 +430,66 @@ static void interrupt_each(caladan_rt *rt) {
     }
 }
 
-/* Sleeps until the scheduler closes the connection: it ended, or has given the task up; or until
- * the process itself has closed it. Its number may be another file's by then, of which nothing
- * is read. */
+static void set_lost(caladan_rt *rt, bool is) {
+    if (atomic_exchange(&rt->is_lost, is) == is) return;
+    futex_wake_all(&rt->is_lost);
+    interrupt_each(rt);
+}
+
+/* What the watcher felt: the last beat, when, and how long it has felt none. Where the machine stood still, that is two
+ * looks. */
+typedef struct pulse {
+    uint64_t beat, at, silent;
+} pulse;
+
+static void feel(caladan_rt *rt, pulse *p) {
+    uint64_t most = atomic_load(&rt->lost_after), now = host_clock(), passed = now - p->at;
+    uint64_t beat = most ? atomic_load(&rt->segment->heartbeat) : 0;
+    bool is_there = most == 0 || beat != p->beat;
+    p->silent = is_there ? 0 : p->silent + (passed < 2 * FEEL ? passed : 2 * FEEL);
+    p->at = now, p->beat = beat;
+    if (is_there || p->silent >= most) set_lost(rt, !is_there);
+}
+
+/* Sleeps until something comes over the connection, or until a beat is to be felt, or to be felt from now on: that a
+ * signal says. */
+static void wait_for_word(caladan_rt *rt, struct pollfd *file) {
+    struct timespec soon = {0, FEEL};
+    sigset_t most;
+    sigfillset(&most);
+    sigdelset(&most, HOST_SIGNAL);
+    ppoll(file, 1, atomic_load(&rt->lost_after) ? &soon : NULL, &most);
+}
+
+/* Until the scheduler closes the connection: it ended, or has given the task up; or until the process itself has
+ * closed it. Its number may be another file's by then, of which nothing is read. */
 static void *watch(void *argument) {
     caladan_rt *rt = argument;
     struct pollfd file = {rt->connection, POLLIN, 0};
+    pulse felt = {0};
     char byte;
-    do poll(&file, 1, -1);
-    while ((file.revents & (POLLHUP | POLLERR | POLLNVAL)) == 0 &&
-           recv(rt->connection, &byte, 1, MSG_DONTWAIT) != 0);
+    atomic_store(&rt->watcher, (int32_t)syscall(SYS_gettid));
+    do {
+        file.revents = 0;
+        wait_for_word(rt, &file);
+        feel(rt, &felt);
+    } while ((file.revents & (POLLHUP | POLLERR | POLLNVAL)) == 0 &&
+             recv(rt->connection, &byte, 1, MSG_DONTWAIT) != 0);
+    atomic_store(&rt->watcher, 0);
     atomic_store(&rt->is_over, true);
+    set_lost(rt, false);
     interrupt_each(rt);
     atomic_store(&rt->is_watched, false);
     return NULL;
 }
+
+void caladan_rt_lost_after(caladan_rt *rt, uint64_t ns) {
+    atomic_store(&rt->lost_after, ns);
+    int32_t watcher = atomic_load(&rt->watcher);
+    if (watcher && !is_of_parent(rt)) syscall(SYS_tgkill, getpid(), watcher, HOST_SIGNAL);
+}
+
+bool caladan_rt_is_lost(const caladan_rt *rt) { return atomic_load(&rt->is_lost) && !is_of_parent(rt); }
 
 /* With all signals blocked, so that none of the process's comes to it. */
 static int begin_to_watch(caladan_rt *rt) {
@@ -500,7 +599,7 @@ static void doze(kernel_thread *k) {
     atomic_store(&k->dozes, 1);
     /* who has queued a request finds this, or is found here */
     atomic_thread_fence(memory_order_seq_cst);
-    bool may = atomic_load(&k->slot->may_doze) && !atomic_load(&k->rt->is_over);
+    bool may = atomic_load(&k->slot->may_doze) && !atomic_load(&k->rt->is_over) && !atomic_load(&k->rt->is_lost);
     if (may && !some_queued(k->rt)) sleep_on_bell(k->slot, bell);
     atomic_store(&k->dozes, 0);
     obey(k);

@@ -76,6 +76,13 @@ bool caladan_rt_is_over(const caladan_rt *rt);
 enum { CALADAN_RT_WAIT, CALADAN_RT_RUN };
 void caladan_rt_after(caladan_rt *rt, int what);
 
+/* A scheduler that is stopped, or gets no processor, moves no core, and does not close the connection. After so many
+ * nanoseconds without a sign of it, kernel threads do as caladan_rt_after says; when it shows itself again, they come
+ * back to it. 0, as without this call: never. More than the scheduler's -g, and than it may lose its processor; it gives
+ * a sign each millisecond, and is asked for one each ten. */
+void caladan_rt_lost_after(caladan_rt *rt, uint64_t ns);
+bool caladan_rt_is_lost(const caladan_rt *rt); /* there is no sign of it */
+
 /* Attaches to the next scheduler of that name, as the same task: requests go on. To be called by one thread at a time,
  * which is no kernel thread; it lasts as long as a scheduler takes to answer, at most ten seconds twice, in which
  * kernel threads go on; and then as long as these hold their Park off, at most three seconds. False: errno says why,

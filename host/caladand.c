@@ -112,7 +112,8 @@ static void begin(scheduler *s) {
     take_processors(s);
     take_folder(s);
     if (s->options.folder) open_record(s);
-    if (!begin_lines(&s->others) || !begin_metrics(s) || !begin_strays(s)) fail("a clerk", "no thread can be begun");
+    if (!begin_lines(&s->others) || !begin_metrics(s) || !begin_strays(s) || !begin_pairs(s))
+        fail("a clerk", "no thread can be begun");
     if (!begin_moves(s)) fail("-m", "no thread can be begun");
     warn_of_class(s);
     warn_of_place(s);

@@ -21,10 +21,13 @@ typedef struct options {
 
 enum { HOST_GUESTS = 8 };
 
-/* A connection of whom nothing is known yet, and since when, by the scheduler's run time. */
+/* A connection of whom nothing is known yet, and since when, by the scheduler's run time; and what it said. */
 typedef struct host_guest {
     int connection;
     uint64_t at;
+    bool has_said;
+    host_word word;
+    pid_t sender;
 } host_guest;
 
 /* A task: its segment, the process that is attached as it, if any, and who wants to be. Files are -1 where there is
@@ -41,6 +44,7 @@ typedef struct host_task {
     pid_t pid;             /* 0: nobody has the segment */
     bool is_attached;      /* it said that it has mapped the segment */
     int file, connection;  /* of the process */
+    uint64_t welcomed_at;          /* when guests were looked at last */
     uint64_t handed_at, killed_at; /* by the scheduler's run time; 0: not */
     uint64_t killed_at_wall, dump_asked_at; /* by its wall time */
     host_guest guest[HOST_GUESTS];
@@ -147,6 +151,7 @@ typedef struct scheduler {
     /* patience.c: the time in which the scheduler itself ran; the time that went by, but for standstills; and when
      * both were counted last */
     uint64_t run_time, wall_time, accounted_at;
+    uint64_t beat_at; /* when it showed last that it looks on */
     uint64_t delayed; /* and how long it had waited for its processor by then */
     uint64_t looks;         /* how often all pages were looked at */
     uint64_t complained;
@@ -199,6 +204,7 @@ void tell_ready(void); /* to whom started it, where NOTIFY_SOCKET says */
 /* segments.c */
 bool make_segment(scheduler *s, host_task *task);
 void drop_segment(host_task *task);
+void beat(scheduler *s); /* shows each process that the scheduler looks on */
 void give_up(scheduler *s, host_task *task); /* nobody has the task any more: its threads are gone, on a new segment */
 bool close_segment(const host_task *task); /* false: who was handed it has sealed it otherwise */
 
@@ -264,6 +270,14 @@ void under_cap(scheduler *s, unsigned task, uint8_t cap);
 /* Whether nobody but that thread stands under there. */
 bool is_clear(const scheduler *s, unsigned core, size_t of);
 void under_settle(scheduler *s, uint64_t now); /* plans what follows from the actions of a pass */
+
+/* pairs.c: the same, asked of a clerk */
+typedef struct host_pair {
+    pid_t under, to;
+} host_pair;
+bool begin_pairs(const scheduler *s);
+/* Whether each of them gives way; -1: it is not known yet, and who asks, as a task, has to ask again. */
+int each_gives_way(const host_pair *pairs, size_t count, unsigned asker, uint64_t now);
 
 /* groups.c: whether a thread in SCHED_IDLE of one process gives way to those of another */
 bool gives_way(pid_t under, pid_t to);

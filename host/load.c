@@ -5,7 +5,7 @@
  *   load lc -n NAME -u TASK [-s SECONDS] [-q REQUESTS_A_SECOND] [-m MICROSECONDS] [-i IDLE_NS]
  *        [-x CPU] [-k TURNS] [-c COUNTER]
  *   load be -n NAME -u TASK [-s SECONDS] [-i IDLE_NS] [-b] [-h] [-e WHAT] [-k TURNS] [-c
- *        COUNTER] [-p WHAT]
+ *        COUNTER] [-p WHAT] [-l MS]
  *
  * lc: requests come at times that are drawn beforehand (Poisson), whether earlier ones are
  * served or not, and the time of a request counts from there. A request is a number of turns of
@@ -17,7 +17,8 @@
  * again; seek: run until it has attached again), and the process goes on. Both: -a: the main
  * thread has all signals blocked; -g: the process has a handler of SIGURG; -z: it closes all its
  * files when it has started; -f: it has a child that hands in a request, and one that attaches
- * as its task, and the status is 4 where these are not refused. -p: a thread with a core starts something that lives
+ * as its task, and the status is 4 where these are not refused. -l: so long without a sign of it the scheduler counts as
+ * over, and its threads do as -e says. -p: a thread with a core starts something that lives
  * for a minute, and says its number: thread, fork, spawn, exec, or, by the runtime, rt_thread and rt_spawn;
  * vfork: the child hands in a request, and the status is 4 where it is not refused. lc reads that file, and says how many pieces
  * were done meanwhile.
@@ -58,7 +59,7 @@ typedef struct counter {
 static struct {
     const char *name, *counter;
     unsigned task;
-    double turns, microseconds, rate, seconds;
+    double turns, microseconds, rate, seconds, lost;
     int cpu;
     bool bytes, holds, blocks, handles, closes, forks;
     const char *after, *starts;
@@ -182,6 +183,7 @@ static void start(caladan_serve *serve) {
     char task[64];
     snprintf(task, sizeof task, "task %u", options.task);
     if (rt == NULL) die(task, caladan_rt_why(errno));
+    if (options.lost > 0) caladan_rt_lost_after(rt, (uint64_t)(options.lost * 1e6));
 }
 
 /* ---- the latency-critical task ---- */
@@ -443,6 +445,7 @@ static void read_option(int option) {
     case 'z': options.closes = true; break;
     case 'f': options.forks = true; break;
     case 'e': options.after = optarg; break;
+    case 'l': options.lost = atof(optarg); break;
     case 'p': options.starts = optarg; break;
     default: exit(2);
     }
@@ -451,7 +454,7 @@ static void read_option(int option) {
 int main(int count, char **words) {
     const char *word = count > 1 ? words[1] : "";
     if (!strcmp(word, "spin")) return printf("%.2f\n", turns_of_a_microsecond()), 0;
-    static const char letters[] = "n:u:k:c:x:m:q:s:i:bhagzfe:p:";
+    static const char letters[] = "n:u:k:c:x:m:q:s:i:bhagzfe:p:l:";
     for (int c; count > 1 && (c = getopt(count - 1, words + 1, letters)) != -1;) read_option(c);
     if ((strcmp(word, "lc") && strcmp(word, "be")) || options.name == NULL)
         die("usage", "load spin | lc | be -n NAME -u TASK ..");

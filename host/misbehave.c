@@ -11,6 +11,7 @@
  *   last_one the same on one of its threads alone
  *   misses   shows as many misses as a record may have on each of its threads, and ends
  *   wordy    publishes records of the longest numbers, and never leaves
+ *   storms   attaches and closes its connection, again and again
  *   visits   connects, says nothing and closes; it lives on
  *   silent   connects twelve times at once, says nothing, and comes again where it is sent away
  *   dumps    is given a core, and dumps core, with 512 MiB of memory
@@ -163,6 +164,17 @@ static int visit(const char *name, unsigned task) {
     return 0;
 }
 
+/* Who is refused, since the one before is not given up yet, comes again. */
+static int attach_again_and_again(const char *name, unsigned task) {
+    while (host_clock() < until) {
+        segment = host_attach(name, task, &connection);
+        if (segment == NULL) continue;
+        munmap(segment, sizeof *segment);
+        close(connection);
+    }
+    return 0;
+}
+
 /* Twelve connections that say nothing; where one is closed, there is another. */
 static int say_nothing(const char *name, unsigned task) {
     struct sockaddr_un address;
@@ -208,6 +220,7 @@ int main(int count, char **words) {
     until = host_clock() + strtoull(words[3], NULL, 10) * 1000000000u;
     how = words[4];
     if (!strcmp(how, "visits")) return visit(words[1], (unsigned)atoi(words[2]));
+    if (!strcmp(how, "storms")) return attach_again_and_again(words[1], (unsigned)atoi(words[2]));
     if (!strcmp(how, "silent")) return say_nothing(words[1], (unsigned)atoi(words[2]));
     if (!strcmp(how, "dumps")) fill_memory();
     if (!strcmp(how, "mixed") && setresuid(0, 65534, 0)) return perror("misbehave"), 3;

@@ -28,6 +28,7 @@ void account_time(scheduler *s, uint64_t now) {
     s->run_time += least(passed, most(s->options.gap, STEP));
     s->wall_time += wall;
     s->accounted_at = now;
+    if (now - s->beat_at >= STEP) beat(s), s->beat_at = now;
 }
 
 void note_leaving(scheduler *s, size_t thread, unsigned core) {

@@ -135,6 +135,8 @@ bool caladan_rt_is_over(const caladan_rt *rt) { return (void)rt, false; }
 const char *caladan_rt_why(int error) { return strerror(error); }
 void caladan_rt_after(caladan_rt *rt, int what) { (void)rt, (void)what; }
 bool caladan_rt_attach_again(caladan_rt *rt) { return (void)rt, false; }
+void caladan_rt_lost_after(caladan_rt *rt, uint64_t ns) { (void)rt, (void)ns; }
+bool caladan_rt_is_lost(const caladan_rt *rt) { return (void)rt, false; }
 void caladan_rt_missed(uint64_t misses) { (void)misses; }
 int caladan_rt_processor(void) { return -1; }
 bool caladan_rt_stands_under(const caladan_rt *rt) { return (void)rt, false; }

@@ -36,6 +36,11 @@ bool make_segment(scheduler *s, host_task *task) {
     return task->memory >= 0;
 }
 
+void beat(scheduler *s) {
+    for (unsigned t = 0; t < s->machine.tasks; t++)
+        atomic_fetch_add_explicit(&s->task[t].segment->heartbeat, 1, memory_order_relaxed);
+}
+
 void drop_segment(host_task *task) {
     if (task->memory < 0) return;
     munmap(task->segment, sizeof *task->segment);

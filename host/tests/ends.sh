@@ -221,6 +221,32 @@ orphans() {
     exactly 0 killed
 }
 
+# silent_scheduler [OPTION..]: one that is stopped shows nothing: threads go on without it, or wait, and come back to it
+silent_scheduler() {
+    local daemon after
+    for after in run wait; do
+        what="a runtime whose scheduler is stopped, and which is to $after"
+        rm -f "$counter"
+        begin -k 2000 -g 20000 "$@"
+        go $life "$bin/load" be -n "$name" -u 1 -k 200 -s $life -c "$counter" -e $after -l 200
+        wait_for 20 child_of $last && runtime=$child
+        wait_for 20 counts_on 0; timed $? "$what: it never worked"
+        wait_for 20 has_pinned "$runtime" 2; timed $? "$what: it has no two cores"
+        only_child_of $scheduler && daemon=$child
+        kill -STOP "$daemon"
+        wait_for 5 is_unpinned "$runtime"; timed $? "$what: it stays on its cores"
+        if [ $after = run ]; then wait_for 5 counts_on; else wait_for 5 is_asleep "$runtime"; fi
+        timed $? "$what: it does something else"
+        kill -CONT "$daemon"
+        wait_for 5 has_pinned "$runtime" 2; timed $? "$what: it does not come back"
+        wait_for 5 counts_on; timed $? "$what: it does not work"
+        serves 1
+        end $last
+        exactly 0 killed
+        above 1 grant
+    done
+}
+
 is_at() { [ "$(sed -n 's/^Cpus_allowed_list:[[:space:]]*//p' "/proc/$1/status")" = "$2" ]; } # is_at PID PROCESSORS
 moved() { # who moves the scheduler, or one of its clerks, does not keep it there
     local each before

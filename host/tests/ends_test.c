@@ -43,6 +43,7 @@ void make_pass(scheduler *s) {
     s->thread[0].core = 0;
     atomic_store(&segment.slot[0].phase, s->phase);
 }
+void beat(scheduler *it) { (void)it; }
 void stop_moving(scheduler *s) { (void)s; }
 void lift(scheduler *s, size_t k) { (void)s, (void)k; }
 void under_begin(scheduler *s, size_t k) { (void)s, (void)k; }
