@@ -78,8 +78,8 @@ void caladan_rt_after(caladan_rt *rt, int what);
 
 /* A scheduler that is stopped, or gets no processor, moves no core, and does not close the connection. After so many
  * nanoseconds without a sign of it, kernel threads do as caladan_rt_after says; when it shows itself again, they come
- * back to it. 0, as without this call: never. More than the scheduler's -g, and than it may lose its processor; it gives
- * a sign each millisecond, and is asked for one each ten. */
+ * back to it. 0, as without this call: never. Give more than the scheduler's -g, and than the time for which it may
+ * lose its processor. It gives a sign each millisecond, and is asked for one each ten. */
 void caladan_rt_lost_after(caladan_rt *rt, uint64_t ns);
 bool caladan_rt_is_lost(const caladan_rt *rt); /* there is no sign of it */
 

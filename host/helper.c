@@ -1,5 +1,5 @@
-/* helper.c: who calls puts a job of its own stack on a list, and sleeps until it is done. No lock is held meanwhile, so a
- * kernel thread may lose its core at any moment of it. */
+/* helper.c: the caller puts a job of its own stack on a list, and sleeps until it is done. No lock is held meanwhile,
+ * so a kernel thread may lose its core at any moment of it. */
 #define _GNU_SOURCE
 #include "helper.h"
 #include <errno.h>

@@ -17,11 +17,11 @@
  * again; seek: run until it has attached again), and the process goes on. Both: -a: the main
  * thread has all signals blocked; -g: the process has a handler of SIGURG; -z: it closes all its
  * files when it has started; -f: it has a child that hands in a request, and one that attaches
- * as its task, and the status is 4 where these are not refused. -l: so long without a sign of it the scheduler counts as
- * over, and its threads do as -e says. -p: a thread with a core starts something that lives
- * for a minute, and says its number: thread, fork, spawn, exec, or, by the runtime, rt_thread and rt_spawn;
- * vfork: the child hands in a request, and the status is 4 where it is not refused. lc reads that file, and says how many pieces
- * were done meanwhile.
+ * as its task, and the status is 4 where these are not refused. -l: so long without a sign of it
+ * the scheduler counts as over, and threads do as -e says. -p: a thread with a core starts
+ * something that lives for a minute, and says its number: thread, fork, spawn, exec, or, by the
+ * runtime, rt_thread and rt_spawn; vfork: the child hands in a request, and the status is 4 where
+ * it is not refused. lc reads that file, and says how many pieces were done meanwhile.
  *
  * Each request and each piece looks whether it runs on the processor of its thread's core: two
  * threads are never on one. The first that does not is a line on standard error, and the status

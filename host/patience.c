@@ -15,9 +15,9 @@
 static uint64_t least(uint64_t a, uint64_t b) { return a < b ? a : b; }
 static uint64_t most(uint64_t a, uint64_t b) { return a > b ? a : b; }
 
-/* The run time goes on while the scheduler looks. Where it, or the machine, stood still, that is one step: a thread that
- * could not run either loses nothing by it. The wall time also has what others took of the scheduler's processor, as
- * the kernel counts it, and of a standstill at most a quarter of a second. */
+/* The run time goes on while the scheduler looks. Where it, or the machine, stood still, that is one step: a thread
+ * that could not run either loses nothing by it. The wall time also has what others took of the scheduler's processor,
+ * as the kernel counts it, and of a standstill at most a quarter of a second. */
 void account_time(scheduler *s, uint64_t now) {
     uint64_t passed = now - s->accounted_at, wall = passed;
     if (passed > STEP) {

@@ -1,5 +1,5 @@
-/* proc.c: what the kernel tells in /proc of a process and its threads. A number may be another thread's by the time it is
- * read: whoever asks about a process looks afterwards whether it has ended meanwhile. */
+/* proc.c: what the kernel tells in /proc of a process and its threads. A number may be another thread's by the time it
+ * is read: whoever asks about a process looks afterwards whether it has ended meanwhile. */
 #define _GNU_SOURCE
 #include <inttypes.h>
 #include <stdlib.h>

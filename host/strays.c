@@ -1,6 +1,6 @@
-/* strays.c: what a process starts while it has a core, and not by the runtime, is pinned to that core's processor, as the
- * thread is that started it: other threads, and children. A clerk looks for them, each second and when a process gives
- * its task up, and puts them back on the processors that are not managed. */
+/* strays.c: what a process starts while it has a core, and not by the runtime, is pinned to that core's processor, as
+ * the thread is that started it: other threads, and children. A clerk looks for them, each second and when a process
+ * gives its task up, and puts them back on the processors that are not managed. */
 #define _GNU_SOURCE
 #include <dirent.h>
 #include <poll.h>

@@ -13,7 +13,7 @@
 /* How long who connects may take to say who it is, and that it has mapped its segment. */
 #define GREETING ((uint64_t)4000000000)
 #define MANNERS ((uint64_t)100000000)   /* and to say who it is, where others wait */
-/* How often guests of a task are looked at: at most one of them attaches then. So a crowd of them costs passes little. */
+/* How often guests of a task are looked at, of whom at most one attaches then: so a crowd costs passes little. */
 #define SELDOM ((uint64_t)10000000)
 
 unsigned number_of(const scheduler *s, const host_task *task) { return (unsigned)(task - s->task); }

@@ -64,7 +64,7 @@ unkillable() { # nobody can be killed: a piece ends without who does not leave, 
 }
 
 # What others take of the scheduler's processor does not lengthen its patience, nor its end: five times the patience by the
-# wall clock, and two seconds in which the scheduler has its turns and the test looks.
+# wall clock, and some seconds in which the scheduler has its turns and the test looks.
 crowded_scheduler() {
     local from
     what="a deaf process beside sixteen loops on the scheduler's processor"
@@ -83,7 +83,7 @@ crowded_scheduler() {
     only_child_of $scheduler && daemon=$child
     from=$SECONDS
     kill -TERM "$daemon"
-    wait_at_most 5 is_gone "$daemon"; timed $? "$what: the scheduler has not ended after $((SECONDS - from)) s"
+    wait_at_most 9 is_gone "$daemon"; timed $? "$what: the scheduler has not ended after $((SECONDS - from)) s"
     unspin
     kill -9 "$deaf"
     stop

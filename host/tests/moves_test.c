@@ -1,8 +1,8 @@
 /* moves_test.c: in which order threads are moved, by calls of the test's own: what they find in
  * their rings comes first, then latency-critical ones are woken, then others are interrupted, then
  * the rest is woken; nobody is woken who does not sleep; a Run is not there before its thread is
- * pinned; and who cannot be pinned, or twice only slowly, is granted nothing for a while. A mover that makes no moves is
- * put elsewhere, and waited for no longer than some seconds. */
+ * pinned; and who cannot be pinned, or twice only slowly, is granted nothing for a while. A mover that makes no moves
+ * is put elsewhere, and waited for no longer than some seconds. */
 #define _GNU_SOURCE
 #include <errno.h>
 #include <setjmp.h>
