@@ -45,7 +45,7 @@ typedef struct kernel_thread {
     uint32_t phase;
     pthread_t thread;
     bool is_away, was_open; /* it does without the scheduler, and whether its page was open before */
-    cpu_set_t place;        /* and where it was then */
+    bool pins_itself;       /* it was away, and the scheduler may take it to be pinned */
     _Atomic uint32_t waits; /* the turn that it waits for, and until then it looks at nothing else */
     volatile sig_atomic_t held;    /* how often a Park is held off */
     volatile sig_atomic_t pending; /* a signal came meanwhile */
@@ -194,6 +194,7 @@ static void follow_phase(kernel_thread *k) {
 static bool outlives(kernel_thread *k);
 static bool does_without(kernel_thread *k);
 static void come_back(kernel_thread *k);
+static void pin_itself(kernel_thread *k);
 
 /* Takes what was sent, shows it, and is back when the thread has a core, or needs none. Held, or in the handler. */
 static void obey(kernel_thread *k) {
@@ -211,7 +212,10 @@ static void obey(kernel_thread *k) {
         if (k->is_away) come_back(k);
         follow_phase(k);
         take_commands(k);
-        if (k->words[RUNNING] != 0) return;
+        if (k->words[RUNNING] != 0) {
+            if (k->pins_itself) pin_itself(k);
+            return;
+        }
         sleep_on_bell(k->slot, bell);
     }
 }
@@ -351,7 +355,7 @@ static void leave_core(const caladan_rt *rt) {
 /* On no page any more, and on no core that somebody else may be granted. */
 static void let_go(kernel_thread *k) {
     lock(k);
-    k->open = k->is_away = false;
+    k->open = k->is_away = k->pins_itself = false;
     put_on(k, CALADAN_PARK, 0);
     unlock(k);
     leave_core(k->rt);
@@ -386,21 +390,30 @@ static bool outlives(kernel_thread *k) {
 
 /* Its page stays as it is until the thread comes back: as if it went on in a long request. */
 static void go_away(kernel_thread *k) {
-    sched_getaffinity(0, sizeof k->place, &k->place);
     lock(k);
     k->was_open = k->open;
     k->open = false;
     put_on(k, CALADAN_PARK, 0);
     unlock(k);
     leave_core(k->rt);
-    k->is_away = true;
+    k->is_away = k->pins_itself = true;
 }
 
-/* Where it was, so that the scheduler need not pin it again; without a core, as one that has given it up. */
-static void come_back(kernel_thread *k) {
+/* To the core that it has, as the scheduler does it, or did it before. */
+static void pin_itself(kernel_thread *k) {
     struct sched_param none = {0};
-    sched_setaffinity(0, sizeof k->place, &k->place);
+    cpu_set_t cpus;
+    int processor = caladan_rt_processor();
+    k->pins_itself = false;
+    if (processor < 0 || processor >= CPU_SETSIZE) return;
+    CPU_ZERO(&cpus);
+    CPU_SET((size_t)processor, &cpus);
     if (k->rt->stands_under) sched_setscheduler(0, SCHED_IDLE, &none);
+    sched_setaffinity(0, sizeof cpus, &cpus);
+}
+
+/* Without a core, as one that has given it up. */
+static void come_back(kernel_thread *k) {
     lock(k);
     k->is_away = false;
     k->open = k->was_open;
