@@ -1,14 +1,6 @@
 -- Parts of a journal, and what its records show of the entries before them.
-use Rattle.std.proofs.Common.{◌≡◌, ℕ, ◌+◌, zero, suc, Option, Some, None, IfSome, List, [], ◌∷◌, ◌++◌, length, refl, sym, ap, subst, ◌∙◌, append_assoc, append-nil, arith}
-use Rattle.std.specs.Prelude.{option_to_list}
-use Rattle.std.specs.List.{slice_get, cons_option}
+use Rattle.cal_kthread.proofs.Common.{◌≡◌, ℕ, ◌+◌, zero, suc, Option, Some, None, IfSome, List, [], ◌∷◌, ◌++◌, length, refl, sym, ap, subst, ◌∙◌, append_assoc, append-nil, arith, option_to_list, slice_get, cons_option, Record, Chain, IsPage, last_from, last_published, page_of, MayFollow, zero_record, Entry, Arrived, Took, Stole, Served, Yielded, Published, State, first_state, changed_by, state_from, state_after, record_in, records_of, commands_of, StandAfter, IsJournal}
 use Rattle.std.proofs.lemmas.List.Elements.{filter_map-append}
-use Rattle.cal_signal.specs.declared.record.Record.{Record}
-use Rattle.cal_signal.specs.Pages.{Chain, IsPage, last_from, last_published, page_of}
-use Rattle.cal_signal.specs.Records.{MayFollow, zero_record}
-use Rattle.cal_kthread.specs.declared.journal.entry.Entry.{Entry}
-use Rattle.cal_kthread.specs.declared.journal.entry.Entry.TheVariants.{Arrived, Took, Stole, Served, Yielded, Published}
-use Rattle.cal_kthread.specs.Journal.{State, first_state, changed_by, state_from, state_after, record_in, records_of, commands_of, StandAfter, IsJournal}
 use Rattle.cal_kthread.specs.Journal.Entries.{MayCome, up_to, steps_of, JournalByEntries, FrontIsJournal, EachMayCome, RecordShowsTaken, OthersChangeNothing}
 use Rattle.cal_kthread.proofs.JournalLemmas.OneEntryMore.{each-push, filter_map-push, page-push, state_after-push}
 
