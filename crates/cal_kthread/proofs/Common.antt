@@ -3,7 +3,7 @@ pub use Rattle.cal_command.specs.Rings.{RingId, SenderView, TakerView}
 pub use Rattle.cal_kthread.specs.End.Account.{Gathers, HasArrived, IsAccounted, IsDrained, IsSettled, KeepsItsWork, StaysSettled, handed_of, kept_of, names_of, requests_of, sources_at, stolen_weight, stripped, taken_of, times, waiting_names}
 pub use Rattle.cal_kthread.specs.End.HandingOut.{HandedOutNothing, HandsOutSome, RunView, left_of, run_of}
 pub use Rattle.cal_kthread.specs.End.Rest.{EndView, HandsOut, HandsOutOf, RestView, to_hand_out}
-pub use Rattle.cal_kthread.specs.Journal.{IsJournal, MayStand, StandAfter, State, arrival_in, arrivals_of, changed_by, command_in, commands_of, core_after, first_state, record_in, records_of, served_in, served_of, state_after, state_from}
+pub use Rattle.cal_kthread.specs.Journal.{MayStand, StandAfter, State, arrival_in, arrivals_of, changed_by, command_in, commands_of, core_after, first_state, record_in, records_of, served_in, served_of, state_after, state_from}
 pub use Rattle.cal_kthread.specs.Places.{Each, Somewhere, one_if}
 pub use Rattle.cal_kthread.specs.Queue.{QueueId, QueueView, ThiefView}
 pub use Rattle.cal_kthread.specs.Queue.Rule.{AllTaken, Balanced, IdleIsEmpty, TookWhatCame, knows, pushed_weight, queue_shares, taken_weight, weigh}
