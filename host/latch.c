@@ -4,7 +4,9 @@
 #include "caladan_rt.h"
 #include "host.h"
 
-void caladan_latch_begin(caladan_latch *latch, uint32_t count) { __atomic_store_n(&latch->left, count, __ATOMIC_RELEASE); }
+void caladan_latch_begin(caladan_latch *latch, uint32_t count) {
+    __atomic_store_n(&latch->left, count, __ATOMIC_RELEASE);
+}
 
 /* Who waits may be back, and the latch gone, as soon as it has fallen: it is not looked at any more. */
 void caladan_latch_done(caladan_latch *latch) {
