@@ -101,8 +101,8 @@ size_t caladan_rt_submit_each(caladan_rt *rt, unsigned thread, const caladan_req
 /* Ends the runtime: threads end the requests that they have begun, without cores, and then themselves; the task is
  * given up, and the process may start another runtime. To be called when nobody else calls any of these functions for
  * it; requests that have begun may need what they were given until it is back. *unserved (or NULL): how many requests
- * are left that nobody has begun. False: errno says why (EDEADLK: it is called by a kernel thread; ECHILD: the runtime is
- * that of the process's parent), and nothing has changed. */
+ * are left that nobody has begun. False: errno says why (EDEADLK: it is called by a kernel thread; ECHILD: the
+ * runtime is that of the process's parent), and nothing has changed. */
 bool caladan_rt_stop(caladan_rt *rt, size_t *unserved);
 
 /* So many requests that somebody waits for: begun before they are handed in, done once by each, and waited for, as
