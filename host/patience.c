@@ -118,11 +118,17 @@ static void kill_for(scheduler *s, size_t k) {
     kill_process(s, &s->task[s->thread[k].task], why);
 }
 
+/* Long before the bound by the wall clock, also where the scheduler has little time itself. */
+static bool is_half_over(const scheduler *s, const leaving *it) {
+    uint64_t half = s->options.patience ? s->options.patience / 2 : LAST;
+    if (s->run_time - it->since >= half || it->ran + it->rested >= half) return true;
+    return s->wall_time - it->since_wall >= 2 * half;
+}
+
 static void hurry(scheduler *s, size_t k) {
     host_seat *seat = &s->thread[k].seat;
     leaving *it = &seat->leaving;
-    uint64_t half = s->options.patience ? s->options.patience / 2 : LAST;
-    if (it->again || (s->run_time - it->since < half && it->ran + it->rested < half)) return;
+    if (it->again || !is_half_over(s, it)) return;
     it->again = true; /* a signal may have come while the thread could not take it */
     if (stands_under(s, k)) lift(s, k);
     interrupt(&s->task[s->thread[k].task], seat->slot);

@@ -138,7 +138,7 @@ void end_piece(scheduler *s) {
         make_pass(s); /* who left since the last look is not parted with */
         note_each_leaving(s);
         kill_the_deaf(s); /* and who was killed and does not end */
-        if (s->run_time - run >= patience / 2) lift_each(s);
+        if (s->run_time - run >= patience / 2 || s->wall_time - wall >= patience) lift_each(s);
         if (at_once) part_with_each(s);
         if (passes >= RECORD_END_PASSES) break;
         if (s->options.patience == 0 && (is_overdue || s->run_time - run >= patience)) break;
