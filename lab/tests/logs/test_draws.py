@@ -73,11 +73,11 @@ def test_each_request_is_as_likely() -> None:
     """Over many draws the mean number of requests and their mean service are those of the log, within four deviations
     of the mean of so many draws."""
     log = made([0, 1, 2, 30, 31, 60], [1, 50, 2, 40, 3, 20])
-    draws = [drawn(log, seed, 2) for seed in range(2, 1002)]
+    draws = [drawn(log, seed, 2) for seed in range(2, 202)]
     services = [it / WHOLE for draw in draws for it in draw.rows.services]
     mean = sum(services) / len(services)
     assert abs(mean - 116 / 6) < 4 * 19.6 / (len(services) / 2) ** 0.5
-    assert abs(sum(map(len, draws)) / len(draws) - 6) < 0.5
+    assert abs(sum(map(len, draws)) / len(draws) - 6) < 1
 
 
 def test_the_block_is_the_root_or_is_said() -> None:

@@ -8,11 +8,11 @@ from .drawn import PROGRAM
 
 UNITS = ("ns", "us", "ms", "s")
 MOST_TURNS, MOST_TICKS, MOST_MISSES = 174762, 1000000000, 4294967295
-UNIT = "The unit of its numbers: ns, us, ms or s; or time=s,service=us"
+UNIT = "Its unit: ns, us, ms or s; or time=s,service=us"
 TURN = "How long a turn is, such as 5us"
-COLUMNS = option("columns", "ROLE=NAME,..", "Its columns, such as time=arrived_us,service=took")
-SEPARATOR = option("separator", "CHAR", "What separates its fields: a character, or tab, semicolon, ..")
-BATCH = option("batch", "TASK", "A task that has work without end, and no requests in the log", many=True)
+COLUMNS = option("columns", "R=NAME,..", "Its columns, such as time=at,service=took_us")
+SEPARATOR = option("separator", "CHAR", "What separates its fields: a character, or tab")
+BATCH = option("batch", "TASK", "A task with work without end, not in the log", many=True)
 
 LOG_TEXT = """\
 Input: a log of requests: CSV with a header, plain or compressed by gzip, bzip2,
@@ -41,9 +41,12 @@ was refused.
 
 To try it:
 
-printf 'arrived,took\\n10.5,3\\n2,7.25\\n' > log.csv
-caladan_lab log log.csv --unit us --turn 2us --columns time=arrived,service=took \\
-  --table /dev/stdin <<'END'
+cat > log.csv <<'END'
+time;service
+9.5;3
+2;7.25
+END
+caladan_lab log log.csv --unit us --turn 2us --turns 4 --table - <<'END'
 cores = 2
 bandwidth_limit = 1000
 [[task]]
@@ -67,7 +70,17 @@ delay = 10
 request = 50
 ---
 caladan-arrivals,1
-"""
+pass,2,0
+pass,4,0
+pass,6,0
+pass,8,0
+turn,3
+turn,5
+turn,7
+turn,9
+request,0,0,1,4,0
+request,0,3,2,2,0
+end,10"""
 
 LOG = Command(
     "log", "caladan_lab log", "Make a run of a log of requests", LOG_TEXT,
@@ -76,24 +89,25 @@ LOG = Command(
      option("unit", "UNIT", UNIT, unless="unit"), option("turn", "LENGTH", TURN, unless="turn"),
      COLUMNS, SEPARATOR, option("task", "TASK", "The task of all requests [default: 0]"),
      option("names", "NAME,..", "The names of the tasks, in order"), BATCH,
-     option("misses", "N", "Cache misses that a turn of work without end adds", default="0",
+     option("misses", "N", "Misses of a turn of that work", default="0",
             number=Number(0, MOST_MISSES)),
      option("turns", "N", "The turns of the run [default: as the log needs]", number=Number(1, MOST_TURNS)),
-     option("tick", "UNIT", "The unit of a tick: ns, us, ms or s [default: the log's]", names=UNITS),
-     option("ticks", "N", "The ticks of a turn, in its place", number=Number(1, MOST_TICKS)),
-     option("came", "FILE", "Also write to which turn each request came, as CSV"),
-     flag("summary", "Write what was read and what comes, in place of the run"),
+     option("tick", "UNIT", "What a tick is: ns, us, ms or s [default: --unit]", names=UNITS),
+     option("ticks", "N", "In its place the ticks of a turn", number=Number(1, MOST_TICKS)),
+     option("came", "FILE", "Also write to which turn each request came"),
+     flag("summary", "Write what comes, in place of the run"),
      flag("quiet", "Do not show on a terminal what goes on", short="q", hidden=True),
      option("output", "FILE", "Where the run goes [default: standard output]", short="o"), replace(PROGRAM, hidden=True)),
     is_text=True)
 
 # What `sweep` takes for a log, in place of loads.
 SWEPT_LOG = Section("Logs", (
-    option("log", "FILE", "Run the requests of a log, as `caladan_lab log` reads it, in place of loads"),
+    option("log", "FILE", "Requests of a log in place of loads: see `log`"),
     option("unit", "UNIT", UNIT), option("turn", "LENGTH", TURN), COLUMNS, SEPARATOR, BATCH,
     option("scale", "TIMES", "Times the load of the log, rising, such as 0.8,1,1.3 [default: 1]"),
     option("rate", "PER_SECOND", "The same as requests a second, such as 80000,100000"),
-    option("block", "N", "The requests of a block [default: the root of how many the log has]")), """\
+    option("block", "N", "The requests of a block [default: the root of how many the log has]",
+           number=Number(1, 1000000))), """\
 With --log, seed 1 is the log itself. Each other seed is a draw from it: blocks
 of requests that follow one another there, from random ones on, until as much
 time has passed; each request keeps its gap, its service, its task and its
