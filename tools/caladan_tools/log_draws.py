@@ -49,7 +49,8 @@ def turns_for(rows, turn):
 def arrivals(given, rows, how):
     """The arrivals of rows, and what came: by its id the turn to which each request came; and of each task that has
     some how many, how many of these later, how many by more than one turn, and how many are left out. `how` has the
-    length of a turn, its ticks, the turns, the seed of the deal, the batch jobs and the misses of each of their turns."""
+    length of a turn, its ticks, the turns, the seed of the deal, the batch jobs and the misses of each of their
+    turns."""
     limits, turn, turns, ticks = numbers(given, "limit"), how["turn"], how["turns"], how["ticks"]
     slots, counts, came_to = {}, {}, {}
     for task in sorted({it[2] for it in rows}):

@@ -1,5 +1,5 @@
-"""What a tick is, where a task table says it, in a comment line such as `# A tick is 1 us.`. `caladan_lab log` writes it
-in front of a run, so that the run knows its unit; anyone may write it into a table."""
+"""What a tick is, where a task table says it, in a comment line such as `# A tick is 1 us.`. `caladan_lab log` writes
+it in front of a run, so that the run knows its unit; anyone may write it into a table."""
 from __future__ import annotations
 
 import re

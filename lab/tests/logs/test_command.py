@@ -13,7 +13,7 @@ from typing import Callable
 
 import pytest
 from conftest import TABLE, TOP
-from hypothesis import given, settings
+from hypothesis import HealthCheck, given, settings
 
 from .given import logs, made
 
@@ -123,7 +123,7 @@ def by_view(view: str, log: Log, *words: str) -> tuple[bytes, bytes]:
 TERMS = Terms("2us", Fraction(2000), 2)
 
 
-@settings(max_examples=8)
+@settings(max_examples=8, suppress_health_check=[HealthCheck.function_scoped_fixture, HealthCheck.too_slow])
 @given(logs(tasks=True))
 def test_arrivals_are_those_of_the_program(view: str, log: Log) -> None:
     """What the lab asks for is what the program makes; and what the lab deals by the program's seed is that too."""
@@ -134,11 +134,12 @@ def test_arrivals_are_those_of_the_program(view: str, log: Log) -> None:
     assert (own.arrivals, own.came, own.counts, own.turns) == (asked.arrivals, asked.came, {
         task: it for task, it in asked.counts.items() if it.came}, asked.turns)
     short = replace(TERMS, turns=max(turns // 2, 1))
-    asked, own = by_program(Viewer(view), log, short, TABLE.encode(), MACHINE), by_lab(log, short, MACHINE, 1, short.turns or 1)
+    asked = by_program(Viewer(view), log, short, TABLE.encode(), MACHINE)
+    own = by_lab(log, short, MACHINE, 1, short.turns or 1)
     assert (own.arrivals, own.came, own.left_from) == (asked.arrivals, asked.came, asked.left_from)
 
 
-@settings(max_examples=4)
+@settings(max_examples=4, suppress_health_check=[HealthCheck.function_scoped_fixture, HealthCheck.too_slow])
 @given(logs(misses=True))
 def test_misses_and_batch_jobs_are_put_in(view: str, log: Log) -> None:
     """The program deals the requests, and all else is the same as what the lab deals."""
@@ -172,22 +173,22 @@ def test_later_requests_are_told_of(lab: Lab) -> None:
     Path("log.csv").write_text("time,service\n0,1\n0,1\n0,1\n")
     words = ("log", "log.csv", "--unit", "us", "--turn", "2us", "--turns", "9", "--table", "one.toml")
     assert lab(*words)[2] == (
-        "caladan_lab: log.csv: 2 requests come at a later turn than in the log; --came FILE says to which they came, and "
-        "`measure` and `compare` count from there with --came FILE\n")
+        "caladan_lab: log.csv: 2 requests come at a later turn than in the log; --came FILE says to which they came, "
+        "and `measure` and `compare` count from there with --came FILE\n")
     assert lab(*words, "--came", "came")[2] == ""
 
 
 @pytest.mark.parametrize("words, said", [
-    (["--turn", "5"], "--turn 5: a length is a number above 0, with up to nine digits after the point, and a unit, such "
-                      "as 5us"),
+    (["--turn", "5"], "--turn 5: a length is a number above 0, with up to nine digits after the point, and a unit, "
+                      "such as 5us"),
     (["--turn", "0us"], "--turn 0us: a length is a number above 0, with up to nine digits after the point, and a unit, "
                         "such as 5us"),
     (["--turn", "2.5us"], "a turn of 2500 ns is no whole number of ticks of 1 us: --tick ns makes it one, and the "
                           "table's `delay` and `request` are then in that"),
     (["--turn", "0.5ns"], "a turn of 0.5 ns is no whole number of ticks of 1 us: take a turn of whole nanoseconds, and "
                           "the table's `delay` and `request` are then in that"),
-    (["--turn", "2s", "--tick", "ns"], "a turn of 2 s has more than 1000000000 ticks of 1 ns: take a shorter turn, or a "
-                                       "longer tick with --tick"),
+    (["--turn", "2s", "--tick", "ns"], "a turn of 2 s has more than 1000000000 ticks of 1 ns: take a shorter turn, or "
+                                       "a longer tick with --tick"),
     (["--ticks", "10", "--tick", "us"], "--ticks 10: a tick is 200 ns then, and --tick says us"),
     (["--ticks", "3"], ""), (["--ticks", "7", "--turn", "1ns"], "--ticks 7: a turn of 1 ns has no ticks of whole "
                                                                 "billionths of a nanosecond then"),
@@ -200,22 +201,25 @@ def test_later_requests_are_told_of(lab: Lab) -> None:
     (["--columns", "time=when"], "log.csv: the header has no column `when`: it has `time`, `service`, separated by "
                                  "semicolons; --columns time=NAME says which it is"),
     (["--unit", "ms", "--turn", "1us", "--turns", "5"], ""),
-    (["--unit", "s", "--turn", "2us", "--tick", "us"], "log.csv: row 4: `time` is after 174762 turns"),
+    (["--unit", "s", "--turn", "2us", "--tick", "us"],
+     "log.csv: row 3: `service` is more than 1000000 turns\n  take a longer turn; is --unit that of its services? For "
+     "work without end there is --batch"),
+    (["--unit", "s", "--turn", "10us", "--tick", "us"],
+     "log.csv: row 4: `time` is after 174762 turns\n  take a longer turn or a part of the log; is --unit that of its "
+     "times?"),
 ])
 def test_words_of_a_log_are_refused(lab: Lab, words: list[str], said: str) -> None:
     status, out, err = lab("log", "log.csv", *(it for name, it in zip(HOW[::2], zip(HOW[::2], HOW[1::2]))
                                                if name not in words for it in it), *words)
-    if said.startswith("log.csv: row 4"):
-        assert err == f"caladan_lab: {said}\n  take a longer turn or a part of the log; is --unit that of its times?\n"
-    elif said:
+    if said:
         assert err == f"caladan_lab: {said}\n"
     assert (status, out) == (2, "") or not said
     assert not Path("out").exists()
 
 
 def test_words_that_are_lacking(lab: Lab) -> None:
-    assert lab("log") == (2, "", "error: the following required arguments were not provided:\n  <LOG>\n  --table <FILE>\n"
-                          "  --unit <UNIT>\n  --turn <LENGTH>\n\nUsage: caladan_lab log --table <FILE> --unit <UNIT> "
+    assert lab("log") == (2, "", "error: the following required arguments were not provided:\n  <LOG>\n"
+                          "  --table <FILE>\n  --unit <UNIT>\n  --turn <LENGTH>\n\nUsage: caladan_lab log --table <FILE> --unit <UNIT> "
                           "--turn <LENGTH> <LOG>\n\nFor more information, try '--help'.\n")
     assert lab("log", "-", *HOW[:4], "--table", "-")[2] == (
         "caladan_lab: the log and the table are both the standard input: name the file of one\n")
@@ -283,8 +287,8 @@ def longer() -> None:
 
 
 def test_a_sweep_has_the_log_and_its_draws(lab: Lab, view: str) -> None:
-    """Each row is what `measure` says of the arrivals of the log, or of a draw, at the scale: with the window of all but
-    the first and the last tenth of the turns."""
+    """Each row is what `measure` says of the arrivals of the log, or of a draw, at the scale: with the window of all
+    but the first and the last tenth of the turns."""
     longer()
     status, out, err = lab(*SWEEP, "--batch", "1", "--scale", "0.5,1.25", "--seeds", "3", "--block", "20", "--csv")
     assert (status, err) == (0, "")
@@ -299,8 +303,9 @@ def test_a_sweep_has_the_log_and_its_draws(lab: Lab, view: str) -> None:
             draw = scaled(log if seed == 1 else drawn(log, seed, 20), scale)
             of = by_lab(draw, terms, MACHINE, seed, turns)
             Path("came").write_bytes(of.came)
+            window = ["--from", str(turns // 10), "--to", str(turns - turns // 10)]
             measure = subprocess.run(
-                [view, "measure", "--csv", "--came", "came", "--from", str(turns // 10), "--to", str(turns - turns // 10)],
+                [view, "measure", "--csv", "--came", "came", *window],
                 input=TABLE.encode() + b"---\n" + of.arrivals, capture_output=True, check=True).stdout.decode()
             numbers = {row[0]: row[1] for row in csv.reader(measure.splitlines())}
             found.append((int(numbers["response 99 of 100"]), int(numbers["requests served"]), len(draw)))
@@ -348,12 +353,13 @@ def test_words_of_a_sweep_of_a_log_are_refused(lab: Lab, words: list[str], said:
         assert (status, out, err) == (2, "", f"caladan_lab: {said}\n")
     else:
         assert status == (0 if "--turns" in words else 2)
-        assert not status or err.startswith("caladan_lab: load 0.001: log.csv: row 2: `time` is after 174762 turns\n")
+        assert not status or err.startswith("caladan_lab: load 0.001: log.csv: row 4: `time` is after 174762 turns\n")
 
 
 @pytest.mark.parametrize("words, said", [
     (["sweep", "--load", "1", "--scale", "1", "table.toml"], "--scale 1: it goes with a log, which --log names"),
-    (["sweep", "--log", "log.csv", "table.toml"], "--log log.csv: --unit is asked for too, as `caladan_lab log` has it"),
+    (["sweep", "--log", "log.csv", "table.toml"],
+     "--log log.csv: --unit is asked for too, as `caladan_lab log` has it"),
     (["sweep", "--log", "log.csv", "--unit", "us", "table.toml"],
      "--log log.csv: --turn is asked for too, as `caladan_lab log` has it"),
     ([*SWEEP[:-1], "--rate", "5", "table.toml"], "--rate 5: all requests of log.csv come at once: it has no rate"),
@@ -374,9 +380,9 @@ def test_a_log_in_python(view: str) -> None:
     frame = log.frame
     assert list(frame.columns) == ["time [us]", "service [us]", "row"] and len(frame) == len(log) == 300
     assert frame["service [us]"].tolist() == [(it * 7) % 11 for it in range(300)]
-    answer = caladan.sweep(table, log=log, turn="2us", batch="batch", scale=[1, 1.5], seeds=2, slo="kv.p99=100000")
-    assert answer.is_kept and answer.frame["load of the log"].tolist() == [1.0] * 3 + [1.5] * 3
-    by_file = caladan.sweep(table, log="log.csv", unit="us", turn="2us", batch="batch", scale=[1, 1.5], seeds=2)
+    answer = caladan.sweep(table, log=log, turn="2us", batch="batch", scale=[0.3, 0.5], seeds=2, slo="kv.p99=100000")
+    assert answer.is_kept and {*answer.frame["load of the log"]} == {0.3, 0.5}
+    by_file = caladan.sweep(table, log="log.csv", unit="us", turn="2us", batch="batch", scale=[0.3, 0.5], seeds=2)
     assert by_file.csv == answer.csv
     with pytest.raises(caladan.Refusal, match="the table says that a tick is 500 ns, and here it is 1 us"):
         replace(table, text=b"# A tick is 500 ns.\n" + table.text, tick="us").run_log(log, "2us")

@@ -116,16 +116,17 @@ TERMS = Terms("2us", Fraction(2000), 2)
 
 
 def test_arrivals_by_hand() -> None:
-    """One thread, so that no chance is in it. Turns of 2 us: the requests come to turns 0, 0, 1 and 5 and take 1 turn, 1
-    turn (of no service), 2 turns (3 us, rounded up) and 5 turns. The second finds turn 0 taken and comes to turn 1, the
-    third then to turn 2. The last came to turn 5 and takes 5, so the run has 11 turns. A batch job on the other task has
-    a request without end on each of its two threads, with ids after all others."""
+    """One thread, so that no chance is in it. Turns of 2 us: the requests come to turns 0, 0, 1 and 5 and take 1 turn,
+    1 turn (of no service), 2 turns (3 us, rounded up) and 5 turns. The second finds turn 0 taken and comes to turn 1,
+    the third then to turn 2. The last came to turn 5 and takes 5, so the run has 11 turns. A batch job on the other
+    task has a request without end on each of its two threads, with ids after all others."""
     log = made([0, 1, 2, 11], [2, 0, 3, 10], ["1", "1", "1", "1"])
     terms = replace(TERMS, batch=("0",), misses=7)
     assert turns_of(log, terms) == 11
     found = by_lab(log, terms, MACHINE, 5, 11)
     rows = found.arrivals.decode().split("\n")
-    assert rows[:3] == ["caladan-arrivals,1", "pass,2,0", "pass,4,0"] and rows[11:14] == ["pass,22,0", "turn,3", "turn,5"]
+    assert rows[:3] == ["caladan-arrivals,1", "pass,2,0", "pass,4,0"]
+    assert rows[11:14] == ["pass,22,0", "turn,3", "turn,5"]
     assert rows[23:] == ["request,0,0,5,1000000,7", "request,1,0,6,1000000,7", "request,2,0,1,1,0", "request,2,1,2,1,0",
                          "request,2,2,3,2,0", "request,2,5,4,5,0", "end,28", ""]
     assert found.came == b"id,turn\n5,0\n6,0\n1,0\n2,0\n3,1\n4,5\n"
@@ -149,8 +150,8 @@ def test_what_finds_no_turn_is_left_out() -> None:
 
 @given(logs(tasks=True), st.integers(1, 2 ** 64 - 1), st.integers(1, 30))
 def test_a_deal_loses_no_request(log: Log, seed: int, turns: int) -> None:
-    """Each request stands once, on a thread of its task and not before it came, or is left out; no thread has two before
-    a turn."""
+    """Each request stands once, on a thread of its task and not before it came, or is left out; no thread has two
+    before a turn."""
     deal = dealt(log, TERMS, MACHINE, seed, turns)
     places = [it.place for it in deal.slots]
     assert len(places) + sum(map(len, deal.left.values())) == len(log) and len(set(places)) == len(places)
@@ -171,8 +172,8 @@ LONG = "  take a longer turn; is --unit that of its services? For work without e
     (made([0, 1], [2000000, 2000001]), f"log.csv: row 3: `service` is more than 1000000 turns\n{LONG}"),
     (made([0, 1], [1, 1], ["0", "kv"]), "log.csv: row 3: `task` is `kv`; wanted: a number below 2\n  --names says what "
                                         "the tasks are called, in the order of the table"),
-    (made([0, 1], [1, 1], ["1", "2"]), "log.csv: row 3: `task` is `2`; wanted: a number below 2\n  --names says what the "
-                                       "tasks are called, in the order of the table"),
+    (made([0, 1], [1, 1], ["1", "2"]), "log.csv: row 3: `task` is `2`; wanted: a number below 2\n  --names says what "
+                                       "the tasks are called, in the order of the table"),
 ])
 def test_requests_that_make_no_run(log: Log, said: str) -> None:
     with pytest.raises(Refusal) as it:

@@ -47,7 +47,8 @@ def test_compressed_logs(tmp_path: Path, way: str) -> None:
 
 
 @pytest.mark.parametrize("text", [PLAIN.replace("\n", "\r\n"), "\n\n" + PLAIN, PLAIN.replace("5,", "\n5,"),
-                                  PLAIN.rstrip("\n"), "time, service\n1, 2\n5, 7.5\n", '"time","service"\n"1","2"\n5,7.5\n',
+                                  PLAIN.rstrip("\n"), "time, service\n1, 2\n5, 7.5\n",
+                                  '"time","service"\n"1","2"\n5,7.5\n',
                                   "time,service,\n1,2,\n5,7.5,\n", "time,service,who\n1,2\n5,7.5,x\n"])
 def test_forms_of_csv(tmp_path: Path, text: str) -> None:
     assert read(tmp_path, text).text == NORMAL
@@ -85,14 +86,15 @@ HEADER = "separated by commas; --columns"
 
 
 @pytest.mark.parametrize("text, said", [
-    ("", "log.csv: it is empty; wanted: a line that names the columns, such as time,service, and a row for each request"),
+    ("", "log.csv: it is empty; wanted: a line that names the columns, such as time,service, and a row for each "
+         "request"),
     ("\n \n", "log.csv: it is empty; wanted: a line that names the columns, such as time,service, and a row for each "
               "request"),
     ("time,service\n", "log.csv: no row is below the header; wanted: one for each request"),
     ("5,13\n47,9\n", "log.csv: the header has no column `time`: its first line has only numbers; wanted: a line that "
                      "names the columns, such as time,service"),
-    ("tim,service\n1,2\n", f"log.csv: the header has no column `time`: it has `tim`, `service`, {HEADER} time=NAME says "
-                           "which it is\n  did you mean `tim`?"),
+    ("tim,service\n1,2\n", f"log.csv: the header has no column `time`: it has `tim`, `service`, {HEADER} time=NAME "
+                           "says which it is\n  did you mean `tim`?"),
     ("arrived_us;took_us\n1;2\n", "log.csv: the header has no column `time`: it has `arrived_us`, `took_us`, separated "
                                   "by semicolons; --columns time=NAME says which it is"),
     ("time\ttook\n1\t2\n", "log.csv: the header has no column `service`: it has `time`, `took`, separated by tabs; "

@@ -54,8 +54,8 @@ def later_lines(log: Log, found: Arrived, has_came: bool) -> str:
     later = sum(it.later for it in found.counts.values())
     if has_came or not later:
         return ""
-    return (f"{NAME}: {log.name}: {later} requests come at a later turn than in the log; --came FILE says to which they "
-            "came, and `measure` and `compare` count from there with --came FILE\n")
+    return (f"{NAME}: {log.name}: {later} requests come at a later turn than in the log; --came FILE says to which "
+            "they came, and `measure` and `compare` count from there with --came FILE\n")
 
 
 def summary(log: Log, terms: Terms, found: Arrived) -> str:

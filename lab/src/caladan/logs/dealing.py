@@ -76,8 +76,8 @@ def task_at(log: Log, terms: Terms, place: int, tasks: int) -> int:
         raise Refusal(f"--task {word}: the table has {tasks} tasks, numbered from 0")
     known = f"one of {', '.join(terms.names)}, or " if terms.names else ""
     hint = "" if terms.names else "  --names says what the tasks are called, in the order of the table\n"
-    raise Refusal(f"{log.name}: row {rows.numbers[place]}: `{log.columns['task']}` is `{word}`; wanted: {known}a number "
-                  f"below {tasks}", below=hint)
+    raise Refusal(f"{log.name}: row {rows.numbers[place]}: `{log.columns['task']}` is `{word}`; wanted: {known}a "
+                  f"number below {tasks}", below=hint)
 
 
 def tasks_of(log: Log, terms: Terms, tasks: int) -> list[int]:

@@ -113,8 +113,8 @@ def log_loads(asked: Asked, names: tuple[str, ...], log: Optional[Log] = None) -
         block_of(log, int(block))
     word_of = asked.found["task"][0] if asked.has("task") else None
     tasks = tasks_in(log, Terms("", Fraction(1), 1, task=word_of, names=names), asked)
-    return LogLoads(tuple(replace(it, loads=points) for it in tasks), 0, word, False, tuple(str(it.task) for it in tasks),
-                    (), log, asked, is_rate, None if block is None else int(block))
+    with_loads = tuple(replace(it, loads=points) for it in tasks)
+    return LogLoads(with_loads, 0, word, False, (), (), log, asked, is_rate, None if block is None else int(block))
 
 
 def tasks_in(log: Log, terms: Terms, asked: Asked) -> list[TaskLoad]:

@@ -98,8 +98,8 @@ class Section:
 @dataclass(frozen=True)
 class Command:
     """A command: its name, the words before its own, what it is for, what the long help says at its end, what it takes
-    in the order of its help, and the commands below it; options of pictures, and sections of others; and whether it answers in text
-    whatever its file is called."""
+    in the order of its help, and the commands below it; options of pictures, and sections of others; and whether it
+    answers in text whatever its file is called."""
 
     name: str
     called: str
