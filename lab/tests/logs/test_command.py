@@ -6,6 +6,7 @@ import csv
 import os
 import re
 import subprocess
+import time
 from dataclasses import replace
 from fractions import Fraction
 from pathlib import Path
@@ -20,8 +21,8 @@ from .given import logs, made
 pytest.importorskip("pandas")
 import caladan  # noqa: E402
 from caladan.command import run  # noqa: E402
-from caladan.logs.arriving import by_lab, by_program  # noqa: E402
-from caladan.logs.dealing import Terms, turns_of  # noqa: E402
+from caladan.logs.arriving import Requests, by_lab, by_program, put_misses  # noqa: E402
+from caladan.logs.dealing import Terms, dealt, turns_of  # noqa: E402
 from caladan.logs.draws import drawn, scaled  # noqa: E402
 from caladan.logs.log import Log  # noqa: E402
 from caladan.programs import Viewer  # noqa: E402
@@ -104,6 +105,34 @@ a turn is 2 us, a tick 1 us
 passes 8 turns 8
 task 0 came 3 later 0 left out 0 load 0.875
 """, "")
+
+
+def test_the_summary_names_work_without_end(lab: Lab) -> None:
+    said = lab("log", "log.csv", *HOW, "--batch", "1", "--summary")[1]
+    assert said.endswith("task 1 has work without end on 4 threads\n")
+
+
+def test_what_takes_long_is_shown(monkeypatch: pytest.MonkeyPatch, capfd: pytest.CaptureFixture[str]) -> None:
+    """From a moment on, on a terminal; and it is removed at the end."""
+    from caladan import waiting
+    monkeypatch.setattr(waiting, "PATIENCE", 0.05)
+    for is_shown in (True, False):
+        with waiting.Waiting("making the arrivals of log.csv", is_shown):
+            time.sleep(0.3)
+        said = capfd.readouterr().err
+        assert re.fullmatch(r"\rmaking the arrivals of log\.csv, 0 s\x1b\[K\r\x1b\[K", said) if is_shown else not said
+
+
+def test_another_deal_is_refused() -> None:
+    """Where the program deals otherwise than the lab, no misses are put in."""
+    log = made([0, 2], [1, 1], ["0", "0"], [5, 5])
+    deal = dealt(log, TERMS, MACHINE, 1, 9)
+    found = by_lab(log, TERMS, MACHINE, 1, 9)
+    slots = (deal.slots[0]._replace(work=7), *deal.slots[1:])
+    with pytest.raises(caladan.Refusal) as it:
+        put_misses(Requests(found.arrivals, found.came), log, replace(deal, slots=slots))
+    assert it.value.status == 3 and it.value.line == (
+        "log.csv: the program deals request 1 otherwise than this package; no misses can be put in")
 
 
 def test_a_picture_has_no_place(lab: Lab) -> None:
@@ -219,8 +248,8 @@ def test_words_of_a_log_are_refused(lab: Lab, words: list[str], said: str) -> No
 
 def test_words_that_are_lacking(lab: Lab) -> None:
     assert lab("log") == (2, "", "error: the following required arguments were not provided:\n  <LOG>\n"
-                          "  --table <FILE>\n  --unit <UNIT>\n  --turn <LENGTH>\n\nUsage: caladan_lab log --table <FILE> --unit <UNIT> "
-                          "--turn <LENGTH> <LOG>\n\nFor more information, try '--help'.\n")
+                          "  --table <FILE>\n  --unit <UNIT>\n  --turn <LENGTH>\n\nUsage: caladan_lab log --table <FILE> "
+                          "--unit <UNIT> --turn <LENGTH> <LOG>\n\nFor more information, try '--help'.\n")
     assert lab("log", "-", *HOW[:4], "--table", "-")[2] == (
         "caladan_lab: the log and the table are both the standard input: name the file of one\n")
 

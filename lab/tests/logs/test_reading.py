@@ -117,8 +117,8 @@ def test_what_cannot_be_read(tmp_path: Path, text: "bytes | str", said: str) -> 
 
 def test_zstd_needs_its_package(tmp_path: Path) -> None:
     said = refusal(tmp_path, b"\x28\xb5\x2f\xfdspoiled")
-    assert said.startswith(("log.csv: it is compressed by zstd: install python3-zstandard, or decompress it first",
-                            "log.csv: it begins as zstd, and cannot be decompressed"))
+    missing = "it is compressed by zstd: install python3-zstandard, or decompress it first (zstd -d)"
+    assert said == f"log.csv: {missing}" or said.startswith("log.csv: it begins as zstd, and cannot be decompressed: ")
 
 
 @pytest.mark.parametrize("word, said", [
@@ -132,7 +132,7 @@ def test_columns_that_are_refused(tmp_path: Path, word: str, said: str) -> None:
 
 
 def test_a_role_that_there_is_not() -> None:
-    with pytest.raises(Refusal, match="there is no `when`; there are: time, service, task, misses"):
+    with pytest.raises(Refusal, match="^--columns: there is no `when`; there are: time, service, task, misses$"):
         Log.of(pandas.DataFrame({"time": [1], "service": [2]}), "us", {"when": "time"})
 
 
@@ -169,7 +169,21 @@ def test_too_many_rows(tmp_path: Path, monkeypatch: pytest.MonkeyPatch) -> None:
 def test_too_much_text(tmp_path: Path, monkeypatch: pytest.MonkeyPatch, way: str) -> None:
     monkeypatch.setattr("caladan.logs.opening.MOST_BYTES", 60)
     text = (PLAIN + "6,1\n" * 300).encode()
-    assert refusal(tmp_path, text if way == "plain" else COMPRESSED[way](text)).startswith("log.csv: more than ")
+    said = "log.csv: more than 1 GiB of text; a run takes 1,000,000 requests at most: cut the log"
+    assert refusal(tmp_path, text if way == "plain" else COMPRESSED[way](text)) == said
+
+
+@pytest.mark.parametrize("fault", [pandas.errors.ParserError("out of step"), ValueError("out of step")])
+def test_what_pandas_cannot_read(tmp_path: Path, monkeypatch: pytest.MonkeyPatch, fault: Exception) -> None:
+    def fails(*_: object, **__: object) -> None:
+        raise fault
+    monkeypatch.setattr(pandas, "read_csv", fails)
+    assert refusal(tmp_path, PLAIN) == "log.csv: it cannot be read as CSV: out of step"
+
+
+def test_a_header_without_end(tmp_path: Path) -> None:
+    assert refusal(tmp_path, "x" * 200_000) == (
+        "log.csv: its header cannot be read: field larger than field limit (131072)")
 
 
 def test_without_pandas(tmp_path: Path, monkeypatch: pytest.MonkeyPatch) -> None:

@@ -104,9 +104,9 @@ class Log:
     def read(cls, file: Union[str, "os.PathLike[str]"], unit: str, columns: Union[str, Mapping[str, str], None] = None,
              separator: Optional[str] = None) -> "Log":
         """The log of a file: CSV with a header, plain or compressed by gzip, bzip2, xz, zip or zstd, its fields
-        separated by commas, semicolons, tabs, bars, blanks, or another character that is named. `unit` is that of its numbers, or
-        as time=s,service=us; times may be by a calendar too, with a zone in each row or in none. `columns` says which
-        column has what, as {"time": "arrived_us"}. Refusal of what cannot be read, with its row."""
+        separated by commas, semicolons, tabs, bars, blanks, or another character that is named. `unit` is that of its
+        numbers, or as time=s,service=us; times may be by a calendar too, with a zone in each row or in none. `columns`
+        says which column has what, as {"time": "arrived_us"}. Refusal of what cannot be read, with its row."""
         units = units_of(unit)
         named = columns_of(columns) if columns is None or isinstance(columns, str) else checked(columns)
         name = os.fspath(file)

@@ -97,7 +97,8 @@ LOG = Command(
      option("came", "FILE", "Also write to which turn each request came"),
      flag("summary", "Write what comes, in place of the run"),
      flag("quiet", "Do not show on a terminal what goes on", short="q", hidden=True),
-     option("output", "FILE", "Where the run goes [default: standard output]", short="o"), replace(PROGRAM, hidden=True)),
+     option("output", "FILE", "Where the run goes [default: standard output]", short="o"),
+     replace(PROGRAM, hidden=True)),
     is_text=True)
 
 # What `sweep` takes for a log, in place of loads.
