@@ -73,7 +73,7 @@ static bool is_covered(const scheduler *s, size_t k) {
     const host_seat *seat = &s->thread[k].seat;
     unsigned above = seat->leaving.core < HOST_CORES ? s->on_core[seat->leaving.core] : 0;
     if (!stands_under(s, k) || above == 0 || above - 1 == k) return false;
-    if (seat->handed == seat->settled && seat->idle == 0) return false;
+    if (seat->handed == seat->settled && seat->pin.idle == 0) return false;
     return s->task[s->thread[above - 1].task].is_critical;
 }
 
@@ -88,7 +88,7 @@ static bool is_excused(const scheduler *s, size_t k) {
 static void sample(scheduler *s, size_t k) {
     host_seat *seat = &s->thread[k].seat;
     leaving *it = &seat->leaving;
-    pid_t pid = s->task[s->thread[k].task].pid, tid = seat->pinned ? seat->pinned : atomic_load(&seat->slot->tid);
+    pid_t pid = s->task[s->thread[k].task].pid, tid = seat->pin.tid ? seat->pin.tid : atomic_load(&seat->slot->tid);
     uint64_t on_cpu = on_cpu_time(pid, tid), looked_on = s->run_time - it->sampled, ran = 0;
     if (it->sampled_wall == 0) looked_on = s->run_time - it->since;
     else if (tid == it->tid && on_cpu > it->on_cpu) ran = on_cpu - it->on_cpu;
