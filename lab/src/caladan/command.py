@@ -1,4 +1,4 @@
-"""The command line: `caladan_lab compare`, `sweep`, `timeline`, `run` and `seeds`; and that of `caladan_draw`."""
+"""The command line: `caladan_lab compare`, `sweep`, `timeline`, `report`, `run` and `seeds`; and that of `caladan_draw`."""
 from __future__ import annotations
 
 import os
@@ -35,6 +35,9 @@ def answer(asked: Asked) -> int:
     if word == "timeline":
         from .timelines.command import timeline
         return timeline(asked)
+    if word == "report":
+        from .reports.command import report
+        return report(asked)
     say(help_of(LAB, False))
     return 2
 

@@ -7,6 +7,7 @@ from .. import __version__
 from . import texts
 from .arg import Arg, Command, Number, flag, number, option
 from .drawn import PICTURE, PROGRAM, RUN, SEEDS
+from .reported import EXPLAIN, REPORT_TEXT
 
 NAME = "caladan_lab"
 POLICIES = ("caladan", "assured")
@@ -76,6 +77,15 @@ TIMELINE = Command(
     "timeline", f"{NAME} timeline", "Write a history or a run as trace events, for Perfetto", texts.TIMELINE,
     (INPUT, POLICY, *PLAN, NAMES, TICK, OUTPUT), extra=(PROGRAM,))
 
+REPORT = Command(
+    "report", f"{NAME} report", "Write a run as one page of HTML to click through: lanes, requests, and why",
+    REPORT_TEXT,
+    (INPUT, POLICY, COUNT[0], EXPLAIN, NAMES, TICK,
+     option("jobs", "N", "Ask for N passes at a time at most [default: 2 a processor]", short="j",
+            number=Number(1, 2 ** 63 - 1), hidden=True),
+     flag("quiet", "Do not show on a terminal how many passes are done", short="q", hidden=True), OUTPUT),
+    extra=(PROGRAM,))
+
 LAB = Command(
     NAME, NAME, "Many runs of the core scheduler of Caladan, over caladan_view and caladan_sim", """\
 Each word makes runs by caladan_view, side by side, and writes what came of
@@ -87,4 +97,4 @@ copy; `man caladan-viewer` has the rest.
 Exit status: 0 done, 1 an objective missed, 2 bad arguments or rejected input, 3
 memory or output was refused, or a program is missing. A fault is one line on
 the standard error; below it, lines say why an input was rejected.""",
-    commands=(COMPARE, SWEEP, TIMELINE, RUN, SEEDS), version=__version__)
+    commands=(COMPARE, SWEEP, TIMELINE, REPORT, RUN, SEEDS), version=__version__)
