@@ -23,7 +23,7 @@ from .asked import PictureAsked, RunsRefused, runs_for
 from .facts import (Request, Run, Span, Standing, by_pass, kind_of, read_facts, request_of, run_of, span_of,
                     standing_of, tasks_in)
 from .numbers import Comparison, Sweep, read_comparison, read_sweep
-from .seeds import Seeds, read_seeds
+from .seeds import Seeds, read_seeds, seeds_of_sweep
 from .tables import Table, Task, read_table, table_of
 
 ARRIVALS, SIGNALS = b"caladan-arrivals,", b"caladan-signals,"
@@ -32,7 +32,8 @@ WANTED = {
     "compare": "an input, or the CSV of `caladan_view compare --csv`, and of each table's run those of `requests` and "
                "`series` or none",
     "sweep": "a task table, or the CSV of `caladan_view sweep --csv`",
-    "seeds": "the rows of runs with several seeds, as bench/interference keeps them",
+    "seeds": "the rows of runs with several seeds, as bench/interference keeps them, or the CSV of `sweep --seeds N "
+             "--csv`",
 }
 
 
@@ -290,6 +291,8 @@ def swept_input(given: Given, asked: PictureAsked) -> Swept:
 
 def seeds_from(given: Sequence[Given]) -> Seeds:
     """Runs with several seeds, of one file."""
+    if len(given) == 1 and given[0].kind == "sweep":
+        return seeds_of_sweep(given[0].text, given[0].name)
     if len(given) != 1 or given[0].kind != "seeds":
         names = ", ".join(it.name for it in given)
         raise Refusal(f"{names}: wanted: {WANTED['seeds']}")

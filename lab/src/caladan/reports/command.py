@@ -2,9 +2,9 @@
 from __future__ import annotations
 
 import os
-import shlex
 from typing import Optional
 
+from ..explaining import command_of
 from ..files import STANDARD, Output, Source, is_terminal, read_named
 from ..labels import Labels, names_of
 from ..programs import Viewer, viewer
@@ -16,15 +16,6 @@ from .page import facts_of, page_of
 from .told import chosen, told_of
 
 NOT_EXPLAINED = "This pass is not explained here: --explain all explains each pass. The command below says why."
-
-
-def command_of(file: Optional[str], policy: str, is_run: bool) -> tuple[str, str]:
-    """What stands before and after the pass in the command that explains it."""
-    name = "INPUT" if file in (None, STANDARD) else shlex.quote(file or "")
-    by = "" if policy == "caladan" else f" --policy {policy}"
-    if is_run:
-        return f"caladan_sim lockstep --table{by} < {name} | caladan_view explain{by} ", ""
-    return f"caladan_view explain{by} ", f" {name}"
 
 
 def report_of(view: Viewer, given: bytes, labels: Labels, policy: str = "caladan", which: str = "",

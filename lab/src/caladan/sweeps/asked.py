@@ -19,8 +19,8 @@ MOST_SEEDS = 1000
 @dataclass(frozen=True)
 class SweepAsked:
     """What comes to tasks; the objectives; the keys that are varied; the window, from its first turn up to the one
-    after it; the seeds, the turns of a run and the ticks of a turn; the policies, the plan, what is written, and how
-    many runs are made at a time."""
+    after it; the seeds, the turns of a run and the ticks of a turn; the policies, the plan, what is written, how
+    many runs are made at a time, and whether each seed has its row."""
 
     loads: Loads
     objectives: tuple[Objective, ...]
@@ -37,6 +37,7 @@ class SweepAsked:
     is_cheapest: bool
     jobs: Optional[int]
     is_quiet: bool
+    is_by_seed: bool = False
 
     @property
     def shown_tasks(self) -> list[int]:
@@ -86,4 +87,5 @@ def sweep_asked(asked: Asked, labels: Labels) -> SweepAsked:
     return SweepAsked(
         loads, objectives, variations, first, after, _seeds(asked.one("seeds"), asked.number("seed") or 0), turns,
         asked.number("ticks") or 0, tuple(asked.all("policy") or ["caladan"]), plan_of(asked), labels,
-        asked.has("csv"), asked.has("cheapest"), asked.number("jobs"), asked.has("quiet"))
+        asked.has("csv"), asked.has("cheapest"), asked.number("jobs"), asked.has("quiet"),
+        asked.has("by-seed"))

@@ -7,7 +7,7 @@ from .. import __version__
 from . import texts
 from .arg import Arg, Command, Number, flag, number, option
 from .drawn import PICTURE, PROGRAM, RUN, SEEDS
-from .reported import EXPLAIN, REPORT_TEXT
+from .reported import COMMANDS, EXPLAIN, REPORT_TEXT
 
 NAME = "caladan_lab"
 POLICIES = ("caladan", "assured")
@@ -66,6 +66,7 @@ SWEEP = Command(
      option("from", "TURN", "The first turn of the window [default: a tenth in]", hidden=True),
      option("to", "TURN", "The turn after it [default: a tenth before the end]", hidden=True),
      option("seeds", "N", "Run each load with N seeds, from --seed on, 1 to 1000", hidden=True),
+     flag("by-seed", "A row for each seed in place of three", hidden=True),
      flag("cheapest", "List what keeps every objective, best for best effort first", needs="slo", hidden=True),
      option("jobs", "N", "Run N loads at a time at most [default: 2 a processor]", short="j",
             number=Number(1, 2 ** 63 - 1), hidden=True),
@@ -75,7 +76,7 @@ SWEEP = Command(
 
 TIMELINE = Command(
     "timeline", f"{NAME} timeline", "Write a history or a run as trace events, for Perfetto", texts.TIMELINE,
-    (INPUT, POLICY, *PLAN, NAMES, TICK, OUTPUT), extra=(PROGRAM,))
+    (INPUT, POLICY, *PLAN, COMMANDS, NAMES, TICK, OUTPUT), extra=(PROGRAM,))
 
 REPORT = Command(
     "report", f"{NAME} report", "Write a run as one page of HTML to click through: lanes, requests, and why",

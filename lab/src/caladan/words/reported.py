@@ -1,10 +1,12 @@
-"""The word `report`: its own option, and what its long help says."""
+"""The word `report`: its own option, and what its long help says; and the option of `timeline` for what explains."""
 from __future__ import annotations
 
-from .arg import option
+from .arg import flag, option
 from .texts import TIMELINE
 
-EXPLAIN = option("explain", "WHICH", "The passes that are explained: all, changes or none", names=("all", "changes", "none"))
+EXPLAIN = option("explain", "WHICH", "The passes that are explained: all, changes or none",
+                 names=("all", "changes", "none"))
+COMMANDS = flag("commands", "With each slice of a core, the command that explains it")
 
 REPORT_TEXT = """\
 Input: a task table (TOML), the line ---, and arrivals, a history or signals
