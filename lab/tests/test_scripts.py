@@ -10,7 +10,7 @@ import runpy
 import subprocess
 import sys
 from pathlib import Path
-from typing import Iterator
+from typing import Any, Iterator
 
 import pytest
 from conftest import TOP
@@ -134,3 +134,31 @@ def test_ten_draws(view: str) -> None:
     found = [list(map(float, it.split())) for it in said("ten_draws.py", view).splitlines() if re.match(r"\d+ ", it)]
     short, long = (p99_of_draws(view, delay) for delay in (10, 80))
     assert found == [[seed, one, other, other - one] for seed, one, other in zip(range(1, 11), short, long)]
+
+
+def test_load_step(view: str, monkeypatch: pytest.MonkeyPatch) -> None:
+    pytest.importorskip("pandas")
+    pytest.importorskip("matplotlib")
+    monkeypatch.setenv("CALADAN_VIEW", view)
+    monkeypatch.setattr(sys, "argv", ["load_step.py", "step.svg"])
+    made = runpy.run_path(str(SCRIPTS / "load_step.py"))
+    assert Path("step.svg").read_text().startswith("<?xml")
+    run, slices = made["run"], made["slices"]
+    assert list(slices.index) == [0, 500, 1000, 1500, 2000, 2500]
+    rows = [it for it in csv.DictReader(asked(view, "requests", "--came", "came", given=came(run)).splitlines())
+            if it["task"] == "0"]
+    for first in slices.index:
+        own = [it for it in rows if first <= int(it["arrived [ticks]"]) < first + 500]
+        assert slices.loc[first, ("came", "kv")] == len(own)
+        told = measured(view, run.input, "--from", str(first // 5), "--to", str(first // 5 + 100))
+        assert slices.loc[first, ("p99 [us]", "kv")] == int(told["response 99 of 100"])
+    # Where ten times as many come, the service holds more cores, and the batch job fewer.
+    held = slices["held [cores]"]
+    assert held.loc[1000:1500, "kv"].min() > 2 * held.loc[0:500, "kv"].max()
+    assert held.loc[1000:1500, "batch"].max() < held.loc[0:500, "batch"].min()
+
+
+def came(run: Any) -> bytes:
+    """The input of a run, of which the file `came` has when its requests came."""
+    Path("came").write_bytes(run.came)
+    return bytes(run.input)

@@ -137,8 +137,9 @@ With --vary there is a row for each value, or for each combination of several
 same requests for all, drawn for the greatest limit, each at its thread modulo
 the table's, and later if its turn is taken. With several policies there is a
 row for each. --seeds N runs each load with N seeds: for each row there are
-three, the least, the median and the greatest of each column by itself; with
---by-seed one for each seed, which `caladan_lab seeds` draws.
+three, the least, the median and the greatest of each column by itself.
+With --by-seed there is a row for each seed in their place. `caladan_lab seeds`
+draws both.
 --slo is an objective for a task: p50, p90, p99, p99.9 or max, in ticks. It is
 undecided where the request at its rank is pending for less, and missed where
 some that came before the end of the window are left out; of several seeds one
