@@ -13,7 +13,7 @@ from pathlib import Path
 import caladan
 
 TABLE = sys.argv[2] if sys.argv[2:] else Path(__file__).resolve().parents[1] / "sweep/which_delay/input"
-# From when on, in us, how many requests come in a us.
+# From when on, in us, how many requests come in a us; the run goes on a little, to answer the last of them.
 LOADS = [(0, 0.05), (1000, 0.5), (2000, 0.05), (3000, 0)]
 
 
@@ -31,7 +31,9 @@ table = caladan.Table.read(TABLE, names=["kv", "search", "batch"], tick="us")
 with tempfile.NamedTemporaryFile("w", suffix=".csv") as log:
     print("time,service,task", *["0,1000000,batch"] * 16, *(f"{it:.3f},4,kv" for it in times()), sep="\n", file=log,
           flush=True)
-    run = table.run(log=log.name, unit="us", turn="5us", ticks=5, turns=600)
-slices = run.numbers_by("500us").pivot(index="from [us]", columns="task")
-print(slices[[("came", "kv"), ("p50 [us]", "kv"), ("p99 [us]", "kv"), ("held [cores]", "kv"), ("held [cores]", "batch")]])
-run.picture(sys.argv[1], passes=600, responses=True)
+    run = table.run(log=log.name, unit="us", turn="5us", ticks=5, turns=640)
+slices = run.numbers_by("500us")
+service, batch = (slices[slices["task"] == it].reset_index() for it in ("kv", "batch"))
+shown = service[["from [us]", "came", "p50 [us]", "p99 [us]", "held [cores]"]]
+print(shown.assign(batch=batch["held [cores]"]).query("came > 0").round(2).to_string(index=False))
+run.picture(sys.argv[1], passes=640, responses=True)

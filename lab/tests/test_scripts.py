@@ -143,19 +143,20 @@ def test_load_step(view: str, monkeypatch: pytest.MonkeyPatch) -> None:
     monkeypatch.setattr(sys, "argv", ["load_step.py", "step.svg"])
     made = runpy.run_path(str(SCRIPTS / "load_step.py"))
     assert Path("step.svg").read_text().startswith("<?xml")
-    run, slices = made["run"], made["slices"]
-    assert list(slices.index) == [0, 500, 1000, 1500, 2000, 2500]
+    run, service, batch = made["run"], made["service"], made["batch"]
+    assert list(service["from [us]"]) == list(batch["from [us]"]) == [0, 500, 1000, 1500, 2000, 2500, 3000]
+    clocks = [int(it.split(b",")[1]) for it in run.input.splitlines() if it.startswith(b"turn,")]
     rows = [it for it in csv.DictReader(asked(view, "requests", "--came", "came", given=came(run)).splitlines())
             if it["task"] == "0"]
-    for first in slices.index:
+    for place, first in enumerate(range(0, 3000, 500)):
         own = [it for it in rows if first <= int(it["arrived [ticks]"]) < first + 500]
-        assert slices.loc[first, ("came", "kv")] == len(own)
-        told = measured(view, run.input, "--from", str(first // 5), "--to", str(first // 5 + 100))
-        assert slices.loc[first, ("p99 [us]", "kv")] == int(told["response 99 of 100"])
+        assert service["came"][place] == len(own) and service["p99 bound"].isna()[place]
+        part = [str(sum(clock < it for clock in clocks)) for it in (first, first + 500)]
+        told = measured(view, run.input, "--from", part[0], "--to", part[1])
+        assert service["p99 [us]"][place] == int(told["response 99 of 100"])
     # Where ten times as many come, the service holds more cores, and the batch job fewer.
-    held = slices["held [cores]"]
-    assert held.loc[1000:1500, "kv"].min() > 2 * held.loc[0:500, "kv"].max()
-    assert held.loc[1000:1500, "batch"].max() < held.loc[0:500, "batch"].min()
+    held, left = service["held [cores]"], batch["held [cores]"]
+    assert held[2:4].min() > 2 * held[0:2].max() and left[2:4].max() < left[0:2].min()
 
 
 def came(run: Any) -> bytes:

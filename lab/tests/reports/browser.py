@@ -57,12 +57,13 @@ def asked_for(browser: Browser) -> list[str]:
 
 
 class Page:
-    """A page that is open."""
+    """A page that is open. One that is open already is not opened again."""
 
     def __init__(self, browser: Browser, address: str) -> None:
         from selenium.webdriver.support.ui import WebDriverWait
         self.browser = browser
-        browser.get(address)
+        if browser.execute_script("return location.href.split('#')[0]") != address:
+            browser.get(address)
         WebDriverWait(browser, SECONDS).until(
             lambda it: it.execute_script("return document.documentElement.dataset.ready === 'yes'"))
 

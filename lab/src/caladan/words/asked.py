@@ -79,8 +79,7 @@ TIMELINE = Command(
     (INPUT, POLICY, *PLAN, COMMANDS, NAMES, TICK, OUTPUT), extra=(PROGRAM,))
 
 REPORT = Command(
-    "report", f"{NAME} report", "Write a run as one page of HTML to click through: lanes, requests, and why",
-    REPORT_TEXT,
+    "report", f"{NAME} report", "Write a run as one page to click through, with why", REPORT_TEXT,
     (INPUT, POLICY, COUNT[0], EXPLAIN, NAMES, TICK,
      option("jobs", "N", "Ask for N passes at a time at most [default: 2 a processor]", short="j",
             number=Number(1, 2 ** 63 - 1), hidden=True),

@@ -81,14 +81,20 @@ function step(by) {
 const clamped = (at, of) => Math.min(Math.max(at, 0), of.length - 1);
 const ofTask = lane => lane.task === undefined ? "" : `&task=${lane.task}`;
 
-// What stands at the chosen pass in the next lane that has something there.
+// What stands at the chosen pass in the next lane that has something there. A request is chosen by when it came, and
+// shows another pass: the lanes after it go on with the pass before.
+let kept = {address: "", pass: 0};
+
 function stepLane(by) {
-  const pass = chosen.pass ?? firstShown();
+  const pass = kept.address === location.hash.slice(1) ? kept.pass : chosen.pass ?? firstShown();
   for (let at = lanes.indexOf(laneOfChosen()) + by; at >= 1 && at < lanes.length; at += by) {
-    const found = inLane(lanes[at], pass);
-    if (found) return found;
+    const address = inLane(lanes[at], pass);
+    if (address) {
+      kept = {address, pass};
+      return address;
+    }
   }
-  return `pass=${pass}`;
+  return location.hash.slice(1) || `pass=${pass}`;
 }
 
 function inLane(lane, pass) {
