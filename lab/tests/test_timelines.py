@@ -203,7 +203,8 @@ def test_of_a_history_the_command_is_explain_alone(lab: Run, view: str, tmp_path
     given = TOP / "examples" / "audit" / "tour" / "input"
     told = events_of(lab("timeline", "--commands", str(given), view=view).out)
     commands = [it["args"]["explain"] for it in told if "explain" in it.get("args", {})]
-    assert commands and all(it.endswith(f" {given}") and it.startswith("caladan_view explain --pass ") for it in commands)
+    assert commands and all(it.startswith("caladan_view explain --pass ") for it in commands)
+    assert all(it.endswith(f" {given}") for it in commands)
     words = [it.split()[1:-1] for it in commands[:3]]
     for it in words:
         assert subprocess.run([view, *it, str(given)], capture_output=True, check=False).returncode == 0

@@ -1,5 +1,5 @@
-"""A run in slices of time. Responses are those that `caladan_view measure --from --to` tells of the turns of a slice, by
-when requests came. `measure` has no counts and no cores of a part of a run: how many requests came and were answered
+"""A run in slices of time. Responses are those that `caladan_view measure --from --to` tells of the turns of a slice,
+by when requests came. `measure` has no counts and no cores of a part of a run: how many requests came and were answered
 is counted here from the rows of `requests`, and the cores held, in the mean over the slice, from those of `series`."""
 from __future__ import annotations
 

@@ -34,7 +34,8 @@ class Responses(unittest.TestCase):
                 asked = [(self.place(int(it["arrived [ticks]"])),
                           int(it[has]) - (int(it["arrived [ticks]"]) if name == "answered" else 0))
                          for it in own if it[has]]
-                points = [it for line in named(self.paper, f"{name}-{task}").values() for it in pairs(line.get_xydata())]
+                lines = named(self.paper, f"{name}-{task}").values()
+                points = [it for line in lines for it in pairs(line.get_xydata())]
                 self.assertEqual(points, asked)
 
     def test_lanes_and_signs_are_named(self):

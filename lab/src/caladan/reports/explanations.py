@@ -1,5 +1,5 @@
-"""Why each pass of a history does what it does, as `caladan_view explain` says it, of many passes at once: each is asked
-for on the history up to it, since what comes after a pass does not count for it."""
+"""Why each pass of a history does what it does, as `caladan_view explain` says it, of many passes at once: each is
+asked for on the history up to it, since what comes after a pass does not count for it."""
 from __future__ import annotations
 
 import re
