@@ -77,7 +77,8 @@ bandwidth() { # the best-effort task shows misses, and the table's limit is low
 }
 
 files_like() { ls -l "/proc/$1/fd" 2> /dev/null | grep -c "$2"; } # files_like PID WORD: how many of its open files are such
-knows() { [ "$(files_like "$1" pidfd)" = "$2" ]; } # knows PID NUMBER: the scheduler has the files of so many processes
+knows_some() { [ "$(files_like "$1" pidfd)" != 0 ]; } # knows_some PID: the scheduler has the file of a process; its clerk has another
+knows_none() { ! knows_some "$1"; }
 asks() { only_child_of "$1" && [ "$(files_like "$child" socket)" -gt "$(files_like $$ socket)" ]; } # asks PID: its child
 out_of_files() { # a process ends when there is neither a file nor memory for a new segment: the scheduler goes on
     local waiter
@@ -87,10 +88,10 @@ out_of_files() { # a process ends when there is neither a file nor memory for a 
     only_child_of $scheduler && daemon=$child
     go $life "$bin/load" be -n "$name" -u 1 -k 200 -s $life
     wait_for 20 child_of $last
-    wait_for 20 knows "$daemon" 1; timed $? "$what: it does not know the process"
+    wait_for 20 knows_some "$daemon"; timed $? "$what: it does not know the process"
     prlimit --pid "$daemon" --nofile=3:; note $? "$what: it has no limit"
     kill -9 "$child"
-    wait_for 20 knows "$daemon" 0; timed $? "$what: it does not give the process up: $(cat "$build/said")"
+    wait_for 20 knows_none "$daemon"; timed $? "$what: it does not give the process up: $(cat "$build/said")"
     lc -s 0.2 > "$build/process.lc" 2>&1 & # it waits until there are files
     waiter=$!
     wait_for 20 asks $waiter; timed $? "$what: nobody waits"
