@@ -1,4 +1,5 @@
-"""The command line: `caladan_lab compare`, `sweep`, `timeline`, `report`, `run` and `seeds`; and that of `caladan_draw`."""
+"""The command line: `caladan_lab compare`, `sweep`, `timeline`, `report`, `run`, `seeds` and others; and that of
+`caladan_draw`."""
 from __future__ import annotations
 
 import os
