@@ -1,22 +1,8 @@
 -- What a list of events says of the scheduler and of each thread, told so that one more event is
 -- one step: each is carried along the list, next to the events before. That it is what cal_world
 -- reads off the whole list is shown in Bridge.antt.
-use Rattle.std.specs.Prelude.{ℕ, ◌+◌, ◌==◌, List, [], ◌∷◌, ◌++◌, length, Option, Some, None, slice_get, option_map, option_to_list, if◌then◌else◌}
-use Rattle.std.specs.List.{filter_map}
-use Rattle.cal_machine.specs.declared.command.Command.{Command}
-use Rattle.cal_signal.specs.declared.record.Record.{Record}
-use Rattle.cal_signal.specs.Pages.{page_of, last_from}
-use Rattle.cal_policy.specs.declared.history.look.Seen.{Seen}
-use Rattle.cal_policy.specs.declared.history.look.Seen.TheVariants.{Whole}
-use Rattle.cal_policy.specs.declared.history.entry.PassEntry.{PassEntry}
-use Rattle.cal_policy.specs.History.{actions_of, commands_to}
-use Rattle.cal_kthread.specs.declared.journal.entry.Entry.{Entry}
-use Rattle.cal_kthread.specs.declared.journal.entry.Entry.TheVariants.{Took, Yielded, Published}
-use Rattle.cal_kthread.specs.Journal.{state_after, records_of}
-use Rattle.cal_world.specs.Projections.{history_in}
-use Rattle.cal_world.specs.Watches.{watches_in}
-use Rattle.cal_world.specs.declared.event.Event.{Event}
-use Rattle.cal_world.specs.declared.event.Event.TheVariants.{Take, Yield, Publish, Read, Skip, Decide}
+use Rattle.cal_linear.proofs.Common.{ℕ, ◌+◌, List, [], ◌∷◌, ◌++◌, length, Option, Some, None, ◌==◌, option_map, option_to_list, if◌then◌else◌, filter_map, Command, Record, page_of, last_from, Seen, Whole, PassEntry, actions_of, commands_to, Entry, Took, Yielded, Published, state_after, records_of, history_in, watches_in, Event, Take, Yield, Publish, Read, Skip, Decide}
+use Rattle.std.specs.Prelude.{slice_get}
 
 -- the command after the first `taken` ones, as the entry of its taking
 abbrev pub took_next : ℕ → List Command → List Entry

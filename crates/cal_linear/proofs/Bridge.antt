@@ -1,45 +1,14 @@
 -- A list that is legal as it is told in LegalAlong.antt is legal as cal_world tells it, with the
 -- same projections.
-use Rattle.std.proofs.Common.{◌≡◌, ℕ, ◌+◌, ◌<◌, ◌≤◌, zero, suc, Bool, true, false, eqb, cond, List, [], ◌∷◌, ◌++◌, length, get_or, take, Option, Some, None, refl, sym, ap, subst, ◌∙◌, append_assoc, append-nil, arith, length-append}
-use Rattle.std.specs.Prelude.{option_to_list, option_map}
-use Rattle.std.specs.List.{slice_get, filter_map, count_by, cons_option}
-use Rattle.std.specs.Option.{unwrap_or, option_and_then}
-use Rattle.std.proofs.lemmas.Bool.{eqb-true}
-use Rattle.std.proofs.lemmas.Option.{slice_get-get_or}
-use Rattle.std.proofs.lemmas.List.{get_or_append_left}
-use Rattle.std.proofs.lemmas.List.Elements.{filter_map-append}
+use Rattle.cal_linear.proofs.Common.{◌≡◌, ℕ, ◌+◌, ◌<◌, ◌≤◌, zero, suc, Bool, true, false, eqb, cond, List, [], ◌∷◌, ◌++◌, length, get_or, take, Option, Some, None, refl, sym, ap, subst, ◌∙◌, append_assoc, append-nil, arith, length-append, option_to_list, option_map, IsSome, slice_get, filter_map, count_by, cons_option, unwrap_or, option_and_then, eqb-true, slice_get-get_or, get_or_append_left, filter_map-append, Table, Policy, Command, Record, zero_record, last_from, page_of, Seen, Whole, PassEntry, last_of, actions_of, commands_to, last_of_push, each_of_push, unwrap_or_or, Entry, Took, Yielded, Published, State, changed_by, state_after, record_in, records_of, filter_map-push, state_after-push, Event, Take, Yield, Publish, Read, Skip, Decide, Watch, history_in, is_take_by, is_publish_by, takes_in, publishes_in, next_command, took, entries_for, journal_in, watch_in, watches_in, threads_of_table, HasCommand, PassesBy, IsAllowedBy, IsLegalListBy}
 use Rattle.std.proofs.lemmas.List.Sums.{sum_by-append}
-use Rattle.cal_machine.specs.Table.{Table}
-use Rattle.cal_policy.specs.declared.policy.Policy.{Policy}
-use Rattle.cal_machine.specs.declared.command.Command.{Command}
 use Rattle.cal_machine.specs.declared.command.Command.TheVariants.{Park}
-use Rattle.cal_signal.specs.declared.record.Record.{Record}
-use Rattle.cal_signal.specs.Records.{zero_record}
-use Rattle.cal_signal.specs.Pages.{last_from, page_of}
-use Rattle.cal_policy.specs.declared.history.look.Seen.{Seen}
-use Rattle.cal_policy.specs.declared.history.look.Seen.TheVariants.{Whole}
-use Rattle.cal_policy.specs.declared.history.entry.PassEntry.{PassEntry}
-use Rattle.cal_policy.specs.History.Lists.{last_of}
-use Rattle.cal_policy.specs.History.{actions_of, commands_to}
-use Rattle.cal_policy.proofs.ListLemmas.OneMore.{last_of_push, each_of_push, unwrap_or_or}
-use Rattle.cal_kthread.specs.declared.journal.entry.Entry.{Entry}
-use Rattle.cal_kthread.specs.declared.journal.entry.Entry.TheVariants.{Took, Yielded, Published}
-use Rattle.cal_kthread.specs.Journal.{State, changed_by, state_after, record_in, records_of}
-use Rattle.cal_kthread.proofs.JournalLemmas.OneEntryMore.{filter_map-push, state_after-push}
-use Rattle.cal_world.specs.declared.event.Event.{Event}
-use Rattle.cal_world.specs.declared.event.Event.TheVariants.{Take, Yield, Publish, Read, Skip, Decide, Watch}
-use Rattle.cal_world.specs.Projections.{history_in}
 use Rattle.cal_linear.proofs.Along.{adds_to, took_next, journal_along, published_along, place_of_read, floor_along, place_at, watch_floor_along, looks_with, looks_along}
-use Rattle.cal_world.specs.Watches.{watch_in, watches_in}
 use Rattle.cal_linear.proofs.LegalAlong.{IsAllowedAlong, AllowedAfter, IsLegalAlong, MayBePublished}
-use Rattle.std.specs.Prelude.{IsSome}
-use Rattle.cal_machine.specs.TableTasks.{threads_of_table}
 use Rattle.cal_world.specs.declared.illegal.Illegal.{Illegal}
 use Rattle.cal_world.specs.declared.illegal.Illegal.TheVariants.{NoThread, NothingSent, NotOn, NotItsState, NoSuchPlace, OutOfTurn, NotThePass}
-use Rattle.cal_world.specs.Projections.{is_take_by, is_publish_by, takes_in, publishes_in, next_command, took, entries_for, journal_in}
 use Rattle.cal_world.specs.Threads.{page_in, place_read, place_watched, read_floor, watch_floor}
 use Rattle.cal_world.specs.Looks.{decided_at, since_decide, record_at, look_made, looks_since}
-use Rattle.cal_world.specs.World.{HasCommand, PassesBy, IsAllowedBy, IsLegalListBy}
 use Rattle.cal_linear.proofs.Lists.{last_from_push}
 use Rattle.cal_linear.proofs.OneMore.{journal_push, looks_push, floor_push, watches_push}
 use Rattle.cal_world.proofs.ScheduleLemmas.SinceDecide.{since_more, since_none}

@@ -1,14 +1,5 @@
 -- A journal and its front up to a publication.
-use Rattle.std.proofs.Common.{◌≡◌, ℕ, ◌+◌, ◌<◌, ◌≤◌, zero, suc, List, [], ◌∷◌, ◌++◌, length, refl, sym, ap, ◌∙◌, arith, length-append}
-use Rattle.std.specs.List.{slice_get}
-use Rattle.std.proofs.lemmas.List.Elements.{filter_map-append}
-use Rattle.cal_signal.specs.Pages.{page_of}
-use Rattle.cal_kthread.proofs.JournalLemmas.Parts.{taken-all}
-use Rattle.cal_kthread.specs.declared.journal.entry.Entry.{Entry}
-use Rattle.cal_kthread.specs.declared.journal.entry.Entry.TheVariants.{Arrived, Took, Stole, Served, Yielded, Published}
-use Rattle.cal_kthread.specs.Journal.{state_after, record_in, records_of, command_in, commands_of}
-use Rattle.cal_kthread.specs.Journal.Entries.{up_to, past, still_after}
-use Rattle.cal_machine.proofs.Places.{slice_get_front}
+use Rattle.cal_linear.proofs.Common.{◌≡◌, ℕ, ◌+◌, ◌<◌, ◌≤◌, zero, suc, List, [], ◌∷◌, ◌++◌, length, refl, sym, ap, ◌∙◌, arith, length-append, slice_get, filter_map-append, page_of, taken-all, Entry, Arrived, Took, Stole, Served, Yielded, Published, state_after, record_in, records_of, command_in, commands_of, up_to, past, still_after, slice_get_front}
 
 -- the front and what is left of it are the whole
 pub cut_whole : (n : ℕ) (xs : List Entry) → up_to n xs ++ past n xs ≡ xs

@@ -1,24 +1,11 @@
 -- The whole looks of a legal pass fit where the list has come.
-use Rattle.std.proofs.Common.{◌≡◌, ℕ, ◌+◌, ◌≤◌, suc, Bool, true, false, eqb, ltb, cond, List, [], ◌∷◌, ◌++◌, Option, Some, None, refl, sym, ap, subst, ◌∙◌, arith}
-use Rattle.std.specs.List.{slice_get}
-use Rattle.std.specs.Option.{unwrap_or, option_and_then}
-use Rattle.std.proofs.lemmas.Bool.Decides.{nat_tests}
-use Rattle.std.proofs.lemmas.Bool.{eqb-true}
-use Rattle.std.proofs.lemmas.List.{map-append}
-use Rattle.cal_machine.specs.Table.{Table}
-use Rattle.cal_signal.specs.declared.record.Record.{Record}
-use Rattle.cal_policy.specs.declared.history.look.Seen.{Seen}
-use Rattle.cal_policy.specs.declared.history.look.Seen.TheVariants.{Whole, Busy, Ahead, Foreign}
-use Rattle.cal_policy.specs.declared.history.entry.PassEntry.{PassEntry}
+use Rattle.cal_linear.proofs.Common.{◌≡◌, ℕ, ◌+◌, ◌≤◌, suc, Bool, true, false, eqb, ltb, cond, List, [], ◌∷◌, ◌++◌, Option, Some, None, refl, sym, ap, subst, ◌∙◌, arith, slice_get, unwrap_or, option_and_then, nat_tests, eqb-true, map-append, Table, Record, Seen, Whole, Busy, Ahead, Foreign, PassEntry, actions_of, looks_of, sent_to, Entry, IsPublication}
 use Rattle.cal_signal.specs.declared.shown.Shown.{Shown}
 use Rattle.cal_policy.specs.declared.history.input.Input.{Input}
-use Rattle.cal_policy.specs.History.{actions_of, looks_of, sent_to}
 use Rattle.cal_policy.specs.History.Looks.{last_shown, shown_by, shown_at}
 use Rattle.cal_policy.specs.Judgement.Judging.{is_foreign, IsInput, IsFitLook}
 use Rattle.cal_policy.proofs.HistoryLemmas.OneMore.{shown_push}
-use Rattle.cal_kthread.specs.declared.journal.entry.Entry.{Entry}
 use Rattle.cal_linear.proofs.Places.{place_after, with_look, with_looks, look_leaves}
-use Rattle.cal_linear.specs.Runs.{IsPublication}
 use Rattle.cal_linear.proofs.Looking.{FitsLook, AllFit}
 
 -- the places read last are not above those shown last

@@ -1,19 +1,6 @@
 -- Which events may happen after which, and legal lists, told so that one more event is one step.
-use Rattle.std.specs.Prelude.{◌≡◌, ℕ, ◌<◌, ◌≤◌, List, [], ◌∷◌, ◌++◌, length, IsSome}
-use Rattle.cal_machine.specs.Table.{Table}
-use Rattle.cal_signal.specs.declared.record.Record.{Record}
-use Rattle.cal_signal.specs.Pages.{last_published}
-use Rattle.cal_signal.specs.Records.{MayFollow}
-use Rattle.cal_machine.specs.TableTasks.{threads_of_table}
-use Rattle.cal_policy.specs.History.{actions_of, sent_to}
-use Rattle.cal_policy.specs.declared.policy.Policy.{Policy}
+use Rattle.cal_linear.proofs.Common.{◌≡◌, ℕ, ◌<◌, ◌≤◌, List, [], ◌∷◌, ◌++◌, length, IsSome, Table, Record, last_published, MayFollow, running_word, threads_of_table, actions_of, sent_to, Policy, State, state_after, Event, Take, Yield, Publish, Read, Skip, Decide, Watch, history_in, KeepsNone}
 use Rattle.cal_policy.specs.Policies.{IsPassBy}
-use Rattle.cal_kthread.specs.Journal.{State, state_after}
-use Rattle.cal_signal.specs.Records.{running_word}
-use Rattle.cal_world.specs.declared.event.Event.{Event}
-use Rattle.cal_world.specs.declared.event.Event.TheVariants.{Take, Yield, Publish, Read, Skip, Decide, Watch}
-use Rattle.cal_world.specs.Projections.{history_in}
-use Rattle.cal_world.specs.World.{KeepsNone}
 use Rattle.cal_linear.proofs.Along.{journal_along, published_along, floor_along, watch_floor_along, looks_along}
 
 -- how many commands thread k has taken after these events, and its core

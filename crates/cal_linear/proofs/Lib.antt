@@ -1,3 +1,4 @@
+mod Common
 pub mod Along
 pub mod LegalAlong
 pub mod Lists

@@ -1,33 +1,9 @@
 -- A part of a thread's journal, listed after the events so far.
-use Rattle.std.proofs.Common.{◌≡◌, ℕ, ◌+◌, ◌<◌, Bool, false, eqb, cond, List, [], ◌∷◌, ◌++◌, length, Option, Some, None, refl, sym, ap, subst, ◌∙◌, append_assoc, append-nil}
-use Rattle.std.specs.Prelude.{IsSome, option_to_list, option_map}
-use Rattle.std.specs.List.{slice_get, filter_map}
-use Rattle.std.proofs.lemmas.Option.{slice_get_within}
-use Rattle.std.proofs.lemmas.List.Elements.{filter-append, filter_map-append}
-use Rattle.cal_machine.specs.Table.{Table}
-use Rattle.cal_policy.specs.declared.policy.Policy.{Policy}
-use Rattle.cal_machine.specs.declared.command.Command.{Command}
-use Rattle.cal_signal.specs.declared.record.Record.{Record}
-use Rattle.cal_signal.specs.Pages.{last_from}
-use Rattle.cal_policy.specs.declared.history.look.Seen.{Seen}
-use Rattle.cal_policy.specs.declared.history.entry.PassEntry.{PassEntry}
-use Rattle.cal_machine.specs.TableTasks.{threads_of_table}
-use Rattle.cal_policy.specs.History.{actions_of, commands_to}
-use Rattle.cal_kthread.specs.declared.journal.entry.Entry.{Entry}
-use Rattle.cal_kthread.specs.declared.journal.entry.Entry.TheVariants.{Arrived, Took, Stole, Served, Yielded, Published}
-use Rattle.cal_kthread.specs.Journal.{State, state_after, records_of}
-use Rattle.cal_world.specs.declared.event.Event.{Event}
-use Rattle.cal_world.specs.declared.event.Event.TheVariants.{Take, Yield, Publish}
-use Rattle.cal_world.specs.Projections.{entry_in, history_in}
+use Rattle.cal_linear.proofs.Common.{◌≡◌, ℕ, ◌+◌, ◌<◌, Bool, false, eqb, cond, List, [], ◌∷◌, ◌++◌, length, Option, Some, None, refl, sym, ap, subst, ◌∙◌, append_assoc, append-nil, IsSome, option_to_list, option_map, slice_get, filter_map, slice_get_within, filter-append, filter_map-append, Table, Policy, Command, Record, last_from, Seen, PassEntry, threads_of_table, actions_of, commands_to, Entry, Arrived, Took, Stole, Served, Yielded, Published, State, state_after, records_of, Event, Take, Yield, Publish, entry_in, history_in, watch_in, watches_in, steps_of, is_step, event_of, events_of, others-change-nothing, eq-eqb}
 use Rattle.cal_linear.proofs.Along.{adds_to, took_next, journal_along, place_of_read, floor_along, looks_with, looks_along}
-use Rattle.cal_world.specs.Watches.{watch_in, watches_in}
 use Rattle.cal_linear.proofs.LegalAlong.{IsAllowedAlong, IsLegalAlong, MayBePublished}
-use Rattle.cal_kthread.specs.Journal.Entries.{steps_of, is_step}
-use Rattle.cal_linear.specs.Steps.{event_of, events_of}
 use Rattle.cal_linear.proofs.OneMore.{history_push, journal_push, looks_push, floor_push, watches_push, legal_push}
-use Rattle.cal_kthread.proofs.JournalLemmas.Parts.{others-change-nothing}
 use Rattle.cal_linear.proofs.Standing.{MayHappen, MayAllHappen}
-use Rattle.std.proofs.lemmas.Bool.{eq-eqb}
 
 -- after `es` a legal list went on to `new` by steps of thread k alone, which has now done `own`
 pub record GoesOn (policy : Policy) (table : Table) (k : ℕ) (es new : List Event) (own : List Entry) : Type 0 where

@@ -1,37 +1,10 @@
 -- A look of the scheduler, after the part of the thread's journal that it calls for.
-use Rattle.std.proofs.lemmas.Bool.Decides.{nat_tests}
-use Rattle.std.proofs.Common.{◌≡◌, ℕ, ◌+◌, ◌-◌, ◌<◌, ◌≤◌, max, Bool, true, false, eqb, cond, List, [], ◌∷◌, ◌++◌, length, Option, Some, None, refl, sym, ap, subst, ◌∙◌, append_assoc, append-nil, arith, length-append}
-use Rattle.std.specs.Prelude.{option_to_list, option_map}
-use Rattle.std.specs.List.{slice_get, filter_map}
-use Rattle.std.proofs.lemmas.Option.{slice_get_within}
-use Rattle.std.proofs.lemmas.Bool.{eqb-true}
-use Rattle.cal_machine.specs.Table.{Table}
-use Rattle.cal_policy.specs.declared.policy.Policy.{Policy}
-use Rattle.cal_machine.specs.declared.command.Command.{Command}
-use Rattle.cal_signal.specs.declared.record.Record.{Record}
-use Rattle.cal_signal.specs.Pages.{last_from, page_of}
-use Rattle.cal_policy.specs.declared.history.look.Seen.{Seen}
-use Rattle.cal_policy.specs.declared.history.look.Seen.TheVariants.{Whole, Busy, Ahead, Foreign}
-use Rattle.cal_policy.specs.declared.history.entry.PassEntry.{PassEntry}
-use Rattle.cal_machine.specs.TableTasks.{threads_of_table}
-use Rattle.cal_policy.specs.History.{actions_of, commands_to, sent_to}
-use Rattle.cal_kthread.specs.declared.journal.entry.Entry.{Entry}
-use Rattle.cal_kthread.specs.Journal.{IsJournal, state_after, records_of}
-use Rattle.cal_world.specs.declared.event.Event.{Event}
-use Rattle.cal_world.specs.declared.event.Event.TheVariants.{Read, Skip}
-use Rattle.cal_world.specs.Projections.{history_in}
+use Rattle.cal_linear.proofs.Common.{nat_tests, ◌≡◌, ℕ, ◌+◌, ◌-◌, ◌<◌, ◌≤◌, max, Bool, true, false, eqb, cond, List, [], ◌∷◌, ◌++◌, length, Option, Some, None, refl, sym, ap, subst, ◌∙◌, append_assoc, append-nil, arith, length-append, option_to_list, option_map, slice_get, filter_map, slice_get_within, eqb-true, Table, Policy, Command, Record, last_from, page_of, Seen, Whole, Busy, Ahead, Foreign, PassEntry, threads_of_table, actions_of, commands_to, sent_to, Entry, IsJournal, state_after, records_of, Event, Read, Skip, history_in, watches_in, KeepsNone, up_to, past, steps_of, between, events_of, journal_at, look_events, looks_from, IsPublication, others-change-nothing, record-shows-taken, taken-all}
 use Rattle.cal_linear.proofs.Along.{journal_along, place_of_read, floor_along, looks_along}
-use Rattle.cal_world.specs.Watches.{watches_in}
-use Rattle.cal_world.specs.World.{KeepsNone}
 use Rattle.cal_linear.proofs.LegalAlong.{IsAllowedAlong, IsLegalAlong}
-use Rattle.cal_kthread.specs.Journal.Entries.{up_to, past, steps_of}
-use Rattle.cal_linear.specs.Steps.{between, events_of, journal_at}
 use Rattle.cal_linear.proofs.Places.{with_look, with_looks, look_leaves}
-use Rattle.cal_linear.specs.Linear.{look_events, looks_from}
-use Rattle.cal_linear.specs.Runs.{IsPublication}
 use Rattle.cal_linear.proofs.Lists.{last_from_push}
 use Rattle.cal_linear.proofs.OneMore.{history_push, journal_push, looks_push, floor_push, watches_push, legal_push}
-use Rattle.cal_kthread.proofs.JournalLemmas.Parts.{others-change-nothing, record-shows-taken, taken-all}
 use Rattle.cal_linear.proofs.Cuts.{cut_whole, cut_more, cut_records, cut_page}
 use Rattle.cal_linear.proofs.Standing.{MayAllHappen, HasFirst, split, all_with}
 use Rattle.cal_linear.proofs.Listing.{GoesOn, list_on}

@@ -1,17 +1,6 @@
 -- What one more event makes of each projection.
-use Rattle.std.proofs.Common.{◌≡◌, ℕ, List, [], ◌∷◌, ◌++◌, sym, ap, subst, ◌∙◌, append_assoc, append-nil}
-use Rattle.std.specs.Prelude.{option_to_list}
-use Rattle.std.specs.List.{filter_map}
-use Rattle.cal_machine.specs.Table.{Table}
-use Rattle.cal_policy.specs.declared.policy.Policy.{Policy}
-use Rattle.cal_signal.specs.Pages.{last_from}
-use Rattle.cal_kthread.proofs.JournalLemmas.OneEntryMore.{filter_map-push}
-use Rattle.cal_kthread.specs.declared.journal.entry.Entry.{Entry}
-use Rattle.cal_policy.specs.declared.history.look.Seen.{Seen}
-use Rattle.cal_world.specs.declared.event.Event.{Event}
-use Rattle.cal_world.specs.Projections.{entry_in, history_in}
+use Rattle.cal_linear.proofs.Common.{◌≡◌, ℕ, List, [], ◌∷◌, ◌++◌, sym, ap, subst, ◌∙◌, append_assoc, append-nil, option_to_list, filter_map, Table, Policy, last_from, filter_map-push, Entry, Seen, Event, entry_in, history_in, watch_in, watches_in}
 use Rattle.cal_linear.proofs.Along.{adds_to, journal_after, journal_along, place_of_read, floor_along, looks_with, looks_after, looks_along}
-use Rattle.cal_world.specs.Watches.{watch_in, watches_in}
 use Rattle.cal_linear.proofs.LegalAlong.{IsAllowedAlong, AllowedAfter, IsLegalAlong}
 
 pub history_push : (es : List Event) (e : Event) → history_in (es ++ e ∷ []) ≡ history_in es ++ option_to_list (entry_in e)

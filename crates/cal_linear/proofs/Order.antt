@@ -1,29 +1,11 @@
 -- The order, as it is listed step by step.
-use Rattle.std.specs.Option.{option_and_then}
-use Rattle.cal_policy.specs.History.Lists.{each_of}
-use Rattle.cal_policy.specs.declared.history.entry.PassEntry.{PassEntry}
-use Rattle.cal_linear.specs.Reads.{place_found, furthest, further, after_looks}
-use Rattle.std.proofs.Common.{◌≡◌, ◌≢◌, ℕ, ◌+◌, ◌-◌, ◌<◌, ◌≤◌, zero, suc, Bool, true, false, eqb, List, [], ◌∷◌, ◌++◌, length, get_or, take, drop, refl, sym, ap, subst, ◌∙◌, append_assoc, arith, length-append, length-drop, max, set, replicate, get_or-set_other, get_or-set_same, slice_get, Option, Some, None}
+use Rattle.cal_linear.proofs.Common.{option_and_then, each_of, PassEntry, place_found, furthest, further, after_looks, ◌≡◌, ◌≢◌, ℕ, ◌+◌, ◌-◌, ◌<◌, ◌≤◌, zero, suc, Bool, true, false, eqb, List, [], ◌∷◌, ◌++◌, length, get_or, take, drop, refl, sym, ap, subst, ◌∙◌, append_assoc, arith, length-append, length-drop, max, set, replicate, get_or-set_other, get_or-set_same, Option, Some, None, take_more, filter_map-append, Entry, Record, Seen, Whole, Event, Read, Watch, Decide, up_to, past, still_after, event_of, events_of, between, journal_at, look_events, whole_looks_from, whole_looks_of, watch_events, looks_from, pass_events, no_front, front_at, places_in, IsFront, AreFronts, get_or_same, each_of_push, nat_tests, eqb-true}
+use Rattle.std.proofs.Common.{slice_get}
 use mathlib.Core.Path.{fun_ext}
 use Rattle.std.proofs.Math.Seq.{take-length}
-use Rattle.std.proofs.lemmas.List.{take_more}
-use Rattle.std.proofs.lemmas.List.Elements.{filter_map-append}
-use Rattle.cal_kthread.specs.declared.journal.entry.Entry.{Entry}
-use Rattle.cal_signal.specs.declared.record.Record.{Record}
 use Rattle.cal_signal.specs.declared.look.Look.{Look}
-use Rattle.cal_policy.specs.declared.history.look.Seen.{Seen}
-use Rattle.cal_policy.specs.declared.history.look.Seen.TheVariants.{Whole}
-use Rattle.cal_world.specs.declared.event.Event.{Event}
-use Rattle.cal_world.specs.declared.event.Event.TheVariants.{Read, Watch, Decide}
-use Rattle.cal_kthread.specs.Journal.Entries.{up_to, past, still_after}
-use Rattle.cal_linear.specs.Steps.{event_of, events_of, between, journal_at}
-use Rattle.cal_linear.specs.Linear.{look_events, whole_looks_from, whole_looks_of, watch_events, looks_from, pass_events}
 use Rattle.cal_linear.proofs.Places.{furthest_more}
-use Rattle.cal_linear.specs.Fronts.{no_front, front_at, places_in, IsFront, AreFronts}
-use Rattle.cal_policy.proofs.ListLemmas.OneMore.{get_or_same, each_of_push}
 use Rattle.cal_linear.specs.declared.front.Front.{Front}
-use Rattle.std.proofs.lemmas.Bool.Decides.{nat_tests}
-use Rattle.std.proofs.lemmas.Bool.{eqb-true}
 use Rattle.cal_linear.proofs.Cuts.{cut_more}
 
 -- what is left of a list, with its first

@@ -1,35 +1,13 @@
 -- One pass after another, and then the rest of each journal.
-use Rattle.cal_linear.specs.Reads.{furthest}
-use Rattle.std.proofs.Common.{◌≡◌, ℕ, ◌+◌, ◌-◌, ◌<◌, ◌≤◌, zero, suc, false, eqb, List, [], ◌∷◌, ◌++◌, length, take, Some, refl, sym, ap, subst, ◌∙◌, append_assoc, append-nil, arith, ⊎_elim}
-use Rattle.std.specs.List.{slice_get, filter_map}
-use Rattle.cal_signal.specs.Pages.{last_from}
-use Rattle.std.proofs.lemmas.Bool.Decides.{nat_tests}
-use Rattle.std.proofs.lemmas.Bool.{cases_lt}
+use Rattle.cal_linear.proofs.Common.{furthest, ◌≡◌, ℕ, ◌+◌, ◌-◌, ◌<◌, ◌≤◌, zero, suc, false, eqb, List, [], ◌∷◌, ◌++◌, length, take, Some, refl, sym, ap, subst, ◌∙◌, append_assoc, append-nil, arith, ⊎_elim, slice_get, filter_map, last_from, nat_tests, cases_lt, Table, Command, Seen, PassEntry, threads_of_table, each_after, actions_of, commands_to, sends, sent_to, Policy, Entry, Event, Decide, history_in, watches_in, up_to, past, steps_of, events_of, journal_at, rests_from, looks_from, pass_events, passes_and_rests, AreOfOneRunBy, slice_get_front, slice_get_seam, each_after_append}
 use Rattle.std.proofs.lemmas.Grind.{flat_map-append}
 use Rattle.std.proofs.Math.Seq.{take-append_seam}
-use Rattle.cal_machine.specs.Table.{Table}
-use Rattle.cal_machine.specs.declared.command.Command.{Command}
-use Rattle.cal_policy.specs.declared.history.look.Seen.{Seen}
 use Rattle.cal_policy.specs.declared.history.action.Action.{Action}
-use Rattle.cal_policy.specs.declared.history.entry.PassEntry.{PassEntry}
-use Rattle.cal_machine.specs.TableTasks.{threads_of_table}
-use Rattle.cal_policy.specs.History.Lists.{each_after}
-use Rattle.cal_policy.specs.History.{actions_of, commands_to, sends, sent_to}
-use Rattle.cal_policy.specs.declared.policy.Policy.{Policy}
 use Rattle.cal_policy.specs.Judgement.Judging.{IsInput}
 use Rattle.cal_policy.specs.Policies.{IsPassBy}
-use Rattle.cal_kthread.specs.declared.journal.entry.Entry.{Entry}
-use Rattle.cal_world.specs.declared.event.Event.{Event}
-use Rattle.cal_world.specs.declared.event.Event.TheVariants.{Decide}
-use Rattle.cal_world.specs.Projections.{history_in}
 use Rattle.cal_linear.proofs.Along.{journal_along, place_of_read}
-use Rattle.cal_world.specs.Watches.{watches_in}
 use Rattle.cal_linear.proofs.LegalAlong.{IsLegalAlong}
-use Rattle.cal_kthread.specs.Journal.Entries.{up_to, past, steps_of}
-use Rattle.cal_linear.specs.Steps.{events_of, journal_at}
 use Rattle.cal_linear.proofs.Places.{with_looks, furthest_next}
-use Rattle.cal_linear.specs.Linear.{rests_from, looks_from, pass_events, passes_and_rests}
-use Rattle.cal_linear.specs.Runs.{AreOfOneRunBy}
 use Rattle.cal_linear.proofs.OneMore.{history_push, journal_push, looks_push, floor_push, watches_push, legal_push}
 use Rattle.cal_linear.proofs.Cuts.{cut_whole}
 use Rattle.cal_linear.proofs.Standing.{MayAllHappen, HasFirst, split, journal_may_happen}
@@ -37,8 +15,6 @@ use Rattle.cal_linear.proofs.Listing.{list_on}
 use Rattle.cal_linear.proofs.Looking.{HasCome, IsSound, looks_on}
 use Rattle.cal_linear.proofs.Fitting.{AreShown, pass_fits, shown_after}
 use Rattle.cal_policy.proofs.PolicyLemmas.{pass_at_by, pass_input}
-use Rattle.cal_machine.proofs.Places.{slice_get_front, slice_get_seam}
-use Rattle.cal_policy.proofs.ListLemmas.OneMore.{each_after_append}
 
 -- a pass, with its looks before it
 decide_on : (policy : Policy) (table : Table) (journals : List (List Entry)) (places : ℕ → ℕ) (passes : List PassEntry) (entry : PassEntry) (es : List Event) →

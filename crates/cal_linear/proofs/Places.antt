@@ -1,12 +1,6 @@
 -- The furthest place that was read of each thread, look by look and pass by pass.
-use Rattle.std.proofs.Common.{◌≡◌, ℕ, ◌+◌, ◌<◌, suc, zero, false, true, eqb, cond, List, [], ◌∷◌, ◌++◌, Option, Some, None, refl, sym, ap, ◌∙◌, append-nil, arith, max, Bool}
-use Rattle.std.specs.Prelude.{option_to_list}
-use Rattle.std.proofs.lemmas.Bool.Decides.{nat_tests}
+use Rattle.cal_linear.proofs.Common.{◌≡◌, ℕ, ◌+◌, ◌<◌, suc, zero, false, true, eqb, cond, List, [], ◌∷◌, ◌++◌, Option, Some, None, refl, sym, ap, ◌∙◌, append-nil, arith, max, Bool, option_to_list, nat_tests, Seen, PassEntry, filter_map-push, place_found, place_in, places_read, greatest, furthest, further, after_looks}
 use mathlib.Core.Path.{fun_ext}
-use Rattle.cal_policy.specs.declared.history.look.Seen.{Seen}
-use Rattle.cal_policy.specs.declared.history.entry.PassEntry.{PassEntry}
-use Rattle.cal_kthread.proofs.JournalLemmas.OneEntryMore.{filter_map-push}
-use Rattle.cal_linear.specs.Reads.{place_found, place_in, places_read, greatest, furthest, further, after_looks}
 
 -- after one more look at a thread
 abbrev pub place_after : ℕ → Seen → ℕ

@@ -1,21 +1,10 @@
 -- What an observer found of a page, as the looks of a history.
-use Rattle.std.proofs.Common.{◌≡◌, ℕ, zero, suc, List, [], ◌∷◌, ◌++◌, Option, Some, ap, subst, ◌∙◌}
-use Rattle.std.specs.Prelude.{option_map}
-use Rattle.std.specs.List.{slice_get}
+use Rattle.cal_linear.proofs.Common.{◌≡◌, ℕ, zero, suc, List, [], ◌∷◌, ◌++◌, Option, Some, ap, subst, ◌∙◌, option_map, slice_get, Record, FitsFrom, floor_from, page_of, Seen, Whole, PassEntry, FittingLooksArePublications, journal_at, records_of}
 use mathlib.Core.Option.{some}
 use lib.ListN.{get_elem?}
-use Rattle.cal_signal.specs.declared.record.Record.{Record}
-use Rattle.cal_signal.specs.Pages.{FitsFrom, floor_from}
-use Rattle.cal_policy.specs.declared.history.look.Seen.{Seen}
-use Rattle.cal_policy.specs.declared.history.look.Seen.TheVariants.{Whole}
-use Rattle.cal_policy.specs.declared.history.entry.PassEntry.{PassEntry}
 use Rattle.cal_policy.specs.History.Looks.{look_of}
 use Rattle.cal_policy.specs.History.Found.{looks_at}
 use Rattle.cal_signal.specs.Rounds.{found_by}
-use Rattle.cal_linear.specs.Law.{FittingLooksArePublications}
-use Rattle.cal_linear.specs.Steps.{journal_at}
-use Rattle.cal_kthread.specs.Journal.{records_of}
-use Rattle.cal_signal.specs.Pages.{page_of}
 
 -- the two ways to read a place of a list
 pub get_both : {X : Type 0} (xs : List X) (i : ℕ) (x : X) → get_elem? xs i ≡ some x → slice_get xs i ≡ Some x

@@ -1,21 +1,8 @@
 -- What lets each entry of a journal happen, as an event, once these commands were sent.
-use Rattle.std.proofs.Common.{◌≡◌, ℕ, ◌+◌, ◌<◌, ◌≤◌, zero, suc, List, [], ◌∷◌, ◌++◌, length, take, Some, sym, ap, subst, ◌∙◌, append_assoc, append-nil, arith, length-append}
-use Rattle.std.specs.Prelude.{IsSome}
-use Rattle.std.specs.List.{slice_get}
-use Rattle.std.proofs.lemmas.List.Elements.{filter_map-append}
-use Rattle.cal_machine.specs.declared.command.Command.{Command}
-use Rattle.cal_signal.specs.declared.record.Record.{Record}
-use Rattle.cal_signal.specs.Pages.{Chain, last_from}
-use Rattle.cal_signal.specs.Records.{MayFollow, zero_record}
-use Rattle.cal_kthread.specs.declared.journal.entry.Entry.{Entry}
-use Rattle.cal_kthread.specs.declared.journal.entry.Entry.TheVariants.{Arrived, Took, Stole, Served, Yielded, Published}
-use Rattle.cal_kthread.specs.Journal.{state_after, record_in, records_of, command_in, commands_of, MayStand, StandAfter, IsJournal}
-use Rattle.cal_kthread.proofs.JournalLemmas.OneEntryMore.{filter_map-push}
+use Rattle.cal_linear.proofs.Common.{◌≡◌, ℕ, ◌+◌, ◌<◌, ◌≤◌, zero, suc, List, [], ◌∷◌, ◌++◌, length, take, Some, sym, ap, subst, ◌∙◌, append_assoc, append-nil, arith, length-append, IsSome, slice_get, filter_map-append, Command, Record, Chain, last_from, MayFollow, zero_record, Entry, Arrived, Took, Stole, Served, Yielded, Published, state_after, record_in, records_of, command_in, commands_of, MayStand, StandAfter, IsJournal, filter_map-push, taken-all, slice_get_seam}
 use Rattle.cal_linear.proofs.LegalAlong.{MayBePublished}
-use Rattle.cal_kthread.proofs.JournalLemmas.Parts.{taken-all}
 use Rattle.cal_linear.proofs.Cuts.{taken_more}
 use Rattle.cal_linear.proofs.Lists.{last_from_push}
-use Rattle.cal_machine.proofs.Places.{slice_get_seam}
 
 -- after these entries of its thread, of which these commands were sent to it
 abbrev pub MayHappen : List Command → List Entry → Entry → Type 0

@@ -1,37 +1,14 @@
 -- The Watches, after all else.
-use Rattle.std.proofs.Common.{◌≡◌, ℕ, ◌+◌, ◌-◌, ◌<◌, ◌≤◌, zero, suc, Bool, true, false, eqb, cond, List, [], ◌∷◌, ◌++◌, length, Some, None, refl, sym, ap, subst, ◌∙◌, append_assoc, append-nil, arith, ⊎_elim}
-use Rattle.std.specs.List.{slice_get, filter_map}
-use Rattle.std.specs.Prelude.{option_to_list}
-use Rattle.std.proofs.lemmas.Bool.Decides.{nat_tests}
-use Rattle.std.proofs.lemmas.Bool.{cases_lt}
+use Rattle.cal_linear.proofs.Common.{◌≡◌, ℕ, ◌+◌, ◌-◌, ◌<◌, ◌≤◌, zero, suc, Bool, true, false, eqb, cond, List, [], ◌∷◌, ◌++◌, length, Some, None, refl, sym, ap, subst, ◌∙◌, append_assoc, append-nil, arith, ⊎_elim, slice_get, filter_map, option_to_list, nat_tests, cases_lt, Table, Policy, Record, last_from, FitsFrom, PassEntry, threads_of_table, Entry, records_of, filter_map-push, Event, Watch, history_in, watches_in, steps_of, journal_at, whole_looks_from, whole_looks_of, watch_events, linear, passes_and_rests, AreOfOneRunBy, AreWatched, page_at, IsLinearisedBy, others-change-nothing}
 use mathlib.Core.Option.{some}
 use lib.ListN.{get_elem?}
-use Rattle.cal_machine.specs.Table.{Table}
-use Rattle.cal_policy.specs.declared.policy.Policy.{Policy}
-use Rattle.cal_signal.specs.declared.record.Record.{Record}
 use Rattle.cal_signal.specs.declared.look.Look.{Look}
 use Rattle.cal_signal.specs.declared.look.Look.TheVariants as found
-use Rattle.cal_signal.specs.Pages.{last_from, FitsFrom}
 use Rattle.cal_signal.specs.Rounds.{found_at, found_by}
-use Rattle.cal_policy.specs.declared.history.entry.PassEntry.{PassEntry}
-use Rattle.cal_machine.specs.TableTasks.{threads_of_table}
-use Rattle.cal_kthread.specs.declared.journal.entry.Entry.{Entry}
-use Rattle.cal_kthread.specs.Journal.{records_of}
-use Rattle.cal_kthread.proofs.JournalLemmas.OneEntryMore.{filter_map-push}
-use Rattle.cal_world.specs.declared.event.Event.{Event}
-use Rattle.cal_world.specs.declared.event.Event.TheVariants.{Watch}
-use Rattle.cal_world.specs.Projections.{history_in}
 use Rattle.cal_linear.proofs.Along.{journal_along, published_along, place_at, watch_floor_along}
-use Rattle.cal_world.specs.Watches.{watches_in}
 use Rattle.cal_linear.proofs.LegalAlong.{IsLegalAlong}
-use Rattle.cal_kthread.specs.Journal.Entries.{steps_of}
-use Rattle.cal_linear.specs.Steps.{journal_at}
-use Rattle.cal_linear.specs.Linear.{whole_looks_from, whole_looks_of, watch_events, linear, passes_and_rests}
-use Rattle.cal_linear.specs.Runs.{AreOfOneRunBy, AreWatched, page_at}
-use Rattle.cal_linear.specs.Law.{IsLinearisedBy}
 use Rattle.cal_linear.proofs.Lists.{last_from_push}
 use Rattle.cal_linear.proofs.OneMore.{history_push, journal_push, watches_push, legal_push}
-use Rattle.cal_kthread.proofs.JournalLemmas.Parts.{others-change-nothing}
 use Rattle.cal_linear.proofs.Passing.{all_on}
 use Rattle.cal_linear.proofs.Bridge.{agrees, legal_there}
 

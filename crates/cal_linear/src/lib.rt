@@ -1,4 +1,4 @@
-//! The steps of threads that ran at the same time, put into one list of events.
+//! The steps of threads that ran at the same time, put into one list of events, which is legal.
 //!
 //! A scheduler keeps a history and each kernel thread a journal, each on its own and in its own
 //! order. Where they are of one run, as the ends of the run promise together (`AreOfOneRun`,

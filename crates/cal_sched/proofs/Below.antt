@@ -1,8 +1,7 @@
 -- A list that is gone over place by place: each member becomes another, and gives something.
-use Rattle.std.proofs.Common.{◌≡◌, ◌≢◌, ℕ, ◌+◌, ◌<◌, ◌≤◌, inl, inr, List, [], ◌∷◌, ◌++◌, length, set, Some, slice_get, refl, sym, ◌∙◌, arith, length-append}
+use Rattle.cal_sched.proofs.Common.{◌≡◌, ◌≢◌, ℕ, ◌+◌, ◌<◌, ◌≤◌, inl, inr, List, [], ◌∷◌, ◌++◌, length, set, Some, slice_get, refl, sym, ◌∙◌, arith, length-append, some_same, last_or_before}
 use Rattle.std.proofs.Math.ListN.{length-set}
 use Rattle.cal_sched.proofs.Lists.{slice_get-set_other, slice_get-set_same}
-use Rattle.cal_machine.proofs.Last.{some_same, last_or_before}
 
 -- P holds of what the first k were, what they are and what each gave, and the others are as they were
 pub record Below {X F : Type 0} (P : X → X → F → Type 0) (k : ℕ) (before now : List X) (found : List F) : Type 0 where

@@ -1,37 +1,20 @@
 -- What a pass finds makes an input that the pass may be given.
-use Rattle.std.proofs.Common.{◌≡◌, ℕ, zero, suc, ◌+◌, ◌<◌, Bool, true, false, nat_lt, List, [], ◌∷◌, ◌++◌, length, map, Option, Some, None, slice_get, refl, sym, ap, ◌∙◌, arith, option_map, if◌then◌else◌}
+use Rattle.cal_sched.proofs.Common.{◌≡◌, ℕ, zero, suc, ◌+◌, ◌<◌, Bool, true, false, nat_lt, List, [], ◌∷◌, ◌++◌, length, map, Option, Some, None, slice_get, refl, sym, ap, ◌∙◌, arith, option_map, if◌then◌else◌, append-nil, length-map, slice_get_within, Record, Look, ObserverView, whole_of, Table, FoundLook, Action, PassEntry, judged_looks, judged_input, actions_of, looks_of, sent_to, judged, is_foreign, IsFitLook, IsInput, threads_of_table, HasLooked, slice_get_at, some_same}
 use Rattle.std.specs.Option.{unwrap_or, option_or, option_and_then}
 use Rattle.std.specs.List.{enumerate_from}
-use Rattle.std.proofs.lemmas.List.{append-nil, length-map}
 use Rattle.std.proofs.lemmas.Grind.{flat_map-append}
-use Rattle.std.proofs.lemmas.Option.{slice_get_within}
-use Rattle.cal_signal.specs.declared.record.Record.{Record}
-use Rattle.cal_signal.specs.declared.look.Look.{Look}
 use Rattle.cal_signal.specs.declared.look.Look.TheVariants.{Whole, Busy}
 use Rattle.cal_signal.specs.declared.shown.Shown.{Shown}
-use Rattle.cal_signal.specs.Ends.{ObserverView}
-use Rattle.cal_signal.specs.Looks.{whole_of}
 use Rattle.cal_signal.specs.Rounds.{found_by}
 use Rattle.cal_signal.specs.Shown.{IsFitShown, found_from, last_found, nothing_shown, shown_of}
 use Rattle.cal_signal.proofs.Following.{follows}
-use Rattle.cal_machine.specs.Table.{Table}
 use Rattle.cal_policy.specs.declared.history.look.Seen.{Seen}
 use Rattle.cal_policy.specs.declared.history.look.Seen.TheVariants as seen
-use Rattle.cal_policy.specs.declared.judgement.open_input.FoundLook.{FoundLook}
-use Rattle.cal_policy.specs.declared.history.action.Action.{Action}
-use Rattle.cal_policy.specs.declared.history.entry.PassEntry.{PassEntry}
-use Rattle.cal_policy.specs.Judgement.OpenInput.{judged_looks, judged_input}
-use Rattle.cal_policy.specs.History.{actions_of, looks_of, sent_to}
-use Rattle.cal_policy.specs.Judgement.Judging.{judged, is_foreign, IsFitLook, IsInput}
 use Rattle.cal_policy.specs.History.Lists.{last_after}
 use Rattle.cal_policy.specs.History.Found.{looks_at}
 use Rattle.cal_policy.specs.History.Looks.{last_shown, look_of, shown_at, shown_by}
-use Rattle.cal_machine.specs.TableTasks.{threads_of_table}
 use Rattle.cal_policy.proofs.JudgementLemmas.OpenInput.{length-judged_looks}
 use Rattle.cal_policy.proofs.ListLemmas.OneMore.{unwrap_or_or}
-use Rattle.cal_sched.specs.Looking.{HasLooked}
-use Rattle.cal_machine.proofs.Places.{slice_get_at}
-use Rattle.cal_machine.proofs.Last.{some_same}
 use Rattle.cal_policy.proofs.JudgementLemmas.Judged.{look_of-judged}
 
 -- one of the three judgements of a whole look

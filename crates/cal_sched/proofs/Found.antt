@@ -1,10 +1,5 @@
 -- What a pass finds, as far as it has come.
-use Rattle.std.proofs.Common.{◌≡◌, ℕ, List, length, ◌∙◌}
-use Rattle.cal_signal.specs.Ends.{ObserverView}
-use Rattle.cal_command.specs.Rings.{SenderView}
-use Rattle.cal_policy.specs.declared.judgement.open_input.FoundLook.{FoundLook}
-use Rattle.cal_sched.specs.Looking.{HasLooked}
-use Rattle.cal_sched.specs.Passing.{HasAsked, HaveFound}
+use Rattle.cal_sched.proofs.Common.{◌≡◌, ℕ, List, length, ◌∙◌, ObserverView, SenderView, FoundLook, HasLooked, HasAsked, HaveFound}
 use Rattle.cal_sched.proofs.Below.{Below}
 
 -- what one look and one question each come to

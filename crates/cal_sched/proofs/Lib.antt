@@ -1,3 +1,4 @@
+mod Common
 pub mod PolicyLemmas
 pub mod Lists
 pub mod Below

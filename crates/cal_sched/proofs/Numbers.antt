@@ -1,22 +1,13 @@
 -- A number of commands is never above the number of passes, so it is kept as it is.
-use Rattle.std.proofs.Common.{◌≡◌, ℕ, zero, suc, add-one, ◌+◌, ◌<◌, ◌≤◌, ◌^◌, List, [], ◌∷◌, ◌++◌, length, take, Some, slice_get, refl, sym, ap, subst, ◌∙◌, arith, length-append}
-use Rattle.std.proofs.lemmas.List.{take_all}
-use Rattle.cal_machine.specs.Table.{Table, IsTable}
+use Rattle.cal_sched.proofs.Common.{◌≡◌, ℕ, zero, suc, add-one, ◌+◌, ◌<◌, ◌≤◌, ◌^◌, List, [], ◌∷◌, ◌++◌, length, take, Some, slice_get, refl, sym, ap, subst, ◌∙◌, arith, length-append, take_all, Table, IsTable, PassEntry, actions_of, sent_to, holder_of, Policy, IsLegalBy, Point, IsPointBy, slice_get_at}
 use Rattle.cal_machine.specs.declared.command.Command.{Command}
 use Rattle.cal_machine.specs.declared.command.Command.TheVariants.{Run, Park}
 use Rattle.cal_policy.specs.declared.board.holders.Holder.{Holder}
 use Rattle.cal_policy.specs.declared.board.holders.Holder.TheVariants.{Free, Held, Leaving}
 use Rattle.cal_policy.specs.declared.board.holders.Placement as placements
-use Rattle.cal_policy.specs.declared.history.entry.PassEntry.{PassEntry}
 use Rattle.cal_policy.specs.Board.{kept_number, kept_placement, kept_holder}
-use Rattle.cal_policy.specs.History.{actions_of, sent_to, holder_of}
-use Rattle.cal_policy.specs.declared.policy.Policy.{Policy}
-use Rattle.cal_policy.specs.Policies.{IsLegalBy}
 use Rattle.cal_laws.specs.Exclusion.{IsByLastRun, WasRun}
-use Rattle.cal_laws.specs.Point.{Point}
-use Rattle.cal_laws.specs.Policies.{IsPointBy}
 use Rattle.cal_laws.proofs.PointLemmas.EachAction.{actions_more}
-use Rattle.cal_machine.proofs.Places.{slice_get_at}
 use Rattle.cal_laws.proofs.PolicyLemmas.{is_point_by}
 use Rattle.cal_sched.proofs.PolicyLemmas.{AreOfTheirLastRun, AreSentOneCommand}
 

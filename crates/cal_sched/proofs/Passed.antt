@@ -1,30 +1,12 @@
 -- One pass more: what was found is its input, what was decided is sent, and what a scheduler keeps
 -- holds again.
-use Rattle.std.proofs.Common.{◌≡◌, ℕ, ◌<◌, true, false, List, [], ◌∷◌, ◌++◌, length, Some, slice_get, slice_index_or, option_map, refl, sym, ap, subst, ◌∙◌, arith, length-append}
+use Rattle.cal_sched.proofs.Common.{◌≡◌, ℕ, ◌<◌, true, false, List, [], ◌∷◌, ◌++◌, length, Some, slice_get, slice_index_or, option_map, refl, sym, ap, subst, ◌∙◌, arith, length-append, slice_get_within, slice_get-map, unwrap_or-slice_get, Record, ObserverView, whole_of, SenderView, FoundLook, PassEntry, Policy, board_in, IsStateAfter, judged_input, rooms_found, IsInput, IsLegalBy, HasLooked, HasAsked, HaveFound, HaveSent, pass_on, SchedulerView, IsKept, MaySend, slice_get_at}
 use Rattle.std.specs.Option.{unwrap_or}
-use Rattle.std.proofs.lemmas.Option.{slice_get_within, slice_get-map, unwrap_or-slice_get}
-use Rattle.cal_signal.specs.declared.record.Record.{Record}
-use Rattle.cal_signal.specs.Ends.{ObserverView}
-use Rattle.cal_signal.specs.Looks.{whole_of}
-use Rattle.cal_command.specs.Rings.{SenderView}
 use Rattle.cal_policy.specs.declared.book.Book.{Book}
-use Rattle.cal_policy.specs.declared.judgement.open_input.FoundLook.{FoundLook}
-use Rattle.cal_policy.specs.declared.history.entry.PassEntry.{PassEntry}
 use Rattle.cal_policy.specs.declared.history.input.Input.{Input}
-use Rattle.cal_policy.specs.declared.policy.Policy.{Policy}
-use Rattle.cal_policy.specs.Book.{board_in}
-use Rattle.cal_policy.specs.State.{IsStateAfter}
 use Rattle.cal_policy.specs.History.Found.{looks_at}
-use Rattle.cal_policy.specs.Judgement.OpenInput.{judged_input, rooms_found}
-use Rattle.cal_policy.specs.Judgement.Judging.{IsInput}
-use Rattle.cal_policy.specs.Policies.{IsLegalBy}
 use Rattle.cal_policy.proofs.PolicyLemmas.{legal_more_by, pass_from}
-use Rattle.cal_sched.specs.Looking.{HasLooked}
-use Rattle.cal_sched.specs.Passing.{HasAsked, HaveFound, HaveSent, pass_on}
-use Rattle.cal_sched.specs.Scheduler.{SchedulerView, IsKept}
-use Rattle.cal_sched.specs.Sending.{MaySend}
 use Rattle.cal_sched.proofs.Fitting.{found_is_input, found_in, looks_at-append}
-use Rattle.cal_machine.proofs.Places.{slice_get_at}
 
 module _ (s : SchedulerView) (now bandwidth : ℕ) (looked : List ObserverView) (asked : List SenderView) (found : List FoundLook) where
   -- the input of the pass, and the pass itself

@@ -1,13 +1,7 @@
 -- The history of a scheduler, one pass more.
-use Rattle.std.proofs.Common.{◌≡◌, List, [], ◌∷◌, ◌++◌, ◌⊎◌, inl, inr, length, refl, sym, ap, ◌∙◌, subst, arith, length-append}
-use Rattle.cal_machine.specs.Table.{Table}
-use Rattle.cal_policy.specs.declared.history.entry.PassEntry.{PassEntry}
+use Rattle.cal_sched.proofs.Common.{◌≡◌, List, [], ◌∷◌, ◌++◌, ◌⊎◌, inl, inr, length, refl, sym, ap, ◌∙◌, subst, arith, length-append, Table, PassEntry, Policy, IsOpenAt, threads_of_table, AreLast, entry_of, history_after, history_of}
 use Rattle.cal_sched.specs.declared.found_pass.FoundPass.{FoundPass}
 use Rattle.cal_policy.specs.declared.judgement.open_pass.OpenPass.{OpenPass}
-use Rattle.cal_policy.specs.declared.policy.Policy.{Policy}
-use Rattle.cal_policy.specs.Judgement.OpenPass.{IsOpenAt}
-use Rattle.cal_machine.specs.TableTasks.{threads_of_table}
-use Rattle.cal_sched.specs.Past.{AreLast, entry_of, history_after, history_of}
 use Rattle.cal_sched.proofs.Lists.{snoc_same}
 
 after_push : (policy : Policy) (table : Table) (before : List PassEntry) (all : List FoundPass) (made : FoundPass)

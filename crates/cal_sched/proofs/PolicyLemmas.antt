@@ -1,18 +1,9 @@
 -- What a scheduler needs of each policy: its histories are permitted, so the laws of permitted
 -- histories hold of them.
-use Rattle.std.proofs.Common.{◌≡◌, ◌<◌, ◌≤◌, ◌+◌, ℕ, true, List, length, take, Some}
-use Rattle.cal_machine.specs.Table.{Table, IsTable}
-use Rattle.cal_policy.specs.declared.history.action.Action.{Action}
-use Rattle.cal_policy.specs.declared.history.entry.PassEntry.{PassEntry}
-use Rattle.cal_policy.specs.declared.policy.Policy.{Policy}
+use Rattle.cal_sched.proofs.Common.{◌≡◌, ◌<◌, ◌≤◌, ◌+◌, ℕ, true, List, length, take, Some, Table, IsTable, Action, PassEntry, Policy, actions_of, holder_of, sends, sent_to, SettledAreNoNews, IsLegalBy, Point, setting_at, actions_at, next_at, IsPointBy}
 use Rattle.cal_policy.specs.declared.policy.Policy.TheVariants.{Caladan, Assured}
-use Rattle.cal_policy.specs.History.{actions_of, holder_of, sends, sent_to}
-use Rattle.cal_policy.specs.Judgement.Settled.{SettledAreNoNews}
-use Rattle.cal_policy.specs.Policies.{IsLegalBy}
 use Rattle.cal_policy.specs.Setting.{has_room}
 use Rattle.cal_laws.specs.Exclusion.{IsByLastRun}
-use Rattle.cal_laws.specs.Point.{Point, setting_at, actions_at, next_at}
-use Rattle.cal_laws.specs.Policies.{IsPointBy}
 use Rattle.cal_guard.specs.Histories.{EachPolicyIsPermitted, IsPermittedPoint}
 use Rattle.cal_guard.specs.Laws.{CommandsGoWhereIsRoom, HoldersAreOfTheirLastRun, ThreadsAreSentOneCommand}
 use Rattle.cal_guard.specs.Settled.{PermittedSettledIsNoNews}

@@ -1,33 +1,16 @@
 -- The commands of a pass, sent one action after the other.
-use Rattle.std.proofs.Common.{◌≡◌, ◌≢◌, ℕ, lit<, if◌then◌else◌, ◌+◌, ◌<◌, ◌≤◌, ◌⊎◌, inl, inr, Bool, true, false, eqb, List, [], ◌∷◌, ◌++◌, length, take, set, Option, Some, None, slice_get, slice_index_or, refl, sym, ap, subst, ◌∙◌, arith, length-append, append_assoc}
+use Rattle.cal_sched.proofs.Common.{◌≡◌, ◌≢◌, ℕ, lit<, if◌then◌else◌, ◌+◌, ◌<◌, ◌≤◌, ◌⊎◌, inl, inr, Bool, true, false, eqb, List, [], ◌∷◌, ◌++◌, length, take, set, Option, Some, None, slice_get, slice_index_or, refl, sym, ap, subst, ◌∙◌, arith, length-append, append_assoc, append-nil, take_all, slice_get_within, SenderView, HasRoom, Table, IsTable, Action, PassEntry, board_in, RunsOnTable, IsStateAfter, actions_of, commands_to, sent_to, sends, addressed_to, command_to, Policy, IsLegalBy, Point, IsPointBy, HaveSent, MaySend, slice_get_at, some_same, slice_get-last, take_next}
 use Rattle.std.proofs.Math.ListN.{length-set}
 use Rattle.std.proofs.Math.Seq.{take-append_seam}
 use Rattle.std.proofs.lemmas.Bool.{eqb-true, eqb-false, eq-eqb}
-use Rattle.std.proofs.lemmas.List.{append-nil, take_all}
-use Rattle.std.proofs.lemmas.Option.{slice_get_within}
 use Rattle.cal_command.specs.Commands.{IsSendable}
-use Rattle.cal_command.specs.Rings.{SenderView, HasRoom}
-use Rattle.cal_machine.specs.Table.{Table, IsTable}
 use Rattle.cal_machine.specs.declared.command.Command.{Command}
 use Rattle.cal_machine.specs.declared.command.Command.TheVariants.{Run, Park}
 use Rattle.cal_policy.specs.declared.book.Book.{Book}
-use Rattle.cal_policy.specs.declared.history.action.Action.{Action}
-use Rattle.cal_policy.specs.declared.history.entry.PassEntry.{PassEntry}
-use Rattle.cal_policy.specs.Book.{board_in, RunsOnTable}
-use Rattle.cal_policy.specs.State.{IsStateAfter}
-use Rattle.cal_policy.specs.History.{actions_of, commands_to, sent_to, sends, addressed_to, command_to}
-use Rattle.cal_policy.specs.declared.policy.Policy.{Policy}
-use Rattle.cal_policy.specs.Policies.{IsLegalBy}
 use Rattle.cal_policy.proofs.HistoryLemmas.OneMore.{commands_push}
-use Rattle.cal_laws.specs.Point.{Point}
-use Rattle.cal_laws.specs.Policies.{IsPointBy}
-use Rattle.cal_sched.specs.Passing.{HaveSent}
-use Rattle.cal_sched.specs.Sending.{MaySend}
 use Rattle.cal_laws.proofs.PolicyLemmas.{is_point_by}
 use Rattle.cal_sched.proofs.PolicyLemmas.{AreSentOneCommand, GoWhereIsRoom}
 use Rattle.cal_sched.proofs.Lists.{slice_get-set_other, slice_get-set_same, snoc_same}
-use Rattle.cal_machine.proofs.Places.{slice_get_at}
-use Rattle.cal_machine.proofs.Last.{some_same, slice_get-last, take_next}
 use Rattle.cal_policy.proofs.BoardLemmas.Replayed.{actions_push}
 
 -- the commands of the first i actions were sent, and a ring on which none of them was is as it was

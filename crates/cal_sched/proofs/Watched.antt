@@ -1,17 +1,7 @@
 -- The rounds of a watch, one after the other.
-use Rattle.std.proofs.Common.{◌≡◌, ℕ, ◌<◌, inl, inr, List, [], ◌∷◌, ◌++◌, length, Option, Some, slice_get, refl, sym, ap, ◌∙◌, arith, append_assoc}
+use Rattle.cal_sched.proofs.Common.{◌≡◌, ℕ, ◌<◌, inl, inr, List, [], ◌∷◌, ◌++◌, length, Option, Some, slice_get, refl, sym, ap, ◌∙◌, arith, append_assoc, append-nil, slice_get_within, Record, Look, whole_of, ObserverView, HasLooked, HaveLooked, HaveWatched, slice_get_at, some_same, last_or_before}
 use Rattle.std.proofs.lemmas.Grind.{flat_map-append}
-use Rattle.std.proofs.lemmas.List.{append-nil}
-use Rattle.std.proofs.lemmas.Option.{slice_get_within}
-use Rattle.cal_signal.specs.declared.record.Record.{Record}
-use Rattle.cal_signal.specs.declared.look.Look.{Look}
-use Rattle.cal_signal.specs.Looks.{whole_of}
 use Rattle.cal_signal.specs.Rounds.{found_at, found_by}
-use Rattle.cal_signal.specs.Ends.{ObserverView}
-use Rattle.cal_sched.specs.Looking.{HasLooked, HaveLooked}
-use Rattle.cal_sched.specs.Watching.{HaveWatched}
-use Rattle.cal_machine.proofs.Places.{slice_get_at}
-use Rattle.cal_machine.proofs.Last.{some_same, last_or_before}
 
 -- one round more gives each page's looks one look more
 found_at-append : (k : ℕ) (rounds : List (List Look)) (round : List Look) (look : Look) → slice_get round k ≡ Some look

@@ -1,5 +1,6 @@
-//! The scheduler beside the kernel threads: it looks at their pages, decides by the policy, and
-//! sends its commands on their rings. A watch looks at the same pages and decides nothing.
+//! The scheduler beside the kernel threads: each of its passes is one of its policy, on what it found
+//! on their pages, and its commands are sent on their rings. A watch looks at the same pages and
+//! decides nothing.
 //!
 //! A scheduler has one observer and one sender for each kernel thread of its table. A pass looks
 //! once at each page, asks each ring for room, judges what it found, decides, and sends each

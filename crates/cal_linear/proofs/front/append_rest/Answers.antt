@@ -1,7 +1,4 @@
-use Rattle.std.proofs.Common.{List, ◌≡◌, ◌++◌, subst}
-use Rattle.std.specs.Prelude.{IfOk}
-use Rattle.cal_kthread.specs.declared.journal.entry.Entry.{Entry}
-use Rattle.cal_linear.specs.Steps.{events_of}
+use Rattle.cal_linear.proofs.Common.{List, ◌≡◌, ◌++◌, subst, IfOk, Entry, events_of}
 use Rattle.cal_linear.proofs.Order.{past_is_rest}
 use Rattle.cal_linear.proofs.front.append_rest.Goals as goal
 

@@ -1,8 +1,4 @@
-use Rattle.std.proofs.Common.{◌≡◌, ◌++◌, List, arith, rules, ap, ◌∙◌, sym, subst, replicate, length, take}
-use Rattle.cal_world.specs.declared.event.Event.{Event}
-use Rattle.cal_linear.specs.Linear.{linear, passes_and_rests, watch_events, whole_looks_of}
-use Rattle.cal_linear.specs.Fronts.{no_front, places_in}
-use Rattle.cal_linear.specs.Law.{IsLinearisedBy}
+use Rattle.cal_linear.proofs.Common.{◌≡◌, ◌++◌, List, arith, rules, ap, ◌∙◌, sym, subst, replicate, length, take, Event, linear, passes_and_rests, watch_events, whole_looks_of, no_front, places_in, IsLinearisedBy}
 use Rattle.cal_linear.proofs.Order.{places_none}
 use Rattle.cal_policy.proofs.PolicyLemmas.{pass_at_by, pass_input}
 use Rattle.cal_linear.proofs.linear.linearise_by.Goals as goal

@@ -1,7 +1,4 @@
-use Rattle.std.proofs.Common.{arith, ◌<◌, ◌∙◌, ◌≡◌, ◌++◌, [], length}
-use Rattle.cal_linear.specs.Steps.{journal_at}
-use Rattle.cal_linear.specs.Linear.{looks_from}
-use Rattle.cal_linear.specs.Fronts.{places_in}
+use Rattle.cal_linear.proofs.Common.{arith, ◌<◌, ◌∙◌, ◌≡◌, ◌++◌, [], length, journal_at, looks_from, places_in}
 use Rattle.cal_linear.proofs.Order.{look_step, get_default}
 use Rattle.cal_linear.proofs.passes.append_looks.Goals as goal
 

@@ -1,7 +1,4 @@
-use Rattle.std.proofs.Common.{◌≡◌, ◌++◌, drop, take}
-use Rattle.cal_linear.specs.Linear.{looks_from}
-use Rattle.cal_linear.specs.Reads.{after_looks}
-use Rattle.cal_linear.specs.Fronts.{AreFronts, places_in}
+use Rattle.cal_linear.proofs.Common.{◌≡◌, ◌++◌, drop, take, looks_from, after_looks, AreFronts, places_in}
 use Rattle.cal_linear.proofs.passes.append_looks.Given as goal
 
 abbrev pub invariant-loop-k : goal.invariant-loop-k

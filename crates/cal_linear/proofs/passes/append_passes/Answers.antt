@@ -1,10 +1,4 @@
-use Rattle.std.proofs.Common.{◌∙◌, ap, ◌++◌, [], ◌∷◌, List}
-use Rattle.cal_world.specs.declared.event.Event.TheVariants.{Decide}
-use Rattle.cal_policy.specs.declared.history.entry.PassEntry.{PassEntry}
-use Rattle.cal_policy.specs.declared.history.look.Seen.{Seen}
-use Rattle.cal_linear.specs.Linear.{looks_from}
-use Rattle.cal_linear.specs.Reads.{after_looks}
-use Rattle.cal_linear.specs.Fronts.{places_in}
+use Rattle.cal_linear.proofs.Common.{◌∙◌, ap, ◌++◌, [], ◌∷◌, List, Decide, PassEntry, Seen, looks_from, after_looks, places_in}
 use Rattle.cal_linear.proofs.Order.{pass_step}
 use Rattle.cal_linear.proofs.passes.append_passes.Goals as goal
 

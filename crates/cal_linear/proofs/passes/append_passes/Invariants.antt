@@ -1,8 +1,4 @@
-use Rattle.std.proofs.Common.{◌≡◌, ◌++◌, take}
-use Rattle.cal_policy.specs.History.Lists.{each_of}
-use Rattle.cal_linear.specs.Reads.{furthest}
-use Rattle.cal_linear.specs.Linear.{pass_events}
-use Rattle.cal_linear.specs.Fronts.{AreFronts, places_in}
+use Rattle.cal_linear.proofs.Common.{◌≡◌, ◌++◌, take, each_of, furthest, pass_events, AreFronts, places_in}
 use Rattle.cal_linear.proofs.passes.append_passes.Given as goal
 
 abbrev pub invariant-loop-entry : goal.invariant-loop-entry

@@ -1,6 +1,4 @@
-use Rattle.std.proofs.Common.{◌≡◌, ◌++◌, drop}
-use Rattle.cal_linear.specs.Linear.{rests_from}
-use Rattle.cal_linear.specs.Fronts.{places_in}
+use Rattle.cal_linear.proofs.Common.{◌≡◌, ◌++◌, drop, rests_from, places_in}
 use Rattle.cal_linear.proofs.passes.append_rests.Given as goal
 
 abbrev pub invariant-loop-k : goal.invariant-loop-k

@@ -1,5 +1,4 @@
-use Rattle.std.proofs.Common.{◌≡◌, ◌++◌, take}
-use Rattle.cal_linear.specs.Steps.{events_of}
+use Rattle.cal_linear.proofs.Common.{◌≡◌, ◌++◌, take, events_of}
 use Rattle.cal_linear.proofs.steps.append_all.Given as goal
 
 abbrev pub invariant-loop-entry : goal.invariant-loop-entry

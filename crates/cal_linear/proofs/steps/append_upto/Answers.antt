@@ -1,5 +1,4 @@
-use Rattle.std.proofs.Common.{◌+◌, ◌++◌, ap, ◌∙◌, take, drop}
-use Rattle.cal_kthread.specs.Journal.Entries.{up_to}
+use Rattle.cal_linear.proofs.Common.{◌+◌, ◌++◌, ap, ◌∙◌, take, drop, up_to}
 use Rattle.cal_linear.proofs.Order.{events_more, cut_next}
 use Rattle.cal_linear.proofs.steps.append_upto.Goals as goal
 

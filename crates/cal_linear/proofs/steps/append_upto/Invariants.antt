@@ -1,6 +1,4 @@
-use Rattle.std.proofs.Common.{◌≡◌, ◌++◌, take, drop}
-use Rattle.cal_kthread.specs.Journal.Entries.{up_to}
-use Rattle.cal_linear.specs.Steps.{events_of}
+use Rattle.cal_linear.proofs.Common.{◌≡◌, ◌++◌, take, drop, up_to, events_of}
 use Rattle.cal_linear.proofs.steps.append_upto.Given as goal
 
 abbrev pub invariant-loop-i : goal.invariant-loop-i

@@ -1,5 +1,4 @@
-use Rattle.std.proofs.Common.{◌≡◌, ◌++◌, drop}
-use Rattle.cal_linear.specs.Linear.{watch_events, whole_looks_from}
+use Rattle.cal_linear.proofs.Common.{◌≡◌, ◌++◌, drop, watch_events, whole_looks_from}
 use Rattle.cal_linear.proofs.watches.append_round.Given as goal
 
 abbrev pub invariant-loop-k : goal.invariant-loop-k

@@ -1,5 +1,4 @@
-use Rattle.std.proofs.Common.{◌∙◌, ◌++◌}
-use Rattle.cal_linear.specs.Linear.{watch_events, whole_looks_of}
+use Rattle.cal_linear.proofs.Common.{◌∙◌, ◌++◌, watch_events, whole_looks_of}
 use Rattle.cal_linear.proofs.Order.{round_next}
 use Rattle.cal_linear.proofs.watches.append_watches.Goals as goal
 

@@ -1,5 +1,4 @@
-use Rattle.std.proofs.Common.{◌≡◌, ◌++◌, drop}
-use Rattle.cal_linear.specs.Linear.{watch_events, whole_looks_of}
+use Rattle.cal_linear.proofs.Common.{◌≡◌, ◌++◌, drop, watch_events, whole_looks_of}
 use Rattle.cal_linear.proofs.watches.append_watches.Given as goal
 
 abbrev pub invariant-loop-round : goal.invariant-loop-round

@@ -1,10 +1,6 @@
-use Rattle.std.proofs.Common.{◌≡◌, ◌<◌, Some, slice_get, refl, sym, ◌∙◌, length, arith}
-use Rattle.std.proofs.lemmas.Option.{slice_get_read}
-use Rattle.cal_signal.specs.Ends.{ObserverView}
-use Rattle.cal_sched.specs.Looking.{HasLooked}
+use Rattle.cal_sched.proofs.Common.{◌≡◌, ◌<◌, Some, slice_get, refl, sym, ◌∙◌, length, arith, slice_get_read, ObserverView, HasLooked, some_same}
 use Rattle.cal_sched.proofs.Below.{Below-none, Below-more}
 use Rattle.cal_sched.proofs.looking.look_at_each.Goals as goal
-use Rattle.cal_machine.proofs.Last.{some_same}
 
 pub loop-k-init : goal.loop-k-init
 loop-k-init c = record {

@@ -1,6 +1,4 @@
-use Rattle.std.proofs.Common.{◌≡◌, ◌≤◌, length}
-use Rattle.std.specs.Vec.{vec_capacity}
-use Rattle.cal_sched.specs.Looking.{HasLooked}
+use Rattle.cal_sched.proofs.Common.{◌≡◌, ◌≤◌, length, vec_capacity, HasLooked}
 use Rattle.cal_sched.proofs.Below.{Below}
 use Rattle.cal_sched.proofs.looking.look_at_each.Given as goal
 

@@ -1,24 +1,11 @@
-use Rattle.std.proofs.Common.{◌≡◌, ℕ, ◌+◌, ◌<◌, ◌≤◌, true, false, List, [], ◌∷◌, ◌++◌, Some, slice_get, length, refl, sym, ap, subst, ◌∙◌, arith, rules}
-use Rattle.std.proofs.lemmas.Option.{slice_get_read}
-use Rattle.cal_signal.specs.Ends.{ObserverView}
-use Rattle.cal_command.specs.Rings.{SenderView}
-use Rattle.cal_machine.specs.TableTasks.{threads_of_table}
-use Rattle.cal_policy.specs.declared.history.entry.PassEntry.{PassEntry}
-use Rattle.cal_policy.specs.declared.judgement.open_input.FoundLook.{FoundLook}
+use Rattle.cal_sched.proofs.Common.{◌≡◌, ℕ, ◌+◌, ◌<◌, ◌≤◌, true, false, List, [], ◌∷◌, ◌++◌, Some, slice_get, length, refl, sym, ap, subst, ◌∙◌, arith, rules, slice_get_read, ObserverView, SenderView, threads_of_table, PassEntry, FoundLook, actions_of, looks_of, judged, IsFitLook, IsOpenAt, HaveFoundSo, HasLooked, HasAsked, some_same}
 use Rattle.cal_policy.specs.declared.judgement.open_pass.OpenPass.{OpenPass}
-use Rattle.cal_policy.specs.History.{actions_of, looks_of}
 use Rattle.cal_policy.specs.History.Looks.{last_shown}
-use Rattle.cal_policy.specs.Judgement.Judging.{judged, IsFitLook}
-use Rattle.cal_policy.specs.Judgement.OpenPass.{IsOpenAt}
-use Rattle.cal_sched.specs.Finding.{HaveFoundSo}
-use Rattle.cal_sched.specs.Looking.{HasLooked}
-use Rattle.cal_sched.specs.Passing.{HasAsked}
 use Rattle.cal_sched.proofs.Below.{Below-none, Below-more}
 use Rattle.cal_sched.proofs.Fitting.{next_fits}
 use Rattle.cal_sched.proofs.Found.{Looks, Asks, FoundBelow, FoundBelow-all}
 use Rattle.cal_sched.proofs.news.find_news.Goals as goal
 use Rattle.cal_sched.proofs.news.find_news.Goals.{then-not-pass_over, else-not-pass_over}
-use Rattle.cal_machine.proofs.Last.{some_same}
 
 pub loop-k-init : goal.loop-k-init
 loop-k-init c = record {

@@ -1,9 +1,4 @@
-use Rattle.std.proofs.Common.{◌≡◌, List}
-use Rattle.cal_policy.specs.declared.history.entry.PassEntry.{PassEntry}
-use Rattle.cal_policy.specs.State.{IsStateAfter}
-use Rattle.cal_policy.specs.Judgement.OpenPass.{IsOpenAt}
-use Rattle.cal_policy.specs.Judgement.Settled.{SettledAreNoNews}
-use Rattle.cal_sched.specs.Finding.{HaveFoundSo}
+use Rattle.cal_sched.proofs.Common.{◌≡◌, List, PassEntry, IsStateAfter, IsOpenAt, SettledAreNoNews, HaveFoundSo}
 use Rattle.cal_sched.proofs.Found.{FoundBelow}
 use Rattle.cal_sched.proofs.news.find_news.Given as goal
 

@@ -1,12 +1,5 @@
-use Rattle.std.proofs.Common.{◌≡◌, ◌<◌, ◌≤◌, List, [], ◌∷◌, ◌++◌, length, take, get_or, Some, None, slice_get, refl, sym, ap, subst, ◌∙◌, arith}
-use Rattle.std.proofs.lemmas.Option.{slice_get-get_or, slice_get_read}
-use Rattle.cal_command.specs.Rings.{SenderView, HasRoom}
-use Rattle.cal_policy.specs.declared.history.action.Action.{Action}
+use Rattle.cal_sched.proofs.Common.{◌≡◌, ◌<◌, ◌≤◌, List, [], ◌∷◌, ◌++◌, length, take, get_or, Some, None, slice_get, refl, sym, ap, subst, ◌∙◌, arith, slice_get-get_or, slice_get_read, SenderView, HasRoom, Action, IsSentBy, actions_of, threads_of_table, history_of, entry_of}
 use Rattle.cal_policy.specs.declared.history.action.Action.TheVariants.{Free}
-use Rattle.cal_policy.specs.Book.{IsSentBy}
-use Rattle.cal_policy.specs.History.{actions_of}
-use Rattle.cal_machine.specs.TableTasks.{threads_of_table}
-use Rattle.cal_sched.specs.Past.{history_of, entry_of}
 use Rattle.cal_sched.proofs.Sent.{SentBelow-none, SentBelow-silent, SentBelow-more, SentBelow-all, of_last, room_known, sendable}
 use Rattle.cal_sched.proofs.PolicyLemmas.{one_command_by, room_by}
 use Rattle.cal_sched.proofs.sending.send_commands.Goals as goal

@@ -1,6 +1,5 @@
-use Rattle.std.proofs.Common.{◌≡◌, inl, inr, [], ◌∷◌, ◌++◌, length, arith, rules, length-append}
+use Rattle.cal_sched.proofs.Common.{◌≡◌, inl, inr, [], ◌∷◌, ◌++◌, length, arith, rules, length-append, last_or_before}
 use Rattle.cal_sched.proofs.watch.make_room.Goals as goal
-use Rattle.cal_machine.proofs.Last.{last_or_before}
 
 pub loop-init : goal.loop-init
 loop-init c =

@@ -1,5 +1,4 @@
-use Rattle.std.proofs.Common.{◌≡◌, ◌≤◌, length}
-use Rattle.std.specs.Vec.{vec_capacity}
+use Rattle.cal_sched.proofs.Common.{◌≡◌, ◌≤◌, length, vec_capacity}
 use Rattle.cal_sched.specs.Spares.{AreSpare}
 use Rattle.cal_sched.proofs.watch.make_room.Given as goal
 

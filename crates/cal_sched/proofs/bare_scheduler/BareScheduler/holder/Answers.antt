@@ -1,7 +1,4 @@
-use Rattle.std.proofs.Common.{◌≡◌, ◌<◌, ap, ◌∙◌, arith}
-use Rattle.cal_policy.specs.History.{actions_of, holder_of}
-use Rattle.cal_sched.specs.Past.{history_of}
-use Rattle.cal_sched.specs.Scheduler.{SchedulerView}
+use Rattle.cal_sched.proofs.Common.{◌≡◌, ◌<◌, ap, ◌∙◌, arith, actions_of, holder_of, history_of, SchedulerView}
 use Rattle.cal_sched.proofs.Numbers.{holder_kept}
 use Rattle.cal_sched.proofs.PolicyLemmas.{last_run_by, one_command_by}
 use Rattle.cal_sched.proofs.bare_scheduler.BareScheduler.holder.Goals as goal

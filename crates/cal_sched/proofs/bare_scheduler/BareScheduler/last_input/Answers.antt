@@ -1,14 +1,6 @@
 -- The looks are those of the last pass, and the book keeps the state that it left.
-use Rattle.std.proofs.Common.{◌≡◌, ◌++◌, ◌∷◌, [], ℕ, List, sym, ap, subst, ◌∙◌}
-use Rattle.cal_machine.specs.TableTasks.{threads_of_table}
-use Rattle.cal_policy.specs.declared.history.entry.PassEntry.{PassEntry}
+use Rattle.cal_sched.proofs.Common.{◌≡◌, ◌++◌, ◌∷◌, [], ℕ, List, sym, ap, subst, ◌∙◌, threads_of_table, PassEntry, board_in, judged_input, IsOpenAt, IsStateAfter, entry_of, history_of, SchedulerView}
 use Rattle.cal_policy.specs.declared.history.input.Input.{Input}
-use Rattle.cal_policy.specs.Book.{board_in}
-use Rattle.cal_policy.specs.Judgement.OpenInput.{judged_input}
-use Rattle.cal_policy.specs.Judgement.OpenPass.{IsOpenAt}
-use Rattle.cal_policy.specs.State.{IsStateAfter}
-use Rattle.cal_sched.specs.Past.{entry_of, history_of}
-use Rattle.cal_sched.specs.Scheduler.{SchedulerView}
 use Rattle.cal_sched.proofs.Past.{history_push, last_made}
 use Rattle.cal_sched.proofs.bare_scheduler.BareScheduler.last_input.Goals as goal
 

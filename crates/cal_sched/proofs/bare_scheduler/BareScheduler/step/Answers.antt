@@ -1,20 +1,5 @@
-use Rattle.std.proofs.Common.{◌≡◌, ◌+◌, ◌<◌, List, [], ◌∷◌, ◌++◌, length, take, drop, refl, sym, ap, subst, ◌∙◌, arith, length-append}
-use Rattle.cal_signal.specs.Ends.{ObserverView}
-use Rattle.cal_command.specs.Rings.{SenderView}
-use Rattle.cal_policy.specs.declared.history.action.Action.{Action}
-use Rattle.cal_policy.specs.declared.history.entry.PassEntry.{PassEntry}
-use Rattle.cal_policy.specs.declared.policy.Policy.{Policy}
-use Rattle.cal_policy.specs.Book.{board_in}
-use Rattle.cal_policy.specs.State.{IsStateAfter}
-use Rattle.cal_policy.specs.Judgement.OpenInput.{judged_input}
-use Rattle.cal_policy.specs.Judgement.OpenPass.{IsOpenAt}
-use Rattle.cal_policy.specs.Judgement.Settled.{SettledAreNoNews}
-use Rattle.cal_sched.specs.Finding.{HaveFoundSo}
+use Rattle.cal_sched.proofs.Common.{◌≡◌, ◌+◌, ◌<◌, List, [], ◌∷◌, ◌++◌, length, take, drop, refl, sym, ap, subst, ◌∙◌, arith, length-append, ObserverView, SenderView, Action, PassEntry, Policy, board_in, IsStateAfter, judged_input, IsOpenAt, SettledAreNoNews, HaveFoundSo, HaveFound, HaveSent, IsPassed, AreLast, entry_of, history_of, SchedulerView, IsKept, MaySend}
 use Rattle.cal_sched.specs.declared.found_pass.FoundPass.{FoundPass}
-use Rattle.cal_sched.specs.Passing.{HaveFound, HaveSent, IsPassed}
-use Rattle.cal_sched.specs.Past.{AreLast, entry_of, history_of}
-use Rattle.cal_sched.specs.Scheduler.{SchedulerView, IsKept}
-use Rattle.cal_sched.specs.Sending.{MaySend}
 use Rattle.cal_sched.proofs.Lists.{written_whole}
 use Rattle.cal_sched.proofs.Passed.{may_send, kept_after}
 use Rattle.cal_sched.proofs.Past.{history_push, last_push}

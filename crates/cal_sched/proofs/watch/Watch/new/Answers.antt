@@ -1,6 +1,4 @@
-use Rattle.std.proofs.Common.{◌≡◌, ◌≤◌, [], length, arith, ◌∙◌, ap}
-use Rattle.std.specs.Vec.{vec_capacity}
-use Rattle.cal_sched.specs.Watching.{HaveWatched}
+use Rattle.cal_sched.proofs.Common.{◌≡◌, ◌≤◌, [], length, arith, ◌∙◌, ap, vec_capacity, HaveWatched}
 use Rattle.cal_sched.proofs.Watched.{HaveWatched-none}
 use Rattle.cal_sched.proofs.watch.Watch.new.Goals as goal
 

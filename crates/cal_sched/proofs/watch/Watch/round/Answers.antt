@@ -1,9 +1,6 @@
-use Rattle.std.proofs.Common.{rules, ◌≡◌, ◌≤◌, ◌+◌, [], length, List, ◌∷◌, ◌++◌, ap, ◌∙◌, arith, take, drop, length-append}
-use Rattle.std.specs.Vec.{vec_capacity}
+use Rattle.cal_sched.proofs.Common.{rules, ◌≡◌, ◌≤◌, ◌+◌, [], length, List, ◌∷◌, ◌++◌, ap, ◌∙◌, arith, take, drop, length-append, vec_capacity, Look, WatchView, HaveWatched}
 use Rattle.std.specs.declared.vec.Vec.{Vec}
 use Rattle.std.specs.declared.alloc.Global.{Global}
-use Rattle.cal_signal.specs.declared.look.Look.{Look}
-use Rattle.cal_sched.specs.Watching.{WatchView, HaveWatched}
 use Rattle.cal_sched.proofs.Lists.{taken_off, written_whole}
 use Rattle.cal_sched.proofs.Watched.{HaveWatched-more}
 use Rattle.cal_sched.proofs.watch.Watch.round.Goals as goal
