@@ -248,8 +248,8 @@ def test_words_of_a_log_are_refused(lab: Lab, words: list[str], said: str) -> No
 
 def test_words_that_are_lacking(lab: Lab) -> None:
     assert lab("log") == (2, "", "error: the following required arguments were not provided:\n  <LOG>\n"
-                          "  --table <FILE>\n  --unit <UNIT>\n  --turn <LENGTH>\n\nUsage: caladan_lab log --table <FILE> "
-                          "--unit <UNIT> --turn <LENGTH> <LOG>\n\nFor more information, try '--help'.\n")
+                          "  --table <FILE>\n  --unit <UNIT>\n  --turn <LENGTH>\n\nUsage: caladan_lab log --table "
+                          "<FILE> --unit <UNIT> --turn <LENGTH> <LOG>\n\nFor more information, try '--help'.\n")
     assert lab("log", "-", *HOW[:4], "--table", "-")[2] == (
         "caladan_lab: the log and the table are both the standard input: name the file of one\n")
 
