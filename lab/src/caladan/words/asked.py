@@ -98,4 +98,4 @@ copy; `man caladan-viewer` has the rest.
 Exit status: 0 done, 1 an objective missed, 2 bad arguments or rejected input, 3
 memory or output was refused, or a program is missing. A fault is one line on
 the standard error; below it, lines say why an input was rejected.""",
-    commands=(COMPARE, SWEEP, TIMELINE, REPORT, LOG, RUN, SEEDS), version=__version__)
+    commands=(COMPARE, SWEEP, TIMELINE, LOG, REPORT, RUN, SEEDS), version=__version__)
