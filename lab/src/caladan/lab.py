@@ -6,19 +6,21 @@ import functools
 import io
 import os
 from dataclasses import dataclass, field, replace
-from typing import TYPE_CHECKING, Iterable, Mapping, Optional, Sequence, Union
+from typing import TYPE_CHECKING, Callable, Iterable, Mapping, Optional, Sequence, Union
 
+from .arrivals import turns_of
 from .comparisons.command import runs_of, sheet_of
 from .comparisons.given import Reading, parts_of
-from .comparisons.runs import Runs
+from .comparisons.runs import NONE_CAME, Runs
 from .files import read_named
 from .labels import Labels, names_of
 from .programs import Came, Text, Viewer, Word, simulator, viewer
 from .refusal import Refusal
 from .sweeps.command import answer as swept
 from .sweeps.command import asked_of, table_of
-from .tables import KEYS, SEPARATOR, UNKNOWN_KEY, Machine, table_part
+from .tables import KEYS, SEPARATOR, UNKNOWN_KEY, Machine, names_in, table_part
 from .varying import key_of, variations_of
+from .windows import MIDDLE, Window
 from .words.asked import LAB
 from .words.parsing import Asked, read_words
 
@@ -192,10 +194,28 @@ class Run:
     @functools.cached_property
     def numbers(self) -> pandas.DataFrame:
         """The numbers of the run: a row for each measure, and for each task its number, whether there is more than
-        that, and of how many times a rank is."""
+        that, and of how many times a rank is. Times are of the requests that came in the middle eight tenths of the
+        turns, as in a sweep; where none did, of all. `measured` has those of another window."""
+        return self.measured()
+
+    def measured(self, window: str = MIDDLE, first: Optional[int] = None,
+                 after: Optional[int] = None) -> pandas.DataFrame:
+        """The numbers, with the times of the requests that came within a window: "middle" or "whole", from turn `first`
+        on and before turn `after` where these are given. Refusal where no request came then."""
+        words = Window(window, first, after).words(len(turns_of(self.arrivals)))
+        return self.measured_by(words, is_needed=first is not None or after is not None)
+
+    def measured_by(self, window: Sequence[str], is_needed: bool) -> pandas.DataFrame:
+        """The numbers with these words for a window; of all requests where none came and that is not needed."""
         names: list[Word] = ["--names", ",".join(self.table.names)] if self.table.names else []
         tick: list[Word] = ["--tick", self.tick] if self.tick else []
-        return frame_of(self.told("measure", "--csv", *self.counted(), *names, *tick), "", "measure")
+        try:
+            told = self.told("measure", "--csv", *self.counted(), *window, *names, *tick)
+        except Refusal as refusal:
+            if is_needed or NONE_CAME not in refusal.line:
+                raise
+            told = self.told("measure", "--csv", *self.counted(), *names, *tick)
+        return frame_of(told, "", "measure")
 
     def explain(self, number: int, task: Optional[int] = None, core: Optional[int] = None) -> str:
         """Why a pass, from 0, does what it does."""
@@ -215,13 +235,14 @@ class Run:
 @dataclass(frozen=True)
 class Answer:
     """What came of many runs: the CSV, the words that asked for it, its table, the lines about objectives that are not
-    kept, and of a comparison its runs."""
+    kept, and of a comparison its runs, and the CSV of all requests, which is drawn."""
 
     csv: str
     words: tuple[str, ...]
     table: Table
     misses: tuple[str, ...] = ()
     runs: Optional[Runs] = field(default=None, repr=False, compare=False)
+    drawn: Optional[Callable[[], str]] = field(default=None, repr=False, compare=False)
 
     @property
     def tick(self) -> str:
@@ -246,10 +267,11 @@ class Answer:
         SVG, PNG or PDF by its ending."""
         from .pictures.picture import of_compare, of_sweep
         look, csv = self.table.look(width, dark), self.csv.partition("\n\n")[0]
-        if self.runs is not None:
-            return of_compare(csv, self.runs, look, file)
+        if self.runs is not None and self.drawn is not None:
+            return of_compare(self.drawn(), self.runs, look, file)
         asked = read_words(LAB, self.words)
-        return of_sweep(csv, self.table.machine, asked_of(asked).loads.task, asked.all("slo"), look, file)
+        of_words = asked_of(asked, names_in(self.table.text))
+        return of_sweep(csv, self.table.machine, of_words.loads.task, asked.all("slo"), look, file)
 
 
 def _asked(word: str, table: Table, vary: Optional[Keys], options: Mapping[str, Option]) -> tuple[list[str], Asked]:
@@ -265,15 +287,17 @@ def compare(runs: Union[Run, Sequence[Run]], vary: Optional[Keys] = None, **opti
     given = [runs] if isinstance(runs, Run) else list(runs)
     first = given[0]
     words, asked = _asked("compare", first.table, vary, options)
-    variations = variations_of(asked.all("vary"), first.table.names)
+    variations = variations_of(asked.all("vary"), first.table.names or names_in(first.table.text), first.table.tick)
     tables = b"".join(it.table.machine.text() + SEPARATOR for it in given)
     text = tables + first.arrivals
     reading = Reading(first.table.view, text, parts_of(text, bool(variations)), bool(variations))
     came = None if first.came is None else ("the comings", first.came)
     labels = first.table.labels
     made = runs_of(asked, reading, variations, labels, came)
-    csv = sheet_of(made, variations, labels, came is not None, True).decode()
-    return Answer(csv, tuple(words), first.table, runs=made)
+
+    def csv_of(runs: Runs) -> str:
+        return sheet_of(runs, variations, labels, came is not None, True).decode()
+    return Answer(csv_of(made), tuple(words), first.table, runs=made, drawn=lambda: csv_of(made.of_whole()))
 
 
 def sweep(table: Table, load: Union[Value, Sequence[Value], None] = None, vary: Optional[Keys] = None,
@@ -283,5 +307,5 @@ def sweep(table: Table, load: Union[Value, Sequence[Value], None] = None, vary: 
     loads = None if load is None else str(load) if isinstance(load, (str, int, float)) else ",".join(map(str, load))
     words, asked = _asked("sweep", table, vary, {"load": loads, **options})
     names_of(asked.one("names"))
-    csv, lines = swept(asked_of(asked), table.text, table.view)
+    csv, lines = swept(asked_of(asked, names_in(table.text)), table.text, table.view)
     return Answer(csv, tuple(words), table, tuple(lines.splitlines()))

@@ -162,6 +162,10 @@ class SweepRows:
             values = [" ".join(f"{key}={value}" for key, value in zip(self.between, values))]
         return ", ".join([*values, *([f"{fields[len(self.between) + 1]} {self.seeds}"] if self.seeds else [])])
 
+    def is_count(self, fields: Sequence[str]) -> bool:
+        """Whether a row says with how many seeds its table beats the first."""
+        return bool(self.seeds) and fields[len(self.between) + 1] == "beats the first"
+
     def cores(self, fields: Sequence[str]) -> Optional[int]:
         """How many cores the table of a row has, where these are varied. A lone key shares its column with the
         policy."""
@@ -184,7 +188,7 @@ def read_sweep(text: str, name: str) -> Sweep:
     """A sweep."""
     titles, lines = rows_of_kind(text, name, "sweep")
     rows = SweepRows(titles, name)
-    runs = tuple(map(rows.run, lines))
+    runs = tuple(rows.run(it) for it in lines if not rows.is_count(it.fields))
     if not runs:
         raise Refusal(f"{name}: it has no runs below its head")
     in_cores = titles[0].startswith("offered")

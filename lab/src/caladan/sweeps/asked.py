@@ -2,7 +2,7 @@
 from __future__ import annotations
 
 from dataclasses import dataclass
-from typing import Optional
+from typing import Optional, Sequence
 
 from ..labels import Labels
 from ..numbers import WORD, number_of
@@ -37,6 +37,21 @@ class SweepAsked:
     is_cheapest: bool
     jobs: Optional[int]
     is_quiet: bool
+    is_as_before: bool = False
+
+    @property
+    def is_middle(self) -> bool:
+        """Whether the window is all but the first and the last tenth, as without words."""
+        tenth = self.turns // 10
+        return (self.first, self.after) == (tenth, self.turns - tenth)
+
+    def clock_of(self, turn: int) -> int:
+        """The clock of a turn of made arrivals, or of the end."""
+        return self.ticks * (turn + 1) + self.ticks // 2
+
+    @property
+    def asks_p95(self) -> bool:
+        return any(it.rank == "p95" for it in self.objectives)
 
     @property
     def shown_tasks(self) -> list[int]:
@@ -75,15 +90,17 @@ def _seeds(word: Optional[str], first: int) -> tuple[int, ...]:
     return tuple(range(first, first + many))
 
 
-def sweep_asked(asked: Asked, labels: Labels) -> SweepAsked:
-    """What words ask for, where they need no table; the first that is refused is told of."""
-    loads = asked_loads(asked, labels.names)
+def sweep_asked(asked: Asked, labels: Labels, known: Sequence[str] = ()) -> SweepAsked:
+    """What words ask for, where they need no table; the first that is refused is told of. In words a task may go by
+    its label, or without labels by the name that is known of its table."""
+    names = labels.names or known
+    loads = asked_loads(asked, names)
     tasks = [it.task for it in loads.tasks]
-    objectives = tuple(objective_of(it, labels.names, tasks) for it in asked.all("slo"))
-    variations = tuple(variations_of(asked.all("vary"), labels.names))
+    objectives = tuple(objective_of(it, names, tasks, labels.tick) for it in asked.all("slo"))
+    variations = tuple(variations_of(asked.all("vary"), names, labels.tick))
     turns = asked.number("turns") or 0
     first, after = _window(asked, turns)
     return SweepAsked(
         loads, objectives, variations, first, after, _seeds(asked.one("seeds"), asked.number("seed") or 0), turns,
         asked.number("ticks") or 0, tuple(asked.all("policy") or ["caladan"]), plan_of(asked), labels,
-        asked.has("csv"), asked.has("cheapest"), asked.number("jobs"), asked.has("quiet"))
+        asked.has("csv"), asked.has("cheapest"), asked.number("jobs"), asked.has("quiet"), asked.one("rules") == "4")
