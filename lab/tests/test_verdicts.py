@@ -78,8 +78,8 @@ def test_ten_beyond_the_rank_decide() -> None:
     assert said("task.0.p99=20", run_of(sample_of(TIMES))) == ""
     assert said("task.0.p99=20", run_of(sample_of(TIMES[1:]))) == "missed at load 0.500: p99 is 80 ticks"
     few = said("task.0.p99=80", run_of(sample_of(TIMES[1:])))
-    assert few == ("undecided at load 0.500: p99 is 80 ticks, but 9 of 999 requests lie beyond it, and 10 decide: about "
-                   "2 more turns would do")
+    assert few == ("undecided at load 0.500: p99 is 80 ticks, but 9 of 999 requests lie beyond it, and 10 decide: "
+                   "about 2 more turns would do")
     assert said("task.0.p99.9=80", run_of(sample_of(TIMES))).endswith(
         "p99.9 is 80 ticks, but 1 of 1000 requests lie beyond it, and 10 decide: about 9000 more turns would do")
     assert said("task.0.p50=20", run_of(sample_of([20] * 20))) == ""
@@ -100,8 +100,8 @@ def test_one_request_keeps_nothing() -> None:
 def test_ten_that_took_longer_decide_too() -> None:
     assert said("task.0.p99=50", run_of(sample_of([20] * 90 + [80] * 10))) == "missed at load 0.500: p99 is 80 ticks"
     assert said("task.0.p99=50", run_of(sample_of([20] * 90 + [80] * 9))) == (
-        "undecided at load 0.500: p99 is 80 ticks, but 9 of 99 requests took longer than 50 ticks, and 10 decide: about "
-        "9102 more turns would do")
+        "undecided at load 0.500: p99 is 80 ticks, but 9 of 99 requests took longer than 50 ticks, and 10 decide: "
+        "about 9102 more turns would do")
 
 
 def test_what_is_pending_ranks_with_its_time_so_far() -> None:
@@ -179,8 +179,8 @@ def test_what_all_seeds_say_of_another() -> None:
     kept = [run_of(sample_of(TIMES))] * 10
     of = verdict(["--slo", "task.0.p99=20"], kept)
     assert of.lines() == "" and of.sure() == (
-        "task.0.p99=20 is kept at load 0.500 with 10 of 10 seeds: another keeps it with a chance of 0.741 or more, at 95 "
-        "in 100\n")
+        "task.0.p99=20 is kept at load 0.500 with 10 of 10 seeds: another keeps it with a chance of 0.741 or more, at "
+        "95 in 100\n")
     assert Fraction(741, 1000) ** 10 < Fraction(5, 100) < Fraction(742, 1000) ** 10
     assert verdict(["--slo", "task.0.p99=20", "--rules", "4"], kept).sure() == ""
     assert verdict(["--slo", "task.0.p99=20"], kept[:1]).sure() == ""

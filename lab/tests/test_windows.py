@@ -86,8 +86,8 @@ def test_arrivals_behind_a_table_are_refused(lab: Run, tmp_path: Path) -> None:
     (tmp_path / "a.toml").write_text(TABLE)
     (tmp_path / "run").write_text(TABLE + ARRIVALS)
     (tmp_path / "arrivals").write_text(ARRIVALS.removeprefix("---\n"))
-    why = "  --arrivals names arrivals without a table, as `caladan_view arrivals` writes\n  them without --table; each "
-    why += "table is a file of its own\n"
+    why = ("  --arrivals names arrivals without a table, as `caladan_view arrivals` writes\n"
+           "  them without --table; each table is a file of its own\n")
     assert lab("compare", "a.toml", "--arrivals", "run", cwd=tmp_path) == (
         2, "", f"caladan_lab: run: a line --- in arrivals\n{why}")
     assert lab("compare", "a.toml", "--arrivals", "-", given=TABLE + ARRIVALS, cwd=tmp_path).err == (

@@ -17,8 +17,8 @@ A case has words, files and a standard input, made from seeds by the modules of 
 own. Its answer is the exit status, both outputs, and each file that is new, changed or gone. `check` compares all to
 the byte, but for the name of the program: a line that begins with `caladan_view:`, or with `Usage: caladan_view`, must
 begin so with NAME (else the file name of the program's last word); within a line either name may stand. Another program
-than caladan_view is asked to count and judge as that did (frozen/changed.py; README.md says what is otherwise). The last
-line is 'N passed, M failed', and above it stands the first difference of each case that failed. A case that is made
+than caladan_view is asked to count and judge as that did (frozen/changed.py; README.md says what is otherwise). The
+last line is 'N passed, M failed', and above it stands the first difference of each case that failed. A case that is made
 otherwise than the kept one fails too: freeze it again."""
 import argparse
 import os
@@ -97,7 +97,8 @@ def check(given: argparse.Namespace) -> int:
                                                        for it in named.values()]
     for ran, answer in answers_of(program, run, given.jobs):
         case = named[ran.name]
-        found = faults(case, answer if name == KEPT_NAME else said_as_before(answer, kept[case.name].answer), kept, name)
+        then = answer if name == KEPT_NAME else said_as_before(answer, kept[case.name].answer)
+        found = faults(case, then, kept, name)
         passed, failed = passed + (not found), failed + bool(found)
         if found:
             print(f"differs: {case.name}: {shlex.join(case.words)[:300]}", *found, sep="\n  ", flush=True)

@@ -102,7 +102,8 @@ class Changed(unittest.TestCase):
             self.assertNotEqual(said_as_before(other, then), then)
         tipped = dataclasses.replace(then, said=f"caladan_view: config 2\n{tip}")
         self.assertEqual(said_as_before(tipped, tipped), tipped)
-        self.assertNotEqual(said_as_before(dataclasses.replace(tipped, said="caladan_view: config 2\n"), tipped), tipped)
+        untipped = dataclasses.replace(tipped, said="caladan_view: config 2\n")
+        self.assertNotEqual(said_as_before(untipped, tipped), tipped)
 
 
 class Checked(unittest.TestCase):

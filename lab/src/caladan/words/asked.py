@@ -52,7 +52,7 @@ COMPARE = Command(
     "compare", f"{NAME} compare", "Run several tables on the same arrivals, and compare their numbers", texts.COMPARE,
     (Arg("tables", "The input; with --arrivals the tables, a file each", value="FILE", many=True),
      option("arrivals", "FILE", "The arrivals of all tables"), BY_EACH, *COUNT,
-     option("window", "WINDOW", "Rank what came in the middle of the run, or the whole [default: middle]",
+     option("window", "WINDOW", "Rank what came in the middle of the run, or all [default: middle]",
             names=("middle", "whole"), hidden=True), *PLAN, VARY, CSV, NAMES, TICK,
      number("write-input", "N", "Write the input of table N's run instead, from 0", conflicts="csv"), OUTPUT),
     extra=PICTURE)
