@@ -158,6 +158,9 @@ installed() { # what is installed stands by itself
     [ -s "$build/prefix/share/man/man8/caladand.8" ]; note $? "$what: the manual page"
     ${CC:-cc} -pthread -I"$build/prefix/include" "$top/host/load.c" -L"$build/prefix/lib" -lcaladan_rt -lm -o "$build/prefix/load" 2> "$build/make.log"; note $? "$what: $(cat "$build/make.log")"
     refuses "there is no scheduler of that name" "$build/prefix/load" lc -n installed -u 0
+    command -v c++ > /dev/null || { skip "$what, from C++, for want of c++"; return; }
+    printf '#include <caladan_rt.h>\nint main() { return caladan_rt_why(1) == nullptr; }\n' > "$build/in_cpp.cpp"
+    c++ -Wall -Wextra -Wconversion -pedantic -Werror -pthread -I"$build/prefix/include" "$build/in_cpp.cpp" -L"$build/prefix/lib" -lcaladan_rt -o "$build/in_cpp" 2> "$build/make.log" && "$build/in_cpp"; note $? "$what, from C++: $(cat "$build/make.log")"
 }
 
 other_compiler() { # which refuses what is gcc's alone

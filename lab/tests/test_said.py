@@ -87,7 +87,7 @@ def test_words_go_by_the_names_of_the_table(lab: Run) -> None:
     words = ["--slo", "kv.p99=65", "--vary", "batch.limit=1,2", "--task", "kv", "--load", "0.5"]
     asked = read_words(LAB, ["sweep", *words])
     assert names_needed(asked) and not names_needed(read_words(LAB, ["sweep", "--load", "1", "--slo", "task.0.max=1"]))
-    of_words = asked_of(asked, names_in(NAMED.encode()))
+    of_words = asked_of(asked, known=names_in(NAMED.encode()))
     assert (of_words.objectives[0].task, of_words.variations[0].key, of_words.loads.task) == (0, "task.1.limit", 0)
     assert of_words.labels.names == ()
     ran = lab("sweep", *words, given=TABLE)

@@ -52,7 +52,7 @@ def told_of(sample: Sample) -> Measured:
 
 def run_of(sample: Sample, left: dict[int, int] | None = None, share: int = 500) -> SweptRun:
     counts = {task: Count(sample.count, 0, int(task in (left or {}))) for task in (0, 1)}
-    return SweptRun(counts, left or {}, told_of(sample), bool(sample.count), Figure(share, True), {0: sample})
+    return SweptRun(counts, left or {}, told_of(sample), bool(sample.count), Figure(share, True), {0: sample}, TURNS)
 
 
 def verdict(words: Sequence[str], *runs: Sequence[SweptRun]) -> Verdict:

@@ -12,6 +12,7 @@ from ..plans import plan_of
 from ..pool import each
 from ..programs import viewer
 from ..refusal import Refusal
+from ..stamps import tick_of
 from ..sweeps.command import names_needed
 from ..tables import SEPARATOR, Machine, names_in, table_part
 from ..varying import Variations, setting_text, varied, variations_of
@@ -86,7 +87,7 @@ class Comparison:
             raise Refusal(f"{self.input_name or 'the standard input'}: a line --- in arrivals", below=ALONE)
         came = None if self.came_name is None else (self.came_name, read_named(self.came_name))
         parts = parts_of(given, bool(variations), self.files, self.input_name)
-        labels = Labels(self.names, tick, table_names(self.files))
+        labels = Labels(self.names, tick_of(given, tick or None), table_names(self.files))
         return answer(self.asked, Reading(viewer(self.asked.one("program")), given, parts, bool(variations)),
                       variations, labels, came)
 

@@ -2,7 +2,7 @@
 from __future__ import annotations
 
 import itertools
-from typing import Sequence
+from typing import TYPE_CHECKING, Optional, Sequence
 
 from .. import pool
 from ..files import Output, Source, is_terminal, say
@@ -19,6 +19,9 @@ from .loads import OFFERED, TASK
 from .runs import Point, Runs, SweptRun, Unit
 from .sheet import SweepSheet
 from .verdict import Swept, Verdict
+
+if TYPE_CHECKING:
+    from ..logs.log import Log
 
 # The words by which the program reads a table as a sweep does.
 READ = ["arrivals", "--task", "0", "--load", "1", "--turns", "1", "--summary"]
@@ -73,6 +76,7 @@ def swept_of(view: Viewer, asked: SweepAsked, machines: Sequence[Machine], is_sh
 def answer(of_words: SweepAsked, given: bytes, view: Viewer, is_shown: bool = False) -> tuple[str, str]:
     """What is written of the sweep of an input, and what is said of objectives that it does not keep."""
     machine = table_of(view, given)
+    of_words = of_words.for_table(given)
     counted(of_words.labels.names, len(machine.tasks))
     known(of_words, machine)
     machines = varied(view, machine, of_words.variations, pool.each) if of_words.variations else [machine]
@@ -90,9 +94,10 @@ def names_needed(asked: Asked) -> bool:
     return not asked.has("names") and any(it and number_of(it) is None for it in called)
 
 
-def asked_of(asked: Asked, known: Sequence[str] = ()) -> SweepAsked:
-    """What the words ask for, but for the table, of whose tasks these names are known."""
-    of_words = sweep_asked(asked, Labels(names_of(asked.one("names")), asked.one("tick") or ""), known)
+def asked_of(asked: Asked, log: Optional[Log] = None, known: Sequence[str] = ()) -> SweepAsked:
+    """What the words ask for, but for the table, of whose tasks these names are known; maybe of a log that is read."""
+    labels = Labels(names_of(asked.one("names")), asked.one("tick") or "")
+    of_words = sweep_asked(asked, labels, log, known)
     if not of_words.loads.has_misses:
         of_words.plan.refuse_without_misses()
     return of_words
@@ -106,7 +111,7 @@ def sweep(asked: Asked) -> int:
     output_name = asked.one("output")
     output = Output(None if output_name == "-" else output_name)
     early = source.read() if names_needed(asked) else None
-    of_words = asked_of(asked, names_in(table_part(early)) if early is not None else ())
+    of_words = asked_of(asked, known=names_in(table_part(early)) if early is not None else ())
     given = source.read() if early is None else early
     is_shown = is_terminal() and not of_words.is_quiet
     text, lines = answer(of_words, given, viewer(asked.one("program")), is_shown)

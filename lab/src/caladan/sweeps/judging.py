@@ -48,22 +48,23 @@ class Judge:
             if over >= DECIDING or rank == "max":
                 return Judged(MISSED, said)
             return Judged(UNDECIDED, f"{said}, but {over} of {sample.count} requests took longer than "
-                                     f"{self.ticks(objective.ticks)}, and {DECIDING} decide{self.more(sample, label)}")
+                                     f"{self.ticks(objective.ticks)}, and {DECIDING} "
+                                     f"decide{self.more(run, sample, label)}")
         if is_pending:
             return Judged(UNDECIDED, f"{rank} is pending for {self.ticks(least)}, run longer")
         beyond = sample.beyond(label)
         if beyond >= DECIDING or rank == "max":
             return Judged(KEPT, said)
         return Judged(UNDECIDED, f"{said}, but {beyond} of {sample.count} requests lie beyond it, and {DECIDING} "
-                                 f"decide{self.more(sample, label)}")
+                                 f"decide{self.more(run, sample, label)}")
 
-    def more(self, sample: Sample, label: str) -> str:
+    def more(self, run: SweptRun, sample: Sample, label: str) -> str:
         """How many more turns would do."""
         asked = self.asked
         needed = DECIDING * 1000 // (1000 - PER_MILLE[label])
         # The window grows with the run, unless its end is named.
-        turns = asked.turns if asked.is_middle else asked.after - asked.first
+        turns = run.turns if asked.is_middle(run.turns) else asked.after - asked.first
         more = -(-turns * (needed - sample.count) // sample.count)
-        if asked.turns + more > MOST_TURNS:
+        if run.turns + more > MOST_TURNS:
             return f": a run of {MOST_TURNS} turns has too few"
         return f": about {more} more turns would do"

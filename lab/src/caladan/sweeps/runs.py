@@ -6,6 +6,7 @@ from dataclasses import dataclass, field
 from typing import Iterable, Optional, Sequence
 
 from ..figures import MaybeFigure
+from ..logs.sweeping import LogLoads, LogMaker
 from ..measured import Measured, measured_of
 from ..programs import Text, Viewer, Word, refused
 from ..progress import Progress
@@ -13,7 +14,7 @@ from ..samples import P95, PER_MILLE, Sample, raised, samples_of
 from ..shares import held_in_series, held_in_spans, share_of
 from ..tables import SEPARATOR, Machine
 from .asked import SweepAsked
-from .making import Count, Made, Maker
+from .making import Count, Made, Maker, Making
 
 NONE_CAME = "no request came within the turns"
 
@@ -22,7 +23,8 @@ NONE_CAME = "no request came within the turns"
 class SweptRun:
     """A run: what came to each task that has a load; of those tasks that lost requests which came before the end of the
     window, the turn to which the first of these came; the numbers, whether a request came within the window, and the
-    share of the best-effort tasks; and the samples of tasks of which more is asked than the numbers say."""
+    share of the best-effort tasks; the samples of tasks of which more is asked than the numbers say, and how many turns
+    it has."""
 
     counts: dict[int, Count]
     left_from: dict[int, int]
@@ -30,6 +32,7 @@ class SweptRun:
     is_ranked: bool
     share: MaybeFigure
     samples: dict[int, Sample] = field(default_factory=dict)
+    turns: int = 0
 
     def response(self, label: str, task: int) -> MaybeFigure:
         """A row of a task's responses in the window; a bound with the least that it can be."""
@@ -56,7 +59,7 @@ class Point:
         self.lock = threading.Lock()
         self.kept: dict[tuple[int, ...], Made] = {}
 
-    def made(self, maker: Maker, machine: Machine) -> Made:
+    def made(self, maker: Making, machine: Machine) -> Made:
         with self.lock:
             if machine.limits not in self.kept:
                 self.kept[machine.limits] = maker.made(machine, self.load, self.seed)
@@ -86,7 +89,9 @@ class Runs:
 
     def __init__(self, view: Viewer, asked: SweepAsked, machines: Sequence[Machine], progress: Progress) -> None:
         self.view, self.asked, self.progress = view, asked, progress
-        self.maker = Maker(view, asked, machines)
+        self.maker: Making = Maker(view, asked, machines)
+        if isinstance(asked.loads, LogLoads):
+            self.maker = LogMaker(view, asked.loads)
 
     def run(self, unit: Unit) -> SweptRun:
         """Makes a run."""
@@ -99,8 +104,8 @@ class Runs:
     def words_of(self, unit: Unit, made: Made) -> list[str]:
         """The words for how the run goes. Where no request has misses, a plan has none to bear or to show."""
         asked = self.asked
-        some = any(it.has_misses and made.counts[it.task].came > made.counts[it.task].left_out
-                   for it in asked.loads.tasks)
+        some = made.have_misses if made.have_misses is not None else any(
+            it.has_misses and made.counts[it.task].came > made.counts[it.task].left_out for it in asked.loads.tasks)
         plan = asked.plan if some else asked.plan.without_misses()
         return ["--policy", unit.policy, *plan.words()]
 
@@ -108,7 +113,9 @@ class Runs:
         asked = self.asked
         words, given = self.words_of(unit, made), unit.machine.text() + SEPARATOR + made.arrivals
         measure: list[Word] = ["measure", "--csv", "--came", Text(made.came), *words]
-        ran = self.view.ask([*measure, "--from", str(asked.first), "--to", str(asked.after)], given)
+        turns = asked.turns if made.turns is None else made.turns
+        first, after = asked.window(turns)
+        ran = self.view.ask([*measure, "--from", str(first), "--to", str(after)], given)
         is_ranked = not (ran.status == 2 and NONE_CAME in ran.err)
         if not is_ranked:
             ran = self.view.ask(measure, given)
@@ -120,14 +127,15 @@ class Runs:
         def held() -> int:
             if in_lockstep:
                 spans = self.view.told(["spans", *words], given).out
-                return held_in_spans(spans, unit.machine.best_effort, asked.ticks * asked.turns)
+                return held_in_spans(spans, unit.machine.best_effort, asked.ticks * turns)
             return held_in_series(self.view.told(["series", *words], given).out, unit.machine.best_effort)
-        left = {task: turn for task, turn in made.left_from.items() if turn < asked.after}
+        left = {task: turn for task, turn in made.left_from.items() if turn < after}
         share = share_of(unit.machine, numbers, asked.ticks if in_lockstep else 1, held)
-        samples = self.samples(numbers, words, made, given) if is_ranked else {}
-        return SweptRun(made.counts, left, numbers, is_ranked, share, samples)
+        samples = self.samples(numbers, words, made, given, (first, after)) if is_ranked else {}
+        return SweptRun(made.counts, left, numbers, is_ranked, share, samples, turns)
 
-    def samples(self, numbers: Measured, words: Sequence[str], made: Made, given: bytes) -> dict[int, Sample]:
+    def samples(self, numbers: Measured, words: Sequence[str], made: Made, given: bytes,
+                window: tuple[int, int]) -> dict[int, Sample]:
         """The samples of the tasks of objectives, and of those with a rank whose request is pending."""
         asked = self.asked
         if asked.is_as_before:
@@ -138,4 +146,5 @@ class Runs:
         if not tasks:
             return {}
         requests = self.view.told(["requests", "--came", Text(made.came), *words], given).out
-        return samples_of(requests, tasks, asked.clock_of(asked.first), asked.clock_of(asked.after))
+        first, after = map(asked.clock_of, window)
+        return samples_of(requests, tasks, first, after)

@@ -13,6 +13,7 @@ from .verdict import Swept, Verdict
 
 TIMES = {**{it: RANKS[it] for it in ("p50", "p90", "p95", "p99", "p99.9")}, "mean": "response mean"}
 COUNTS = ("came", "later", "far", "left out", "served", "mean cores", "best-effort share")
+SEED = "seed"
 LEAST, MEDIAN, LOWER_MEDIAN, GREATEST, BEATS = "least", "median", "lower median", "greatest", "beats the first"
 # What is the better the more there is of it; of times it is less. Of other columns it is not said.
 BETTER_MORE = ("served", "best-effort share")
@@ -72,10 +73,7 @@ class SweepSheet:
         self.seed_rows = (LEAST, LOWER_MEDIAN if even else MEDIAN, GREATEST)
 
     def load_heading(self) -> str:
-        name = self.asked.labels.name(self.asked.loads.task)
-        if self.asked.loads.in_cores:
-            return f"offered to {name}" if name is not None else "offered"
-        return f"load of {name}" if name is not None else "load"
+        return self.asked.loads.heading(self.asked.labels.name(self.asked.loads.task))
 
     def cells_of(self, values: Sequence[str], policy: Optional[str]) -> Cells:
         """The cells of the values that make a table and of a policy, or of what stands over them: a cell for each; a
@@ -95,30 +93,42 @@ class SweepSheet:
         """The first row: what each column is."""
         row = self.front_heading()
         row += ["task"] if self.has_tasks else []
-        row += [f"of {len(self.asked.seeds)} seeds"] if self.has_seeds else []
+        row += self.seed_heading()
         for name in self.times:
             put_heading(row, name, self.asked.is_csv, self.asked.labels.tick)
         return [*row, *COUNTS]
 
+    def seed_heading(self) -> Cells:
+        if self.asked.is_by_seed:
+            return [SEED]
+        return [f"of {len(self.asked.seeds)} seeds"] if self.has_seeds else []
+
+    def runs_of(self, load: int, table: int, policy: int, which: str) -> list[SweptRun]:
+        """The runs that a row is of."""
+        runs = self.swept.of_seeds(load, table, policy)
+        return [runs[self.asked.seeds.index(int(which))]] if self.asked.is_by_seed else runs
+
     def row(self, load: int, table: int, policy: int, task: int, which: str) -> Cells:
         """A row of the runs of a table by a policy at a load."""
-        runs = self.swept.of_seeds(load, table, policy)
+        runs = self.runs_of(load, table, policy, which)
         row = [thousandths(load), *self.names_of(table, policy)]
         name = self.asked.labels.name(task)
         row += [str(task) if name is None else name] if self.has_tasks else []
-        row += [which] if self.has_seeds else []
+        row += [which] if self.seed_heading() else []
         for column in (*self.times, *COUNTS):
             figures = [figure_of(it, task, column) for it in runs]
             if which == BEATS:
                 firsts = [figure_of(it, task, column) for it in self.swept.of_seeds(load, 0, 0)]
                 figure = beaten(column, figures, firsts)
             else:
-                figure = of_seeds(figures, which)
+                figure = of_seeds(figures, which if runs[1:] else LEAST)
             put_figure(row, figure, self.asked.is_csv and column in TIMES)
         return row
 
     def rows_of(self, table: int, policy: int) -> tuple[str, ...]:
         """Which rows a table has by a policy."""
+        if self.asked.is_by_seed:
+            return tuple(map(str, self.asked.seeds))
         if not self.has_seeds:
             return (LEAST,)
         is_first = (table, policy) == (0, 0) or self.asked.is_as_before

@@ -4,7 +4,6 @@ from __future__ import annotations
 from dataclasses import dataclass
 from typing import Optional
 
-from ..figures import thousandths
 from ..refusal import NAME
 from ..samples import growth_of, halves_of
 from ..varying import setting_at
@@ -36,8 +35,7 @@ class Verdict:
         self.known: dict[tuple[str, int, int, int], Judged] = {}
 
     def load(self, load: int) -> str:
-        told = thousandths(load)
-        return f"{told} cores" if self.asked.loads.in_cores else f"load {told}"
+        return self.asked.loads.said(load)
 
     def front(self, table: int, policy: int) -> str:
         """The values that make a table, and the policy where there are several."""
@@ -56,8 +54,11 @@ class Verdict:
     def growth(self, task: int, runs: list[SweptRun]) -> str:
         """That the response of a task grows over the windows of the runs with all seeds; nothing where it does not."""
         asked = self.asked
-        first, after = asked.clock_of(asked.first), asked.clock_of(asked.after)
-        pairs = [pair for it in runs if task in it.samples and (pair := halves_of(it.samples[task], first, after))]
+        pairs = []
+        for it in runs:
+            first, after = map(asked.clock_of, asked.window(it.turns))
+            if task in it.samples and (pair := halves_of(it.samples[task], first, after)):
+                pairs.append(pair)
         grows = growth_of(pairs)
         if asked.is_as_before or grows is None:
             return ""

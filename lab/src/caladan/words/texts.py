@@ -147,6 +147,8 @@ row for each. --seeds N runs each load with N seeds: for each row there are
 three, the least, the median and the greatest of each column by itself; of an
 even number the lower median. A fourth says, for all tables but the first, with
 how many seeds the table beats the first: by a shorter time, or more served.
+With --by-seed there is a row for each seed in their place. `caladan_lab seeds`
+draws both.
 --slo is an objective for a task: p50, p90, p95, p99, p99.9 or max, in ticks, or
 with --tick as 250us. It is kept where at least ten requests lie beyond its
 rank: some 1,000 requests for p99. It is missed where at least ten took longer,
@@ -206,6 +208,9 @@ chrome://tracing open. For arrivals they show the run that
 the turns that worked at it, and arrows from the request to these turns.
 With --pace, --beside, --memory or --figure there must be arrivals, and their
 run is like a machine: docs/VIEWER.md, "Runs like a machine".
+With --commands each slice of a core has the command that says why it began, as
+its argument `explain`; not of a run that is like a machine, which no command
+explains.
 Exit status: 0 done, 2 rejected input, 3 memory or output was refused.
 
 To try it:
