@@ -25,7 +25,10 @@ static void in_child(void) {
     self = NULL;
 }
 static void notice_forks(void) { not_noticed = pthread_atfork(NULL, NULL, in_child); }
-static bool is_of_parent(const caladan_rt *rt) { return rt->forks != forks || getpid() != rt->process; }
+static bool is_of_parent(const caladan_rt *rt) { return rt->forks != forks; }
+/* Also a child by vfork, which has the parent's memory: the kernel alone tells it apart, and to ask it takes longer
+ * than to hand in a request. */
+static bool is_child(const caladan_rt *rt) { return is_of_parent(rt) || getpid() != rt->process; }
 
 uint64_t caladan_rt_now(const caladan_rt *rt) { return host_clock() - rt->epoch; }
 unsigned caladan_rt_threads(const caladan_rt *rt) { return rt->threads; }
@@ -214,7 +217,7 @@ static size_t queue_each(kernel_thread *k, const caladan_request *requests, size
 
 size_t caladan_rt_submit_each(caladan_rt *rt, unsigned thread, const caladan_request *requests, size_t count) {
     kernel_thread *dozer[HOST_LIMIT + 1] = {NULL}, *caller = self;
-    if (thread >= rt->threads || is_of_parent(rt)) return 0;
+    if (thread >= rt->threads || (caller ? is_child(rt) : is_of_parent(rt))) return 0;
     kernel_thread *k = &rt->thread[thread];
     hold(caller);
     lock(k);
@@ -514,8 +517,8 @@ static bool take(caladan_rt *rt, host_segment *segment, int connection) {
 /* Threads go on while it asks for a scheduler, and wait only once there is one. */
 bool caladan_rt_attach_again(caladan_rt *rt) {
     int connection;
-    errno = is_of_parent(rt) ? ECHILD : EISCONN;
-    if (is_of_parent(rt) || !atomic_load(&rt->is_over)) return false;
+    errno = is_child(rt) ? ECHILD : EISCONN;
+    if (is_child(rt) || !atomic_load(&rt->is_over)) return false;
     host_segment *segment = host_meet(rt->name, rt->task, &connection);
     if (segment == NULL) return false;
     if (segment->threads != rt->threads) {
@@ -629,12 +632,12 @@ bool caladan_rt_stands_under(const caladan_rt *rt) { return rt->stands_under; }
 
 int caladan_rt_thread(caladan_rt *rt, pthread_t *thread, const pthread_attr_t *attributes, void *(*start)(void *),
                       void *with) {
-    return is_of_parent(rt) ? ECHILD : helper_thread(rt->helper, thread, attributes, start, with);
+    return is_child(rt) ? ECHILD : helper_thread(rt->helper, thread, attributes, start, with);
 }
 
 int caladan_rt_spawn(caladan_rt *rt, pid_t *pid, const char *path, const posix_spawn_file_actions_t *actions,
                      const posix_spawnattr_t *attributes, char *const *words, char *const *environment) {
-    if (is_of_parent(rt)) return ECHILD;
+    if (is_child(rt)) return ECHILD;
     return helper_spawn(rt->helper, pid, path, actions, attributes, words, environment);
 }
 
@@ -707,8 +710,8 @@ static size_t dismantle(caladan_rt *rt) {
 }
 
 bool caladan_rt_stop(caladan_rt *rt, size_t *unserved) {
-    errno = is_of_parent(rt) ? ECHILD : EDEADLK;
-    if (is_of_parent(rt) || (self && self->rt == rt)) return false;
+    errno = is_child(rt) ? ECHILD : EDEADLK;
+    if (is_child(rt) || (self && self->rt == rt)) return false;
     atomic_store(&rt->stops, true);
     /* the scheduler gives the task up, and the watcher tells the threads */
     if (!atomic_load(&rt->is_over)) shutdown(rt->connection, SHUT_RDWR);

@@ -28,9 +28,9 @@
  *
  * A forked child has no kernel threads and no segment: its parent's runtime is over for it, takes no
  * request, and is not attached again; it may start one of its own, as another task. A child by
- * another call than fork, such as vfork, may call none of these functions, only exec or exit: its
- * requests are refused. While a child by vfork has not called exec or ended, the thread that made it hears
- * no Park: call vfork, or what uses it as system does, from no kernel thread.
+ * another call than fork, such as vfork, may call none of these functions, only exec or exit. (The
+ * requests of one that a kernel thread made are refused.) While a child by vfork has not called exec or
+ * ended, the thread that made it hears no Park: call vfork from no kernel thread.
  *
  * A process that closes all its files (closefrom, as daemons do) closes the connection too: it may
  * lose its task, and a file that it opens next may get the connection's number. So close files

@@ -44,7 +44,7 @@ on_disk() { # a file is called whole only when it is on the disk with all that i
     begin -k 1000 -g 100000 -p 1000
     wrap=()
     wait_for 60 has_pieces 2; timed $? "$what: there are no two pieces: $(cat "$build/said")"
-    kill -TERM "$(pgrep -P "$(pgrep -P $scheduler)")"
+    only_child_of $scheduler && only_child_of "$child" && kill -TERM "$child"
     wait $scheduler; timed $? "$what: its status: $(tail -n 3 "$build/said")"
     [ -s "$build/calls" ] || { skip "$what, for want of rights"; return; }
     # of each piece: its file, its name, its folder

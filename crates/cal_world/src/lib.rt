@@ -1,5 +1,7 @@
-//! The model of all schedules: which lists of events there may be, and what holds of every one. The
-//! events and their rules are Doranjei's.
+//! The model of all schedules: which lists of events there may be. In every one no core runs two
+//! kernel threads, no task has more cores than its limit, and no banned core is granted.
+//!
+//! The events and their rules are Doranjei's.
 #![tactic(auto)]
 
 mod event;

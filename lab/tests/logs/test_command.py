@@ -278,7 +278,8 @@ def test_a_run_knows_its_unit(lab: Lab) -> None:
     _, own, _ = lab("compare", "--vary", "task.0.delay=10", "run")
     assert "task 0 response median [us]" in own
     assert lab("compare", "--vary", "task.0.delay=10", "--tick", "us", "run") == (0, own, "")
-    for words in (["compare", "--vary", "task.0.delay=10"], ["timeline"], ["sweep", "--load", "0.5", "--turns", "20"]):
+    for words in (["compare", "--vary", "task.0.delay=10"], ["timeline"], ["report"],
+                  ["sweep", "--load", "0.5", "--turns", "20"]):
         assert lab(*words, "--tick", "ns", "run") == (2, "", STAMPED)
     assert "p50 [us]" in lab("sweep", "--load", "0.5", "--turns", "20", "run")[1]
     assert lab("log", "log.csv", *HOW, "--tick", "ns", "-o", "run")[0] == 0

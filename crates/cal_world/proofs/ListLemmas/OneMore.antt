@@ -1,11 +1,5 @@
 -- One more member at the end of a list.
-use Rattle.std.proofs.Common.{◌≡◌, ◌≢◌, ℕ, ◌+◌, ◌<◌, ◌≤◌, ◌⊎◌, zero, suc, List, [], ◌∷◌, ◌++◌, length, get_or, set, take, Some, None, refl, sym, ap, ◌∙◌, arith, inl, inr, subst, ⊎_elim}
-use Rattle.std.specs.List.{slice_get}
-use Rattle.std.proofs.Math.ListN.{length-set}
-use Rattle.std.proofs.lemmas.List.{take-append-le, get_or-set_same, get_or-set_other}
-use Rattle.std.proofs.lemmas.Option.{slice_get_cases, slice_get-get_or, slice_get_within, get_or_from_slice_get}
-use Rattle.std.proofs.Math.Seq.{take-append_seam}
-use Rattle.cal_machine.proofs.Places.{slice_get_parts, slice_get_seam}
+use Rattle.cal_world.proofs.Common.{◌≡◌, ◌≢◌, ℕ, ◌+◌, ◌<◌, ◌≤◌, ◌⊎◌, zero, suc, List, [], ◌∷◌, ◌++◌, length, get_or, set, take, Some, None, refl, sym, ap, ◌∙◌, arith, inl, inr, subst, ⊎_elim, slice_get, length-set, take-append-le, get_or-set_same, get_or-set_other, slice_get_cases, slice_get-get_or, slice_get_within, get_or_from_slice_get, take-append_seam, slice_get_parts, slice_get_seam}
 use Rattle.cal_machine.proofs.Last.{take_next}
 
 -- what a list has at a place it has there when more comes after it

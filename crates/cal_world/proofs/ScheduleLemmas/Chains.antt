@@ -1,8 +1,5 @@
 -- The records of a page: each is shaped, and later than those before it.
-use Rattle.std.proofs.Common.{ℕ, ◌<◌, ◌≤◌, zero, suc, List, [], ◌∷◌, length, get_or, arith}
-use Rattle.cal_signal.specs.declared.record.Record.{Record}
-use Rattle.cal_signal.specs.Records.{zero_record, IsLater, IsShaped, MayFollow}
-use Rattle.cal_signal.specs.Pages.{Chain}
+use Rattle.cal_world.proofs.Common.{ℕ, ◌<◌, ◌≤◌, zero, suc, List, [], ◌∷◌, length, get_or, arith, Record, zero_record, IsLater, IsShaped, MayFollow, Chain}
 use Rattle.cal_signal.proofs.Following.{later_trans, later_refl}
 
 later_than_first : (x : Record) (l : List Record) (j : ℕ) → Chain MayFollow x l → j < length (x ∷ l) → IsLater x (get_or (x ∷ l) j zero_record)

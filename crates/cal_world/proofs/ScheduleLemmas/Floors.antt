@@ -1,21 +1,5 @@
 -- Pages and floors only grow.
-use Rattle.std.proofs.Common.{◌≡◌, ℕ, ◌<◌, ◌≤◌, ◌⊎◌, List, [], ◌∷◌, ◌++◌, length, length-append, slice_index_or, inl, inr, refl, ap, ◌∙◌, arith, subst}
-use Rattle.std.proofs.lemmas.Bool.{cases_eq}
-use Rattle.std.proofs.lemmas.List.{get_or_append_left}
-use Rattle.std.proofs.lemmas.List.Elements.{filter_map-append}
-use Rattle.cal_machine.specs.Table.{Table}
-use Rattle.cal_signal.specs.declared.record.Record.{Record}
-use Rattle.cal_signal.specs.Records.{zero_record}
-use Rattle.cal_signal.specs.Pages.{page_of}
-use Rattle.cal_policy.proofs.ListLemmas.OneMore.{each_of_push}
-use Rattle.cal_kthread.specs.Journal.{records_of, record_in}
-use Rattle.cal_world.specs.declared.event.Event.{Event}
-use Rattle.cal_world.specs.declared.event.Event.TheVariants.{Take, Yield, Publish, Read, Skip, Decide, Watch}
-use Rattle.cal_world.specs.declared.illegal.Illegal.TheVariants.{NoSuchPlace}
-use Rattle.cal_world.specs.Projections.{entries_for, journal_in}
-use Rattle.cal_world.specs.Threads.{published_by, read_floor}
-use Rattle.cal_world.specs.Looks.{record_at}
-use Rattle.cal_world.specs.Safe.{IsSafeEvent}
+use Rattle.cal_world.proofs.Common.{◌≡◌, ℕ, ◌<◌, ◌≤◌, ◌⊎◌, List, [], ◌∷◌, ◌++◌, length, length-append, slice_index_or, inl, inr, refl, ap, ◌∙◌, arith, subst, cases_eq, get_or_append_left, filter_map-append, Table, Record, zero_record, page_of, each_of_push, records_of, record_in, Event, Take, Yield, Publish, Read, Skip, Decide, Watch, NoSuchPlace, entries_for, journal_in, published_by, read_floor, record_at, IsSafeEvent}
 use Rattle.cal_world.proofs.ScheduleLemmas.SinceDecide.{floor_same, floor_other, floor_here}
 
 -- an event adds to what a thread published, or nothing

@@ -1,35 +1,12 @@
 -- What holds after each part of a safe list of events, and is kept by each event.
-use Rattle.std.proofs.Common.{◌≡◌, ℕ, ◌+◌, ◌≤◌, true, List, [], ◌∷◌, ◌++◌, length, take, Option, Some, None, refl, sym, ap, ◌∙◌, arith, subst}
-use Rattle.std.specs.List.{slice_get}
-use Rattle.std.specs.Option.{unwrap_or, option_and_then}
-use Rattle.cal_machine.specs.declared.command.Command.TheVariants.{Run}
-use Rattle.cal_machine.specs.Table.{Table, IsTable}
-use Rattle.cal_signal.specs.declared.record.Record.{Record}
-use Rattle.cal_policy.specs.declared.history.look.Seen.{Seen}
-use Rattle.cal_policy.specs.declared.history.look.Seen.TheVariants.{Whole, Busy, Ahead, Foreign}
-use Rattle.cal_policy.specs.declared.history.action.Action.{Action}
-use Rattle.cal_policy.specs.declared.history.entry.PassEntry.{PassEntry}
-use Rattle.cal_policy.specs.History.{actions_of, looks_of}
+use Rattle.cal_world.proofs.Common.{◌≡◌, ℕ, ◌+◌, ◌≤◌, true, List, [], ◌∷◌, ◌++◌, length, take, Option, Some, None, refl, sym, ap, ◌∙◌, arith, subst, slice_get, unwrap_or, option_and_then, Run, Table, IsTable, Record, Seen, Whole, Busy, Ahead, Foreign, Action, PassEntry, actions_of, looks_of, setting_of, kept_now, has_left, IsPermittedHistory, IsPermittedPass, ActionIsOneMore, LookIsOneMore, PermittedIsSafe, Event, Take, Yield, Publish, Read, Skip, Decide, Watch, OutOfTurn, NotThePass, entry_in, history_in, actions_in, published_by, read_floor, looks_since, record_at, IsSafeEvent, IsSafeList, actions_push, looks_push}
 use Rattle.cal_policy.specs.History.Looks.{kept_by, record_to_keep}
-use Rattle.cal_policy.specs.Setting.{setting_of, kept_now}
-use Rattle.cal_policy.specs.Pass.Frees.{has_left}
-use Rattle.cal_guard.specs.Permitted.{IsPermittedHistory, IsPermittedPass}
-use Rattle.cal_policy.specs.Laws.{ActionIsOneMore, LookIsOneMore}
-use Rattle.cal_guard.specs.Histories.{PermittedIsSafe}
-use Rattle.cal_world.specs.declared.event.Event.{Event}
-use Rattle.cal_world.specs.declared.event.Event.TheVariants.{Take, Yield, Publish, Read, Skip, Decide, Watch}
-use Rattle.cal_world.specs.declared.illegal.Illegal.TheVariants.{OutOfTurn, NotThePass}
-use Rattle.cal_world.specs.Projections.{entry_in, history_in, actions_in}
-use Rattle.cal_world.specs.Threads.{published_by, read_floor}
-use Rattle.cal_world.specs.Looks.{looks_since, record_at}
-use Rattle.cal_world.specs.Safe.{IsSafeEvent, IsSafeList}
 use Rattle.cal_world.proofs.ListLemmas.OneMore.{each_more, of_each_part}
 use Rattle.cal_world.proofs.ScheduleLemmas.Journals.{IsConsistent, stands_first}
 use Rattle.cal_world.proofs.ScheduleLemmas.SinceDecide.{LooksInOrder, no_looks, looks_after}
 use Rattle.cal_world.proofs.ScheduleLemmas.Walk.{RunsStand, NoneLeft, runs_through_pass}
 use Rattle.cal_world.proofs.ScheduleLemmas.Moves.{standing_in, moves, decide_stands, history_same, history_more}
 use Rattle.cal_world.proofs.ScheduleLemmas.Floors.{Grows, grows}
-use Rattle.cal_policy.proofs.BoardLemmas.Replayed.{actions_push, looks_push}
 
 -- no record of thread k up to its read floor shows that the core of its command at this place was
 -- left

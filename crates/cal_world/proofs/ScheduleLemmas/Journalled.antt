@@ -1,27 +1,7 @@
 -- What the events say of a thread is a journal.
-use Rattle.std.proofs.Common.{◌≡◌, ℕ, ◌+◌, Bool, true, false, cond, eqb, List, [], ◌∷◌, ◌++◌, length, length-append, take, Option, Some, None, refl, sym, ap, ◌∙◌, ◌≤◌, arith, subst}
-use Rattle.std.specs.Option.{IsSome}
-use Rattle.std.proofs.lemmas.Bool.{eqb-true}
-use Rattle.std.proofs.lemmas.List.{append-nil}
+use Rattle.cal_world.proofs.Common.{◌≡◌, ℕ, ◌+◌, Bool, true, false, cond, eqb, List, [], ◌∷◌, ◌++◌, length, length-append, take, Option, Some, None, refl, sym, ap, ◌∙◌, ◌≤◌, arith, subst, IsSome, eqb-true, append-nil, Command, Table, IsTable, Record, zero_record, MayFollow, Chain, ActionIsOneMore, LookIsOneMore, PermittedIsSafe, each_of_push, Entry, Took, Yielded, Published, records_of, MayStand, StandAfter, IsJournal, Event, Take, Yield, Publish, Read, Skip, Decide, Watch, entries_for, journal_in, takes_in, publishes_in, is_publish_by, next_command, took, running_on, published_by, IsItsState, IsSafeEvent, IsSafeList}
 use Rattle.std.proofs.lemmas.List.Sums.{sum_by-append}
-use Rattle.cal_machine.specs.declared.command.Command.{Command}
-use Rattle.cal_machine.specs.Table.{Table, IsTable}
-use Rattle.cal_signal.specs.declared.record.Record.{Record}
-use Rattle.cal_signal.specs.Records.{zero_record, MayFollow}
-use Rattle.cal_signal.specs.Pages.{Chain}
-use Rattle.cal_policy.specs.Laws.{ActionIsOneMore, LookIsOneMore}
-use Rattle.cal_guard.specs.Histories.{PermittedIsSafe}
-use Rattle.cal_policy.proofs.ListLemmas.OneMore.{each_of_push}
-use Rattle.cal_kthread.specs.declared.journal.entry.Entry.{Entry}
-use Rattle.cal_kthread.specs.declared.journal.entry.Entry.TheVariants.{Took, Yielded, Published}
-use Rattle.cal_kthread.specs.Journal.{records_of, MayStand, StandAfter, IsJournal}
-use Rattle.cal_world.specs.declared.event.Event.{Event}
-use Rattle.cal_world.specs.declared.event.Event.TheVariants.{Take, Yield, Publish, Read, Skip, Decide, Watch}
 use Rattle.cal_world.specs.declared.illegal.Illegal.TheVariants as causes
-use Rattle.cal_world.specs.Projections.{entries_for, journal_in, takes_in, publishes_in, is_publish_by, next_command, took}
-use Rattle.cal_world.specs.Threads.{running_on, published_by}
-use Rattle.cal_world.specs.World.{IsItsState}
-use Rattle.cal_world.specs.Safe.{IsSafeEvent, IsSafeList}
 use Rattle.cal_world.proofs.ListLemmas.OneMore.{of_each_part}
 use Rattle.cal_world.proofs.ScheduleLemmas.Floors.{published_more}
 use Rattle.cal_world.proofs.ScheduleLemmas.Invariant.{Holds, holds_first, holds_more}

@@ -1,21 +1,6 @@
 -- Where a kernel thread stands by its journal, the commands that were sent to it, and the record
 -- that is kept of it.
-use Rattle.std.proofs.Common.{◌≡◌, ℕ, ◌+◌, ◌-◌, ◌<◌, ◌≤◌, zero, suc, true, false, List, [], ◌∷◌, ◌++◌, length, length-append, get_or, take, Option, Some, None, refl, sym, ap, ◌∙◌, arith, subst, ⊎_elim}
-use Rattle.std.specs.List.{slice_get}
-use Rattle.std.specs.Option.{IsSome, is_some, option_or}
-use Rattle.std.proofs.lemmas.List.{take-append-le, get_or_past, get_or_append_left}
-use Rattle.std.proofs.Math.Seq.{get_or-append_seam}
-use Rattle.std.proofs.lemmas.Bool.{cases_lt}
-use Rattle.std.proofs.lemmas.Option.{slice_get_within}
-use Rattle.cal_machine.specs.declared.command.Command.{Command}
-use Rattle.cal_machine.specs.declared.command.Command.TheVariants.{Run, Park}
-use Rattle.cal_signal.specs.declared.record.Record.{Record}
-use Rattle.cal_signal.specs.Records.{zero_record}
-use Rattle.cal_signal.specs.Pages.{page_of}
-use Rattle.cal_kthread.specs.declared.journal.entry.Entry.TheVariants.{Took, Yielded}
-use Rattle.cal_kthread.specs.Journal.{State, first_state, core_after, changed_by}
-use Rattle.cal_signal.specs.Records.{running_word}
-use Rattle.cal_world.specs.Threads.{run_number}
+use Rattle.cal_world.proofs.Common.{◌≡◌, ℕ, ◌+◌, ◌-◌, ◌<◌, ◌≤◌, zero, suc, true, false, List, [], ◌∷◌, ◌++◌, length, length-append, get_or, take, Option, Some, None, refl, sym, ap, ◌∙◌, arith, subst, ⊎_elim, slice_get, IsSome, is_some, option_or, take-append-le, get_or_past, get_or_append_left, get_or-append_seam, cases_lt, slice_get_within, Command, Run, Park, Record, zero_record, running_word, page_of, Took, Yielded, State, first_state, core_after, changed_by, run_number}
 use Rattle.cal_world.proofs.ListLemmas.OneMore.{slice_get_left, get_or_push}
 use Rattle.cal_machine.proofs.Last.{take_next}
 

@@ -1,30 +1,6 @@
 -- Pages and looks, one event more.
-use Rattle.std.proofs.Common.{◌≡◌, ℕ, ◌+◌, ◌-◌, ◌<◌, zero, suc, Bool, true, false, cond, eqb, List, [], ◌∷◌, ◌++◌, length, get_or, set, Option, Some, None, refl, sym, ap, ◌∙◌, arith, subst, ⊎_elim}
-use Rattle.std.specs.List.{slice_get, filter_map}
-use Rattle.std.proofs.Math.Seq.{take-length}
-use Rattle.std.proofs.lemmas.List.{append-nil}
-use Rattle.std.proofs.lemmas.Bool.{cases_eq}
-use Rattle.std.proofs.lemmas.Bool.Decides.{nat_tests}
-use Rattle.std.proofs.lemmas.Option.{slice_get_read}
-use Rattle.cal_machine.specs.Table.{Table}
-use Rattle.cal_signal.specs.declared.record.Record.{Record}
-use Rattle.cal_signal.specs.Records.{zero_record}
-use Rattle.cal_signal.specs.Pages.{page_of, last_from, last_published}
-use Rattle.cal_policy.specs.declared.history.look.Seen.{Seen}
-use Rattle.cal_policy.specs.declared.history.look.Seen.TheVariants.{Whole, Busy, Ahead, Foreign}
-use Rattle.cal_policy.specs.Laws.{ActionIsOneMore, LookIsOneMore}
-use Rattle.cal_guard.specs.Histories.{PermittedIsSafe}
-use Rattle.cal_kthread.specs.declared.journal.entry.Entry.TheVariants.{Published}
-use Rattle.cal_kthread.specs.Journal.{records_of}
-use Rattle.cal_world.specs.declared.event.Event.{Event}
-use Rattle.cal_world.specs.declared.event.Event.TheVariants.{Take, Yield, Publish, Read, Skip, Decide, Watch}
-use Rattle.cal_world.specs.Projections.{entries_for, publishes_in}
-use Rattle.cal_world.specs.Threads.{page_in, published_by}
-use Rattle.cal_world.specs.Looks.{decided_at, look_made, looks_since, since_decide, record_at}
+use Rattle.cal_world.proofs.Common.{◌≡◌, ℕ, ◌+◌, ◌-◌, ◌<◌, zero, suc, Bool, true, false, cond, eqb, List, [], ◌∷◌, ◌++◌, length, get_or, set, Option, Some, None, refl, sym, ap, ◌∙◌, arith, subst, ⊎_elim, slice_get, filter_map, take-length, append-nil, cases_eq, nat_tests, slice_get_read, Table, Record, zero_record, page_of, last_from, last_published, Seen, Whole, Busy, Ahead, Foreign, ActionIsOneMore, LookIsOneMore, PermittedIsSafe, Published, records_of, Event, Take, Yield, Publish, Read, Skip, Decide, Watch, entries_for, publishes_in, page_in, published_by, decided_at, look_made, looks_since, since_decide, record_at, IsSafeEvent, looks_with, LooksGoOn, PagesAreOf}
 use Rattle.cal_world.specs.Policies.{LegalListsAreSafeBy}
-use Rattle.cal_world.specs.Safe.{IsSafeEvent}
-use Rattle.cal_world.specs.World.Present.{looks_with, LooksGoOn}
-use Rattle.cal_world.specs.World.Standing.{PagesAreOf}
 use Rattle.cal_world.proofs.ListLemmas.OneMore.{slice_get_set_same, slice_get_set_other, same_lists, each_last}
 use Rattle.cal_world.proofs.ScheduleLemmas.Pasts.{list_more}
 use Rattle.cal_world.proofs.ScheduleLemmas.SinceDecide.{looks_same, looks_more, looks_length, since_none}

@@ -1,32 +1,7 @@
 -- What one event makes of where each thread stands.
-use Rattle.std.proofs.Common.{◌≡◌, ℕ, ◌+◌, ◌<◌, Bool, true, false, cond, eqb, List, [], ◌∷◌, ◌++◌, Option, Some, None, refl, sym, ap, ◌∙◌, arith, subst, append_assoc, ⊎_elim}
-use Rattle.std.specs.List.{filter_map}
-use Rattle.std.specs.Option.{option_or}
-use Rattle.std.proofs.lemmas.Bool.{eqb-true}
-use Rattle.std.proofs.lemmas.List.{append-nil}
-use Rattle.std.proofs.lemmas.List.Elements.{filter_map-append}
+use Rattle.cal_world.proofs.Common.{◌≡◌, ℕ, ◌+◌, ◌<◌, Bool, true, false, cond, eqb, List, [], ◌∷◌, ◌++◌, Option, Some, None, refl, sym, ap, ◌∙◌, arith, subst, append_assoc, ⊎_elim, filter_map, option_or, eqb-true, append-nil, filter_map-append, slice_get_cases, Command, Table, Record, Action, PassEntry, actions_of, commands_to, sends, sent_to, ActionIsOneMore, last_of_push, each_of_push, Entry, Took, Yielded, Published, State, state_after, first_state, changed_by, records_of, record_in, commands_of, command_in, Event, Take, Yield, Publish, Read, Skip, Decide, Watch, entry_in, history_in, actions_in, is_take_by, takes_in, publishes_in, next_command, took, entries_for, journal_in, state_in, run_number, last_run_of, last_run, published_by, HasCommand, IsItsState, IsSafeEvent, NothingSent, NotItsState, actions_push}
 use Rattle.std.proofs.lemmas.List.Sums.{sum_by-append}
-use Rattle.std.proofs.lemmas.Option.{slice_get_cases}
-use Rattle.cal_machine.specs.declared.command.Command.{Command}
-use Rattle.cal_machine.specs.Table.{Table}
-use Rattle.cal_signal.specs.declared.record.Record.{Record}
-use Rattle.cal_policy.specs.declared.history.action.Action.{Action}
-use Rattle.cal_policy.specs.declared.history.entry.PassEntry.{PassEntry}
-use Rattle.cal_policy.specs.History.{actions_of, commands_to, sends, sent_to}
-use Rattle.cal_policy.specs.Laws.{ActionIsOneMore}
-use Rattle.cal_policy.proofs.ListLemmas.OneMore.{last_of_push, each_of_push}
-use Rattle.cal_kthread.specs.declared.journal.entry.Entry.{Entry}
-use Rattle.cal_kthread.specs.declared.journal.entry.Entry.TheVariants.{Took, Yielded, Published}
-use Rattle.cal_kthread.specs.Journal.{State, state_after, first_state, changed_by, records_of, record_in, commands_of, command_in}
-use Rattle.cal_world.specs.declared.event.Event.{Event}
-use Rattle.cal_world.specs.declared.event.Event.TheVariants.{Take, Yield, Publish, Read, Skip, Decide, Watch}
-use Rattle.cal_world.specs.Projections.{entry_in, history_in, actions_in, is_take_by, takes_in, publishes_in, next_command, took, entries_for, journal_in}
-use Rattle.cal_world.specs.Threads.{state_in, run_number, last_run_of, last_run, published_by}
-use Rattle.cal_world.specs.World.{HasCommand, IsItsState}
-use Rattle.cal_world.specs.Safe.{IsSafeEvent}
-use Rattle.cal_world.specs.declared.illegal.Illegal.TheVariants.{NothingSent, NotItsState}
 use Rattle.cal_world.proofs.ScheduleLemmas.Journals.{Standing, IsConsistent, took_one, stands_took, gave_up, stands_off, showed, stands_showed, sent_more, stands_sent}
-use Rattle.cal_policy.proofs.BoardLemmas.Replayed.{actions_push}
 use Rattle.cal_kthread.proofs.JournalLemmas.OneEntryMore.{state-push}
 
 -- where thread k stands after these events, with this journal and this history

@@ -1,19 +1,5 @@
 -- Past the last thread of the table nothing runs.
-use Rattle.std.proofs.Common.{◌≡◌, ℕ, ◌+◌, ◌<◌, ◌≤◌, Bool, false, cond, eqb, List, [], ◌∷◌, length, take, None, refl, ap, ◌∙◌, arith, subst}
-use Rattle.std.proofs.Math.Seq.{take-length}
-use Rattle.std.proofs.lemmas.Bool.Decides.{nat_tests}
-use Rattle.cal_machine.specs.Table.{Table}
-use Rattle.cal_machine.specs.TableTasks.{threads_of_table}
-use Rattle.cal_policy.specs.declared.policy.Policy.{Policy}
-use Rattle.cal_kthread.specs.declared.journal.entry.Entry.{Entry}
-use Rattle.cal_kthread.specs.declared.journal.entry.Entry.TheVariants.{Yielded, Published}
-use Rattle.cal_kthread.specs.Journal.{state_after}
-use Rattle.cal_world.specs.declared.event.Event.{Event}
-use Rattle.cal_world.specs.declared.event.Event.TheVariants.{Take, Yield, Publish, Read, Skip, Decide, Watch}
-use Rattle.cal_world.specs.declared.illegal.Illegal.TheVariants.{NoThread}
-use Rattle.cal_world.specs.Projections.{entries_for, journal_in, next_command, publishes_in, takes_in, took}
-use Rattle.cal_world.specs.Threads.{running_on}
-use Rattle.cal_world.specs.World.{IsAllowedBy, IsLegalListBy}
+use Rattle.cal_world.proofs.Common.{◌≡◌, ℕ, ◌+◌, ◌<◌, ◌≤◌, Bool, false, cond, eqb, List, [], ◌∷◌, length, take, None, refl, ap, ◌∙◌, arith, subst, take-length, nat_tests, Table, threads_of_table, Policy, Entry, Yielded, Published, state_after, Event, Take, Yield, Publish, Read, Skip, Decide, Watch, NoThread, entries_for, journal_in, next_command, publishes_in, takes_in, took, running_on, IsAllowedBy, IsLegalListBy}
 use Rattle.cal_world.proofs.ListLemmas.OneMore.{of_each_part}
 use Rattle.cal_world.proofs.ScheduleLemmas.Moves.{journal_same}
 

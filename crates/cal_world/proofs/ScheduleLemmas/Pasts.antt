@@ -1,9 +1,5 @@
 -- A legal list, one event more.
-use Rattle.std.proofs.Common.{List, [], ◌∷◌, ◌++◌}
-use Rattle.cal_machine.specs.Table.{Table}
-use Rattle.cal_policy.specs.declared.policy.Policy.{Policy}
-use Rattle.cal_world.specs.declared.event.Event.{Event}
-use Rattle.cal_world.specs.World.{IsAllowedBy, IsLegalListBy}
+use Rattle.cal_world.proofs.Common.{List, [], ◌∷◌, ◌++◌, Table, Policy, Event, IsAllowedBy, IsLegalListBy}
 use Rattle.cal_world.proofs.ListLemmas.OneMore.{each_more}
 
 pub list_more : (policy : Policy) (table : Table) (events : List Event) (event : Event) → IsLegalListBy policy table events → IsAllowedBy policy table events event → IsLegalListBy policy table (events ++ event ∷ [])

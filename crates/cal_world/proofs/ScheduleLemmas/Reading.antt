@@ -1,49 +1,16 @@
 -- In a list whose Skips are all of busy looks, what was last shown of a thread was read on its
 -- page, and a record that was read is neither ahead nor foreign.
-use Rattle.std.proofs.Common.{◌≡◌, ℕ, ◌+◌, ◌-◌, ◌<◌, ◌≤◌, zero, suc, Bool, true, false, ◌&&◌, not, cond, eqb, leb, ltb, List, [], ◌∷◌, ◌++◌, length, take, Option, Some, None, refl, sym, ap, ◌∙◌, arith, subst, ⊎_elim}
-use Rattle.std.specs.List.{slice_get, filter_map}
-use Rattle.std.specs.Option.{unwrap_or, option_and_then}
-use Rattle.std.proofs.Math.Seq.{take-length}
-use Rattle.std.proofs.lemmas.Bool.{eqb-true, and_parts, leb-true}
-use Rattle.std.proofs.lemmas.Bool.Decides.{nat_tests}
-use Rattle.std.proofs.lemmas.List.{append-nil}
-use Rattle.cal_machine.specs.Table.{Table, IsTable}
-use Rattle.cal_signal.specs.declared.record.Record.{Record}
-use Rattle.cal_signal.specs.Records.{zero_record, IsLater, MayFollow}
-use Rattle.cal_signal.specs.Pages.{Chain}
+use Rattle.cal_world.proofs.Common.{◌≡◌, ℕ, ◌+◌, ◌-◌, ◌<◌, ◌≤◌, zero, suc, Bool, true, false, ◌&&◌, not, cond, eqb, leb, ltb, List, [], ◌∷◌, ◌++◌, length, take, Option, Some, None, refl, sym, ap, ◌∙◌, arith, subst, ⊎_elim, slice_get, filter_map, unwrap_or, option_and_then, take-length, eqb-true, and_parts, leb-true, nat_tests, append-nil, Table, IsTable, Record, zero_record, IsLater, MayFollow, Chain, Seen, Whole, Busy, Ahead, Foreign, ActionIsOneMore, LookIsOneMore, ArePermitted, PermittedIsSafe, Policy, pass_by, setting_of, Holder, Action, PassEntry, looks_of, holder_of, sent_to, placement_of, Event, Take, Yield, Publish, Read, Skip, Decide, Watch, history_in, actions_in, entries_for, publishes_in, takes_in, next_command, took, entry_in, published_by, read_floor, look_made, looks_since, since_decide, record_at, decided_at, IsItsState, IsAllowedBy, IsSafeEvent, IsSafeList, Command, Yielded, Published, records_of, slice_get_parts, looks_push, pass_from}
 use Rattle.cal_signal.proofs.PageLists.{chain_snoc}
-use Rattle.cal_policy.specs.declared.history.look.Seen.{Seen}
-use Rattle.cal_policy.specs.declared.history.look.Seen.TheVariants.{Whole, Busy, Ahead, Foreign}
-use Rattle.cal_policy.specs.Laws.{ActionIsOneMore, LookIsOneMore}
-use Rattle.cal_guard.specs.Permitted.{ArePermitted}
-use Rattle.cal_guard.specs.Histories.{PermittedIsSafe}
 use Rattle.cal_signal.specs.declared.look.Look.TheVariants as found
-use Rattle.cal_policy.specs.declared.policy.Policy.{Policy}
-use Rattle.cal_policy.specs.Policies.{pass_by}
-use Rattle.cal_policy.specs.Setting.{setting_of}
 use Rattle.cal_signal.specs.declared.shown.Shown.{Shown}
 use Rattle.cal_policy.specs.declared.board.holders.Placement as placements
-use Rattle.cal_policy.specs.declared.board.holders.Holder.{Holder}
 use Rattle.cal_policy.specs.declared.board.holders.Holder.TheVariants as holders
-use Rattle.cal_policy.specs.declared.history.action.Action.{Action}
-use Rattle.cal_policy.specs.declared.history.entry.PassEntry.{PassEntry}
-use Rattle.cal_policy.specs.History.{looks_of, holder_of, sent_to}
-use Rattle.cal_policy.specs.Board.{placement_of}
 use Rattle.cal_policy.specs.Judgement.Judging.{judged, is_foreign, is_acknowledged_by, IsFitLook, IsInput}
 use Rattle.cal_signal.specs.Shown.{IsFitShown}
 use Rattle.cal_policy.specs.History.Looks.{last_shown, shown_at, shown_by, look_of}
-use Rattle.cal_world.specs.declared.event.Event.{Event}
-use Rattle.cal_world.specs.declared.event.Event.TheVariants.{Take, Yield, Publish, Read, Skip, Decide, Watch}
 use Rattle.cal_world.specs.declared.illegal.Illegal.TheVariants as causes
-use Rattle.cal_world.specs.Projections.{history_in, actions_in, entries_for, publishes_in, takes_in, next_command, took, entry_in}
-use Rattle.cal_world.specs.Threads.{published_by, read_floor}
-use Rattle.cal_world.specs.Looks.{look_made, looks_since, since_decide, record_at, decided_at}
-use Rattle.cal_world.specs.World.{IsItsState, IsAllowedBy}
-use Rattle.cal_world.specs.Safe.{IsSafeEvent, IsSafeList}
 use Rattle.cal_world.specs.Reads.{IsBusy, SkipsBusy, AllSkipsAreBusy, IsOnReads, ReadsAreWhole}
-use Rattle.cal_machine.specs.declared.command.Command.{Command}
-use Rattle.cal_kthread.specs.declared.journal.entry.Entry.TheVariants.{Yielded, Published}
-use Rattle.cal_kthread.specs.Journal.{records_of}
 use Rattle.cal_world.proofs.ListLemmas.OneMore.{of_each_part}
 use Rattle.cal_world.proofs.ScheduleLemmas.Chains.{later_at, shaped_at, zero_shaped}
 use Rattle.cal_world.proofs.ScheduleLemmas.SinceDecide.{LooksInOrder, looks_same, looks_more, since_none}
@@ -51,10 +18,7 @@ use Rattle.cal_world.proofs.ScheduleLemmas.Floors.{Grows, grows, published_more}
 use Rattle.cal_world.proofs.ScheduleLemmas.Moves.{history_same, history_more}
 use Rattle.cal_world.proofs.ScheduleLemmas.Walk.{by_run}
 use Rattle.cal_world.proofs.ScheduleLemmas.Invariant.{Holds, unleft_in, holds_first, holds_more}
-use Rattle.cal_machine.proofs.Places.{slice_get_parts}
 use Rattle.cal_policy.proofs.HistoryLemmas.OneMore.{shown_push}
-use Rattle.cal_policy.proofs.BoardLemmas.Replayed.{looks_push}
-use Rattle.cal_policy.proofs.PolicyLemmas.{pass_from}
 
 -- what was published is in order
 

@@ -1,27 +1,9 @@
 -- What the invariant says of the threads that run.
-use Rattle.std.proofs.Common.{◌≡◌, ℕ, ◌+◌, ◌<◌, true, eqb, leb, List, length, take, Option, Some, None, refl, sym, ap, ◌∙◌, arith, subst}
-use Rattle.std.specs.Option.{is_some, unwrap_or}
-use Rattle.std.proofs.Math.Seq.{take-length}
-use Rattle.std.proofs.lemmas.Bool.{and_parts, leb-true, eqb-true}
-use Rattle.cal_machine.specs.Table.{Table, IsTable}
+use Rattle.cal_world.proofs.Common.{◌≡◌, ℕ, ◌+◌, ◌<◌, true, eqb, leb, List, length, take, Option, Some, None, refl, sym, ap, ◌∙◌, arith, subst, is_some, unwrap_or, take-length, and_parts, leb-true, eqb-true, Table, IsTable, Holder, holder_of, actions_of, commands_to, placement_of, has_left, PassEntry, IsPermittedHistory, owner_of, threads_of_table, PermittedIsSteady, commands_of, Event, history_in, actions_in, journal_in, state_in, running_on, last_run, runs_for, record_at, IsByItsLastRun, RunsWithinLimit}
 use Rattle.cal_policy.specs.declared.board.holders.Placement as placements
-use Rattle.cal_policy.specs.declared.board.holders.Holder.{Holder}
 use Rattle.cal_policy.specs.declared.board.holders.Holder.TheVariants as holders
-use Rattle.cal_policy.specs.History.{holder_of, actions_of, commands_to}
-use Rattle.cal_policy.specs.Board.{placement_of}
 use Rattle.cal_policy.specs.Board.Counts.{is_booked_for}
-use Rattle.cal_policy.specs.Pass.Frees.{has_left}
-use Rattle.cal_policy.specs.declared.history.entry.PassEntry.{PassEntry}
-use Rattle.cal_guard.specs.Permitted.{IsPermittedHistory}
-use Rattle.cal_machine.specs.TableTasks.{owner_of, threads_of_table}
-use Rattle.cal_guard.specs.Histories.{PermittedIsSteady}
 use Rattle.cal_policy.specs.Pass.Steady.{IsSteady}
-use Rattle.cal_kthread.specs.Journal.{commands_of}
-use Rattle.cal_world.specs.declared.event.Event.{Event}
-use Rattle.cal_world.specs.Projections.{history_in, actions_in, journal_in}
-use Rattle.cal_world.specs.Threads.{state_in, running_on, last_run, runs_for}
-use Rattle.cal_world.specs.Looks.{record_at}
-use Rattle.cal_world.specs.Schedules.{IsByItsLastRun, RunsWithinLimit}
 use Rattle.cal_world.proofs.ScheduleLemmas.Invariant.{Holds, unleft_in}
 use Rattle.cal_world.proofs.ScheduleLemmas.Walk.{by_run}
 use Rattle.cal_world.proofs.ListLemmas.Counted.{count_put}

@@ -1,22 +1,9 @@
 -- Legal lists are safe.
-use Rattle.std.proofs.Common.{◌≡◌, ℕ, ◌≤◌, List, [], ◌∷◌, ◌++◌, length, take, None, refl, sym, arith, subst}
-use Rattle.std.proofs.lemmas.Option.{slice_get_within}
-use Rattle.cal_machine.specs.Table.{Table, IsTable}
-use Rattle.cal_policy.specs.declared.history.entry.PassEntry.{PassEntry}
-use Rattle.cal_policy.specs.declared.policy.Policy.{Policy}
-use Rattle.cal_policy.specs.Policies.{IsLegalBy}
-use Rattle.cal_guard.specs.Permitted.{IsPermittedPass}
-use Rattle.cal_guard.specs.Histories.{EachPolicyIsPermitted}
-use Rattle.cal_world.specs.declared.event.Event.{Event}
-use Rattle.cal_world.specs.declared.event.Event.TheVariants.{Take, Yield, Publish, Read, Skip, Decide, Watch}
+use Rattle.cal_world.proofs.Common.{◌≡◌, ℕ, ◌≤◌, List, [], ◌∷◌, ◌++◌, length, take, None, refl, sym, arith, subst, slice_get_within, Table, IsTable, PassEntry, Policy, IsLegalBy, IsPermittedPass, EachPolicyIsPermitted, Event, Take, Yield, Publish, Read, Skip, Decide, Watch, history_in, entry_in, IsAllowedBy, IsLegalListBy, IsPermittedDecide, IsSafeEvent, LegalListsAreSafe, OfSafeLists, OfLegalLists, legal_more_by, legal_none_by}
 use Rattle.cal_world.specs.declared.illegal.Illegal.TheVariants as causes
-use Rattle.cal_world.specs.Projections.{history_in, entry_in}
 use Rattle.cal_world.specs.Policies.{LegalListsAreSafeBy}
-use Rattle.cal_world.specs.World.{IsAllowedBy, IsLegalListBy}
-use Rattle.cal_world.specs.Safe.{IsPermittedDecide, IsSafeEvent, LegalListsAreSafe, OfSafeLists, OfLegalLists}
 use Rattle.cal_world.proofs.ListLemmas.OneMore.{each_last, of_each_part}
 use Rattle.cal_world.proofs.ScheduleLemmas.Moves.{history_same, history_more}
-use Rattle.cal_policy.proofs.PolicyLemmas.{legal_more_by, legal_none_by}
 
 legal_same : (policy : Policy) (table : Table) (before : List Event) (event : Event) → entry_in event ≡ None → IsLegalBy policy table (history_in before) → IsLegalBy policy table (history_in (before ++ event ∷ []))
 legal_same policy table before event none was = subst (IsLegalBy policy table) (sym (history_same before event none)) was

@@ -1,24 +1,6 @@
 -- The looks since the last Decide, one event more: they stand in thread order.
-use Rattle.std.proofs.Common.{◌≡◌, ℕ, ◌+◌, ◌≤◌, zero, suc, Bool, true, false, cond, eqb, List, [], ◌∷◌, ◌++◌, length, length-append, drop, Option, Some, None, refl, sym, ap, ◌∙◌, arith, subst, ⊎_elim}
-use Rattle.std.specs.List.{slice_get, filter_map}
-use Rattle.std.specs.Option.{unwrap_or, option_or}
-use Rattle.std.proofs.lemmas.List.{append-nil, drop-append-le}
-use Rattle.std.proofs.lemmas.List.Elements.{filter_map-append}
-use Rattle.std.proofs.lemmas.Bool.Decides.{nat_tests}
-use Rattle.std.proofs.lemmas.Option.{slice_get_within}
-use Rattle.std.proofs.Math.ListN.{drop_of_length-le}
-use Rattle.cal_machine.specs.Table.{Table}
-use Rattle.cal_policy.specs.declared.history.look.Seen.{Seen}
-use Rattle.cal_policy.specs.declared.history.look.Seen.TheVariants.{Whole, Busy, Ahead, Foreign}
-use Rattle.cal_policy.specs.declared.history.entry.PassEntry.{PassEntry}
+use Rattle.cal_world.proofs.Common.{◌≡◌, ℕ, ◌+◌, ◌≤◌, zero, suc, Bool, true, false, cond, eqb, List, [], ◌∷◌, ◌++◌, length, length-append, drop, Option, Some, None, refl, sym, ap, ◌∙◌, arith, subst, ⊎_elim, slice_get, filter_map, unwrap_or, option_or, append-nil, drop-append-le, filter_map-append, nat_tests, slice_get_within, drop_of_length-le, Table, Seen, Whole, Busy, Ahead, Foreign, PassEntry, last_of_push, unwrap_or_or, Event, Take, Yield, Publish, Read, Skip, Decide, Watch, decided_at, since_decide, record_at, look_made, looks_since, place_read, read_floor, KeepsNone, IsInTurn, slice_get_parts}
 use Rattle.cal_policy.specs.History.Lists.{last_after, last_of}
-use Rattle.cal_policy.proofs.ListLemmas.OneMore.{last_of_push, unwrap_or_or}
-use Rattle.cal_world.specs.declared.event.Event.{Event}
-use Rattle.cal_world.specs.declared.event.Event.TheVariants.{Take, Yield, Publish, Read, Skip, Decide, Watch}
-use Rattle.cal_world.specs.Looks.{decided_at, since_decide, record_at, look_made, looks_since}
-use Rattle.cal_world.specs.Threads.{place_read, read_floor}
-use Rattle.cal_world.specs.World.{KeepsNone, IsInTurn}
-use Rattle.cal_machine.proofs.Places.{slice_get_parts}
 
 -- the last Decide is within the list
 within_one : (before : List Event) (event : Event) → unwrap_or (decided_at before event) 0 ≤ length before + 1

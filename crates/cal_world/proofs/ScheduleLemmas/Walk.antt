@@ -1,35 +1,15 @@
 -- A Run that is live stands: through a pass its core stays with its thread.
-use Rattle.std.proofs.Common.{◌≡◌, ℕ, ◌+◌, ◌<◌, ◌⊎◌, Bool, true, false, cond, eqb, List, [], ◌∷◌, ◌++◌, length, take, Some, None, refl, sym, ap, ◌∙◌, arith, subst, append_assoc, ⊎_elim}
-use Rattle.std.specs.List.{slice_get}
-use Rattle.std.specs.Option.{unwrap_or}
-use Rattle.std.proofs.lemmas.Bool.{eqb-true}
-use Rattle.std.proofs.lemmas.Bool.Decides.{nat_tests}
-use Rattle.std.proofs.lemmas.List.{append-nil}
-use Rattle.std.proofs.Math.Seq.{take-append_seam, take-length}
-use Rattle.cal_machine.specs.declared.command.Command.TheVariants.{Run, Park}
-use Rattle.cal_machine.specs.Table.{Table}
-use Rattle.cal_signal.specs.declared.record.Record.{Record}
-use Rattle.cal_policy.specs.declared.history.action.Action.{Action}
+use Rattle.cal_world.proofs.Common.{◌≡◌, ℕ, ◌+◌, ◌<◌, ◌⊎◌, Bool, true, false, cond, eqb, List, [], ◌∷◌, ◌++◌, length, take, Some, None, refl, sym, ap, ◌∙◌, arith, subst, append_assoc, ⊎_elim, slice_get, unwrap_or, eqb-true, nat_tests, append-nil, take-append_seam, take-length, Run, Park, Table, Record, Action, PassEntry, Holder, actions_of, holder_of, holder_made, commands_to, sends, last_thread, last_placement, left_by, placed, placement_of, Setting, setting_of, so_far, kept_now, shows_left, has_left, IsPermittedHistory, ActionIsOneMore, PermittedIsSafe, slice_get_parts, slice_get_seam}
 use Rattle.cal_policy.specs.declared.history.action.Action.TheVariants.{Free, Unban, Ban, Revoke, Cap, Grant}
 use Rattle.cal_policy.specs.declared.history.action.Cause.{Cause}
-use Rattle.cal_policy.specs.declared.history.entry.PassEntry.{PassEntry}
 use Rattle.cal_policy.specs.declared.board.holders.Placement as placements
-use Rattle.cal_policy.specs.declared.board.holders.Holder.{Holder}
 use Rattle.cal_policy.specs.declared.board.holders.Holder.TheVariants as holders
-use Rattle.cal_policy.specs.History.{actions_of, holder_of, holder_made, commands_to, sends, last_thread, last_placement, left_by, placed}
 use Rattle.cal_policy.specs.Board.Counts.{is_free}
-use Rattle.cal_policy.specs.Board.{placement_of}
-use Rattle.cal_policy.specs.Setting.{Setting, setting_of, so_far, kept_now}
-use Rattle.cal_policy.specs.Pass.Frees.{shows_left, has_left}
-use Rattle.cal_guard.specs.Permitted.{IsPermittedHistory}
 use Rattle.cal_policy.specs.Pass.Steady.{IsSteady}
 use Rattle.cal_laws.specs.Safe.{IsSafe}
-use Rattle.cal_policy.specs.Laws.{ActionIsOneMore}
-use Rattle.cal_guard.specs.Histories.{PermittedIsSafe}
 use Rattle.cal_laws.proofs.ChoiceLemmas.Granted.{gives_free, free_nobody}
 use Rattle.cal_world.proofs.ListLemmas.OneMore.{of_each_part}
 use Rattle.cal_machine.proofs.Booleans.{unwrap_if}
-use Rattle.cal_machine.proofs.Places.{slice_get_parts, slice_get_seam}
 use Rattle.cal_laws.proofs.ExclusionLemmas.Standing.{one_sent}
 
 -- the placement of thread k by the command at this place among those sent to it

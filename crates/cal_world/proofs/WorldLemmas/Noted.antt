@@ -1,29 +1,11 @@
 -- What one event makes of what is known of a thread.
-use Rattle.std.proofs.Common.{◌≡◌, ℕ, ◌+◌, zero, suc, Bool, true, false, cond, eqb, List, [], ◌∷◌, ◌++◌, length, set, Option, Some, None, refl, sym, ap, ◌∙◌, arith, subst, ⊎_elim}
-use Rattle.std.specs.Option.{unwrap_or}
-use Rattle.std.proofs.lemmas.Bool.Decides.{nat_tests}
-use Rattle.cal_machine.specs.declared.command.Command.{Command}
-use Rattle.cal_signal.specs.declared.record.Record.{Record}
+use Rattle.cal_world.proofs.Common.{◌≡◌, ℕ, ◌+◌, zero, suc, Bool, true, false, cond, eqb, List, [], ◌∷◌, ◌++◌, length, set, Option, Some, None, refl, sym, ap, ◌∙◌, arith, subst, ⊎_elim, unwrap_or, nat_tests, Command, Record, last_of_push, unwrap_or_or, Yielded, Published, State, state_after, core_after, Event, Take, Yield, Publish, Read, Watch, actions_in, entries_for, is_take_by, next_command, took, takes_in, publishes_in, state_in, read_floor, watch_floor, place_read, place_watched, IsOf, StandingsAreOf, slice_get, cases_eq, eq-eqb, slice_get_within, slice_get_cases, commands_to, HasCommand, slice_get_parts}
 use Rattle.cal_policy.specs.History.Lists.{last_of}
-use Rattle.cal_policy.proofs.ListLemmas.OneMore.{last_of_push, unwrap_or_or}
-use Rattle.cal_kthread.specs.declared.journal.entry.Entry.TheVariants.{Yielded, Published}
-use Rattle.cal_kthread.specs.Journal.{State, state_after, core_after}
-use Rattle.cal_world.specs.declared.event.Event.{Event}
-use Rattle.cal_world.specs.declared.event.Event.TheVariants.{Take, Yield, Publish, Read, Watch}
 use Rattle.cal_world.specs.declared.world.standing.Standing.{Standing}
-use Rattle.cal_world.specs.Projections.{actions_in, entries_for, is_take_by, next_command, took, takes_in, publishes_in}
-use Rattle.cal_world.specs.Threads.{state_in, read_floor, watch_floor, place_read, place_watched}
-use Rattle.cal_world.specs.World.Standing.{IsOf, StandingsAreOf}
-use Rattle.std.specs.List.{slice_get}
-use Rattle.std.proofs.lemmas.Bool.{cases_eq, eq-eqb}
-use Rattle.std.proofs.lemmas.Option.{slice_get_within, slice_get_cases}
-use Rattle.cal_policy.specs.History.{commands_to}
-use Rattle.cal_world.specs.World.{HasCommand}
 use Rattle.cal_world.proofs.ListLemmas.OneMore.{slice_get_set_same, slice_get_set_other}
 use Rattle.cal_world.proofs.ScheduleLemmas.Journals as standings
 use Rattle.cal_world.proofs.ScheduleLemmas.Moves.{standing_in, journal_same, takes_same, nothing_more, takes_one, yields_one, publishes_one}
 use Rattle.cal_world.proofs.ScheduleLemmas.SinceDecide.{floor_same, floor_here}
-use Rattle.cal_machine.proofs.Places.{slice_get_parts}
 
 -- the watch floor, one event more
 pub watch_more : (before : List Event) (event : Event) (k : ℕ) → watch_floor (before ++ event ∷ []) k ≡ unwrap_or (place_watched k before event) (watch_floor before k)

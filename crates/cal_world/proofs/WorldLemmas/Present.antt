@@ -1,26 +1,10 @@
 -- All the plain data, one event more.
-use Rattle.std.proofs.Common.{◌≡◌, ℕ, ◌<◌, arith, List, [], ◌∷◌, ◌++◌, length, None, refl, sym, ap, ◌∙◌, subst}
-use Rattle.std.specs.List.{filter_map}
-use Rattle.cal_machine.specs.Table.{Table}
-use Rattle.cal_policy.specs.declared.history.entry.PassEntry.{PassEntry}
-use Rattle.cal_policy.specs.declared.policy.Policy.{Policy}
-use Rattle.cal_policy.specs.History.{actions_of}
-use Rattle.cal_world.specs.declared.event.Event.{Event}
-use Rattle.cal_world.specs.declared.event.Event.TheVariants.{Take, Yield, Publish, Read, Skip, Decide, Watch}
+use Rattle.cal_world.proofs.Common.{◌≡◌, ℕ, ◌<◌, arith, List, [], ◌∷◌, ◌++◌, length, None, refl, sym, ap, ◌∙◌, subst, filter_map, Table, PassEntry, Policy, actions_of, Event, Take, Yield, Publish, Read, Skip, Decide, Watch, entry_in, history_in, actions_in, looks_since, look_made, AreSent, AreGranted, StandingsAreOf, PagesAreOf, threads_of_table, NoThread, IsAllowedBy, IsPresent, KeepsThread, KeepsThreadOf, actions_push}
 use Rattle.cal_world.specs.declared.world.present.Present.{Present}
-use Rattle.cal_world.specs.Projections.{entry_in, history_in, actions_in}
-use Rattle.cal_world.specs.Looks.{looks_since, look_made}
-use Rattle.cal_world.specs.World.Sending.{AreSent, AreGranted}
-use Rattle.cal_world.specs.World.Standing.{StandingsAreOf, PagesAreOf}
-use Rattle.cal_machine.specs.TableTasks.{threads_of_table}
-use Rattle.cal_world.specs.declared.illegal.Illegal.TheVariants.{NoThread}
-use Rattle.cal_world.specs.World.{IsAllowedBy}
-use Rattle.cal_world.specs.World.Present.{IsPresent, KeepsThread, KeepsThreadOf}
 use Rattle.cal_world.proofs.ScheduleLemmas.Moves.{history_same, history_more}
 use Rattle.cal_world.proofs.WorldLemmas.Noted.{standings_kept, of_other}
 use Rattle.cal_world.proofs.ScheduleLemmas.Kept.{pages_kept_by}
 use Rattle.cal_world.proofs.ScheduleLemmas.SinceDecide.{since_none}
-use Rattle.cal_policy.proofs.BoardLemmas.Replayed.{actions_push}
 
 -- what an event that is no Decide leaves as it was, and what it changes
 pub record Changes (before : List Event) (event : Event) (p q : Present) : Type 0 where

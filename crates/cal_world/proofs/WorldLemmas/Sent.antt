@@ -1,21 +1,7 @@
 -- The commands that were sent to each thread, one action more.
-use Rattle.std.proofs.Common.{◌≡◌, ℕ, ◌+◌, ◌<◌, ◌≤◌, Bool, true, false, cond, arith, eqb, List, [], ◌∷◌, ◌++◌, length, set, get_or, take, subst, append_assoc, replicate, Option, Some, None, sym, ap, ◌∙◌, ⊎_elim}
-use Rattle.std.specs.Option.{option_or}
-use Rattle.std.specs.List.{slice_get}
-use Rattle.std.proofs.lemmas.Bool.{cases_eq}
-use Rattle.std.proofs.lemmas.Bool.Decides.{nat_tests}
-use Rattle.std.proofs.lemmas.List.{append-nil, take_more}
-use Rattle.std.proofs.lemmas.Option.{slice_get_within}
-use Rattle.std.proofs.Math.ListN.{length-set, length-replicate}
-use Rattle.std.proofs.Math.Seq.{take-length}
-use Rattle.cal_machine.specs.declared.command.Command.{Command}
-use Rattle.cal_policy.specs.declared.history.action.Action.{Action}
+use Rattle.cal_world.proofs.Common.{◌≡◌, ℕ, ◌+◌, ◌<◌, ◌≤◌, Bool, true, false, cond, arith, eqb, List, [], ◌∷◌, ◌++◌, length, set, get_or, take, subst, append_assoc, replicate, Option, Some, None, sym, ap, ◌∙◌, ⊎_elim, option_or, slice_get, cases_eq, nat_tests, append-nil, take_more, slice_get_within, length-set, length-replicate, take-length, Command, Action, commands_to, last_thread, thread_granted, sends, addressed_to, ActionIsOneMore, last_of_push, set_says, or_if, get_or_same, AreGranted, AreSent, HaveRoom}
 use Rattle.cal_policy.specs.declared.history.action.Action.TheVariants.{Grant}
-use Rattle.cal_policy.specs.History.{commands_to, last_thread, thread_granted, sends, addressed_to}
-use Rattle.cal_policy.specs.Laws.{ActionIsOneMore}
-use Rattle.cal_policy.proofs.ListLemmas.OneMore.{last_of_push, set_says, or_if, get_or_same}
 use Rattle.cal_world.specs.World.Outbox.{Outbox}
-use Rattle.cal_world.specs.World.Sending.{AreGranted, AreSent, HaveRoom}
 use Rattle.cal_world.proofs.ListLemmas.OneMore.{slice_get_set_same, slice_get_set_other}
 
 pub granted_same : (granted : List (Option ℕ)) (x : List Action) (a : Action) → ((c : ℕ) → thread_granted c x a ≡ None) → AreGranted granted x → AreGranted granted (x ++ a ∷ [])

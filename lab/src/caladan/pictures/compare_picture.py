@@ -163,7 +163,8 @@ class SharePlot:
         room = LABELS - 8
         if len(self.same()) == 1 and len(self.same()[0]) == len(self.curves):
             return wrapped("all tables: the same curve", room, SMALL)
-        lines = [line for labels in self.same() for line in ("the same curve:", *wrapped(", ".join(labels), room, SMALL))]
+        lines = [line for labels in self.same()
+                 for line in ("the same curve:", *wrapped(", ".join(labels), room, SMALL))]
         return lines if len(lines) <= MOST_LINES else [*lines[:MOST_LINES - 1], "and more"]
 
     def line(self, axes: Axes, number: int, curve: Curve) -> None:

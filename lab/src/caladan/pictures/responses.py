@@ -16,9 +16,9 @@ ANSWERED, PENDING, FEW = "o", "^", 400
 
 def point_look(marker: str, colour: str, many: int = 1) -> dict[str, Any]:
     """How the points of some requests look: smaller where there are many, hollow of what is pending."""
-    size = 3.4 if many <= FEW else 1.8
-    return {"linestyle": "none", "marker": marker, "markeredgecolor": colour, "markersize": size + (marker == PENDING),
-            "markeredgewidth": 0.9 if marker == PENDING else 0, "markerfacecolor": "none" if marker == PENDING else colour}
+    size, is_hollow = 3.4 if many <= FEW else 1.8, marker == PENDING
+    return {"linestyle": "none", "marker": marker, "markeredgecolor": colour, "markersize": size + is_hollow,
+            "markeredgewidth": 0.9 if is_hollow else 0, "markerfacecolor": "none" if is_hollow else colour}
 
 
 def time_of(request: Request) -> int:

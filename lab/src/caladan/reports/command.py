@@ -9,6 +9,7 @@ from ..files import STANDARD, Output, Source, is_terminal, read_named
 from ..labels import Labels, names_of
 from ..programs import Viewer, viewer
 from ..progress import Progress
+from ..stamps import tick_of
 from ..timelines.command import is_of_arrivals, trace_of
 from ..words.parsing import Asked
 from .explanations import Explainer
@@ -36,11 +37,13 @@ def report_of(view: Viewer, given: bytes, labels: Labels, policy: str = "caladan
 
 def report(asked: Asked) -> int:
     """Does what the words after `report` ask for; answers the exit status."""
-    labels = Labels(names_of(asked.one("names")), asked.one("tick") or "")
+    names = names_of(asked.one("names"))
     file, name, came = asked.one("input"), asked.one("output"), asked.one("came")
     source = Source(None if file == STANDARD else file)
     output = Output(None if name == STANDARD else name)
-    page = report_of(viewer(asked.one("program")), source.read(), labels, asked.one("policy") or "caladan",
+    given = source.read()
+    labels = Labels(names, tick_of(given, asked.one("tick")))
+    page = report_of(viewer(asked.one("program")), given, labels, asked.one("policy") or "caladan",
                      asked.one("explain") or "", file, None if came is None else read_named(came),
                      asked.number("jobs"), is_terminal() and not asked.has("quiet"))
     if output.is_later:

@@ -26,7 +26,7 @@ it is there, how many cache misses it has in all, which its turns share. With
 Output: an input: the task table of --table, the line ---, and the arrivals that
 `caladan_view arrivals --log` makes of the log. Its first line says what a tick
 is: the unit of the log, unless --tick or --ticks says otherwise, or the table.
-`compare`, `timeline`, `run` and `sweep` read that line, and refuse a --tick
+`compare`, `sweep`, `timeline`, `report` and `run` read it, and refuse a --tick
 that contradicts it. The table's delay and request are in ticks.
 --batch gives each thread of a task one request that no run ends, from turn 0
 on; --misses says how many misses each turn of it adds.

@@ -25,5 +25,5 @@ Exit status: 0 done, 2 rejected input, 3 memory or output was refused.
 
 To try it:
 
-caladan_lab report -o run.html <<'END'
+caladan_lab report > run.html <<'END'
 """ + TIMELINE.partition("<<'END'\n")[2]

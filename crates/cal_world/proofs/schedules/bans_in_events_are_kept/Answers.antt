@@ -1,6 +1,4 @@
-use Rattle.std.proofs.Common.{take}
-use Rattle.cal_world.specs.Projections.{history_in}
-use Rattle.cal_world.specs.Schedules.{KeepsBans}
+use Rattle.cal_world.proofs.Common.{take, history_in, KeepsBans}
 use Rattle.cal_world.proofs.ScheduleLemmas.Safety.{of_legal}
 use Rattle.cal_world.proofs.schedules.bans_in_events_are_kept.Goals as goal
 

@@ -1,6 +1,5 @@
-use Rattle.std.proofs.Common.{take}
+use Rattle.cal_world.proofs.Common.{take, NoCoreRunsTwo}
 use Rattle.cal_world.proofs.ScheduleLemmas.Running.{only_one}
-use Rattle.cal_world.specs.Schedules.{NoCoreRunsTwo}
 use Rattle.cal_world.proofs.ScheduleLemmas.Safety.{of_legal}
 use Rattle.cal_world.proofs.schedules.no_core_runs_two.Goals as goal
 

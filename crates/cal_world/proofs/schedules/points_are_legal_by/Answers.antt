@@ -1,7 +1,4 @@
-use Rattle.std.proofs.Common.{List, sym, subst}
-use Rattle.cal_machine.specs.Table.{Table, IsTable}
-use Rattle.cal_policy.specs.declared.history.entry.PassEntry.{PassEntry}
-use Rattle.cal_policy.specs.Policies.{IsLegalBy}
+use Rattle.cal_world.proofs.Common.{List, sym, subst, Table, IsTable, PassEntry, IsLegalBy}
 use Rattle.cal_laws.proofs.PolicyLemmas.{is_point_by}
 use Rattle.cal_world.proofs.schedules.points_are_legal_by.Goals as goal
 

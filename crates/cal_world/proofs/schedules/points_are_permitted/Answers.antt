@@ -1,7 +1,4 @@
-use Rattle.std.proofs.Common.{List, sym, subst}
-use Rattle.cal_machine.specs.Table.{Table}
-use Rattle.cal_policy.specs.declared.history.entry.PassEntry.{PassEntry}
-use Rattle.cal_guard.specs.Permitted.{IsPermittedHistory}
+use Rattle.cal_world.proofs.Common.{List, sym, subst, Table, PassEntry, IsPermittedHistory}
 use Rattle.cal_world.proofs.schedules.points_are_permitted.Goals as goal
 
 pub returns : goal.returns

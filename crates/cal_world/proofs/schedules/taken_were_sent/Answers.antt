@@ -1,7 +1,6 @@
-use Rattle.std.proofs.Common.{take}
+use Rattle.cal_world.proofs.Common.{take, TakenWereSent}
 use Rattle.cal_world.proofs.ScheduleLemmas.Invariant.{holds}
 use Rattle.cal_world.proofs.ScheduleLemmas.Running.{taken_first}
-use Rattle.cal_world.specs.Schedules.{TakenWereSent}
 use Rattle.cal_world.proofs.ScheduleLemmas.Safety.{of_legal}
 use Rattle.cal_world.proofs.schedules.taken_were_sent.Goals as goal
 

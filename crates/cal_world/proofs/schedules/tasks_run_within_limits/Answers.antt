@@ -1,6 +1,5 @@
-use Rattle.std.proofs.Common.{take}
+use Rattle.cal_world.proofs.Common.{take, AreWithinLimits}
 use Rattle.cal_world.proofs.ScheduleLemmas.Running.{within_limit}
-use Rattle.cal_world.specs.Schedules.{AreWithinLimits}
 use Rattle.cal_world.proofs.ScheduleLemmas.Safety.{of_legal}
 use Rattle.cal_world.proofs.schedules.tasks_run_within_limits.Goals as goal
 

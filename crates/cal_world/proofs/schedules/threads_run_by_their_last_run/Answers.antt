@@ -1,7 +1,6 @@
-use Rattle.std.proofs.Common.{take}
+use Rattle.cal_world.proofs.Common.{take, AreByTheirLastRun}
 use Rattle.cal_world.proofs.ScheduleLemmas.Invariant.{holds}
 use Rattle.cal_world.proofs.ScheduleLemmas.Running.{by_last_run}
-use Rattle.cal_world.specs.Schedules.{AreByTheirLastRun}
 use Rattle.cal_world.proofs.ScheduleLemmas.Safety.{of_legal}
 use Rattle.cal_world.proofs.schedules.threads_run_by_their_last_run.Goals as goal
 

@@ -120,7 +120,8 @@ function alike(first, last, of) {
 function drawWhole(lane) {
   const wide = place => LEFT + (place - FIRST_PLACE) / (lastPlace() - FIRST_PLACE) * across();
   fill(LEFT, lane.top, across(), lane.height, colours.lane);
-  for (const part of alike(0, run.passes.length - 1, at => run.passes[at].tasks.map(it => it.held + it.leaving).join())) {
+  const booked = at => run.passes[at].tasks.map(it => it.held + it.leaving).join();
+  for (const part of alike(0, run.passes.length - 1, booked)) {
     const x = wide(scale.edges[part.first]), to = wide(scale.edges[part.beyond]);
     run.passes[part.first].tasks.reduce((below, it, task) => {
       const high = (it.held + it.leaving) / run.cores * lane.height;
@@ -153,7 +154,8 @@ function drawPasses(lane) {
 }
 
 function drawTask(lane) {
-  const task = run.tasks[lane.task], bottom = lane.top + lane.height - 5, one = (lane.height - 9) / Math.max(task.limit, 1);
+  const task = run.tasks[lane.task], bottom = lane.top + lane.height - 5;
+  const one = (lane.height - 9) / Math.max(task.limit, 1);
   fill(LEFT, bottom - one * task.limit, across(), one * task.limit, colours.lane);
   const key = at => Object.values(run.passes[at].tasks[lane.task].cells).slice(6).join();
   for (const part of alike(firstShown(), lastShown(), key)) {

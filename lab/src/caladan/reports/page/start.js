@@ -32,8 +32,9 @@ function slowestOf(task) {
 function rowOf(it) {
   const {cells} = it, wait = it.begun === null ? "" : Math.max(it.begun - it.arrived, 0);
   const time = it.pending === null ? timeOf(it) : `>${timeOf(it)}`;
+  const said = [cells.thread, cells.arrived, cells.work, wait, time, cells["by thread"]];
   const row = made("tr", {}, made("td", {}, link(waitedAddress(it), `request ${it.id}`)),
-    ...[cells.thread, cells.arrived, cells.work, wait, time, cells["by thread"]].map(text => made("td", {textContent: text})));
+    ...said.map(text => made("td", {textContent: text})));
   row.dataset.request = it.id;
   return row;
 }
@@ -76,13 +77,18 @@ function sign(drawn) {
 
 function tellLegend() {
   const block = style => sign(own => { own.fillStyle = style; own.fillRect(0, 1, 22, 10); });
-  const dash = sign(own => { own.strokeStyle = colours.second; own.setLineDash([5, 3]); own.strokeRect(-1, 6, 30, 20); });
+  const dash = sign(own => {
+    own.strokeStyle = colours.second;
+    own.setLineDash([5, 3]);
+    own.strokeRect(-1, 6, 30, 20);
+  });
   const bar = sign(own => { own.fillStyle = colours.ink; own.fillRect(0, 4, 22, 4); });
   const has = state => run.spans.some(it => it.state === state);
   const signs = run.tasks.map((it, task) => [block(fillOf(task)), `held by ${it.label}`]);
   if (has("leaving")) signs.push([block(leavingOf(0)), "striped: revoked, and being left"]);
   if (has("banned")) signs.push([block(bannedOf()), "banned"]);
-  signs.push([bar, "below a task: its delay is above its threshold"], [dash, "guarantee; limit of the bandwidth figure"]);
+  signs.push([bar, "below a task: its delay is above its threshold"]);
+  signs.push([dash, "guarantee; limit of the bandwidth figure"]);
   if (run.requests.some(it => it.pending !== null)) signs.push(["△ ", "not answered by the end"]);
   if (!scale.isToScale) signs.push(["", "a pass is at least half and at most four times as wide as usual"]);
   document.getElementById("legend").replaceChildren(...signs.map(([mark, text]) => made("li", {}, mark, text)));

@@ -19,7 +19,7 @@ function link(address, text, isCurrent = false) {
 const moments = links => made("ul", {className: "moments"}, ...links.map(it => made("li", {}, it)));
 const atClock = pass => pass < run.passes.length ? ` (${run.passes[pass].clockText} ${unit()})` : "";
 
-// The lines of an explanation that `--core` keeps: those of the core, bans of its sibling, and every task's claim to it.
+// The lines of an explanation that `--core` keeps: those of the core, bans of its sibling, each task's claim to it.
 function linesOfCore(text, core) {
   let part = "", isKept = true;
   return text.split("\n").filter(line => {

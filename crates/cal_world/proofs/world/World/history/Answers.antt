@@ -1,10 +1,4 @@
-use Rattle.std.proofs.Common.{List, length, sym, subst, ◌∙◌, arith}
-use Rattle.std.proofs.Math.Seq.{take-length}
-use Rattle.cal_policy.specs.declared.history.entry.PassEntry.{PassEntry}
-use Rattle.cal_policy.specs.Policies.{IsLegalBy}
-use Rattle.cal_world.specs.declared.event.Event.{Event}
-use Rattle.cal_world.specs.Projections.{history_in}
-use Rattle.cal_world.specs.World.{Past}
+use Rattle.cal_world.proofs.Common.{List, length, sym, subst, ◌∙◌, arith, take-length, PassEntry, IsLegalBy, Event, history_in, Past}
 use Rattle.cal_world.proofs.world.World.history.Goals as goal
 
 pub returns-clause-legal : goal.returns-clause-legal

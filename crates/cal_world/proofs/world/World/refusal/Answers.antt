@@ -1,13 +1,7 @@
-use Rattle.std.proofs.Common.{List, length, sym, subst, arith}
-use Rattle.std.proofs.Math.Seq.{take-length}
-use Rattle.cal_policy.specs.declared.history.entry.PassEntry.{PassEntry}
-use Rattle.cal_policy.specs.Policies.{IsLegalBy}
-use Rattle.std.specs.Prelude.{IfOk, Option}
+use Rattle.cal_world.proofs.Common.{List, length, sym, subst, arith, Option, take-length, PassEntry, IsLegalBy, Event, IsRefusalBy, Past, history_in}
+use Rattle.std.specs.Prelude.{IfOk}
 use Rattle.std.proofs.lemmas.Result.{IfOk-weaker}
-use Rattle.cal_world.specs.declared.event.Event.{Event}
 use Rattle.cal_world.specs.declared.illegal.Illegal.{Illegal}
-use Rattle.cal_world.specs.World.{IsRefusalBy, Past}
-use Rattle.cal_world.specs.Projections.{history_in}
 use Rattle.cal_world.proofs.world.World.refusal.Goals as goal
 
 pub refusal-requires-clause-legal : goal.refusal-requires-clause-legal

@@ -1,7 +1,4 @@
-use Rattle.std.proofs.Common.{◌≤◌, sym, ap, ◌∙◌, arith}
-use Rattle.cal_machine.specs.TableTasks.{threads_of_table}
-use Rattle.cal_world.specs.Threads.{running_on}
-use Rattle.cal_world.specs.World.{Past}
+use Rattle.cal_world.proofs.Common.{◌≤◌, sym, ap, ◌∙◌, arith, threads_of_table, running_on, Past}
 use Rattle.cal_world.proofs.ScheduleLemmas.Nobody.{nobody_runs}
 use Rattle.cal_world.proofs.world.World.running.Goals as goal
 

@@ -1,7 +1,4 @@
-use Rattle.std.proofs.Common.{◌≡◌, List, [], ◌∷◌, ◌++◌, sym, ap, ◌∙◌, subst}
-use Rattle.cal_world.specs.declared.event.Event.{Event}
-use Rattle.cal_world.specs.World.{IsAllowedBy, IsLegalListBy, Past}
-use Rattle.cal_world.specs.World.Present.{IsPresent}
+use Rattle.cal_world.proofs.Common.{◌≡◌, List, [], ◌∷◌, ◌++◌, sym, ap, ◌∙◌, subst, Event, IsAllowedBy, IsLegalListBy, Past, IsPresent}
 use Rattle.cal_world.proofs.ScheduleLemmas.Pasts.{list_more}
 use Rattle.cal_world.proofs.WorldLemmas.Present.{has_thread}
 use Rattle.cal_world.proofs.world.World.take.Goals as goal

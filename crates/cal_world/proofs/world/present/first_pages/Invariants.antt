@@ -1,5 +1,4 @@
-use Rattle.std.proofs.Common.{◌≤◌, ◌-◌, [], length}
-use Rattle.cal_world.specs.World.Standing.{PagesAreOf}
+use Rattle.cal_world.proofs.Common.{◌≤◌, ◌-◌, [], length, PagesAreOf}
 use Rattle.cal_world.proofs.world.present.first_pages.Given as goal
 
 abbrev pub invariant-loop-alloc : goal.invariant-loop-alloc

@@ -1,5 +1,4 @@
-use Rattle.std.proofs.Common.{◌≤◌, ◌-◌, [], length}
-use Rattle.cal_world.specs.World.Sending.{AreSent}
+use Rattle.cal_world.proofs.Common.{◌≤◌, ◌-◌, [], length, AreSent}
 use Rattle.cal_world.proofs.world.present.first_sent.Given as goal
 
 abbrev pub invariant-loop-alloc : goal.invariant-loop-alloc

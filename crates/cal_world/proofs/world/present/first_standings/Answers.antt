@@ -1,6 +1,5 @@
-use Rattle.std.proofs.Common.{◌≡◌, List, [], ◌∷◌, ◌++◌, length, length-append, ap, sym, arith, subst}
+use Rattle.cal_world.proofs.Common.{◌≡◌, List, [], ◌∷◌, ◌++◌, length, length-append, ap, sym, arith, subst, IsOf, StandingsAreOf}
 use Rattle.cal_world.specs.declared.world.standing.Standing.{Standing}
-use Rattle.cal_world.specs.World.Standing.{IsOf, StandingsAreOf}
 use Rattle.cal_world.proofs.WorldLemmas.Noted.{each_push}
 use Rattle.cal_world.proofs.world.present.first_standings.Goals as goal
 

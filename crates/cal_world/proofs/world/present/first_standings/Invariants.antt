@@ -1,5 +1,4 @@
-use Rattle.std.proofs.Common.{◌≤◌, ◌-◌, [], length}
-use Rattle.cal_world.specs.World.Standing.{StandingsAreOf}
+use Rattle.cal_world.proofs.Common.{◌≤◌, ◌-◌, [], length, StandingsAreOf}
 use Rattle.cal_world.proofs.world.present.first_standings.Given as goal
 
 abbrev pub invariant-loop-standings : goal.invariant-loop-standings

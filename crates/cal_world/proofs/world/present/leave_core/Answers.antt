@@ -1,6 +1,4 @@
-use Rattle.std.proofs.Common.{[], ◌∷◌, ◌++◌, length, refl}
-use Rattle.std.proofs.lemmas.Option.{slice_get_read}
-use Rattle.cal_world.specs.declared.event.Event.TheVariants.{Yield}
+use Rattle.cal_world.proofs.Common.{[], ◌∷◌, ◌++◌, length, refl, slice_get_read, Yield}
 use Rattle.cal_world.proofs.WorldLemmas.Noted.{standings_set, of_other_yield}
 use Rattle.cal_world.proofs.world.present.leave_core.Goals as goal
 

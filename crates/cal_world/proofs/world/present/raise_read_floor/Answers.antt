@@ -1,6 +1,4 @@
-use Rattle.std.proofs.Common.{[], ◌∷◌, ◌++◌, length, refl}
-use Rattle.std.proofs.lemmas.Option.{slice_get_read}
-use Rattle.cal_world.specs.declared.event.Event.TheVariants.{Read}
+use Rattle.cal_world.proofs.Common.{[], ◌∷◌, ◌++◌, length, refl, slice_get_read, Read}
 use Rattle.cal_world.proofs.WorldLemmas.Noted.{standings_set, of_other_read}
 use Rattle.cal_world.proofs.world.present.raise_read_floor.Goals as goal
 

@@ -1,6 +1,4 @@
-use Rattle.std.proofs.Common.{[], ◌∷◌, ◌++◌, length, refl, sym, ◌∙◌}
-use Rattle.std.proofs.lemmas.Option.{slice_get_read}
-use Rattle.cal_world.specs.declared.event.Event.TheVariants.{Take}
+use Rattle.cal_world.proofs.Common.{[], ◌∷◌, ◌++◌, length, refl, sym, ◌∙◌, slice_get_read, Take}
 use Rattle.cal_world.proofs.WorldLemmas.Noted.{standings_set, of_other_take, next_is, has_next}
 use Rattle.cal_world.proofs.world.present.take_next.Goals as goal
 

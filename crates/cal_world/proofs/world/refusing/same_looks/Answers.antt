@@ -1,13 +1,8 @@
 -- Equal lists of looks: each variant is told by its own fields.
-use Rattle.std.proofs.Common.{◌≡◌, ◌==◌, true, refl, subst, arith}
-use Rattle.std.proofs.lemmas.Bool.{and_parts, eqb-true, eq-eqb}
+use Rattle.cal_world.proofs.Common.{◌≡◌, ◌==◌, true, refl, subst, arith, and_parts, eqb-true, eq-eqb, Decides-eqb, Record, Seen, Whole, Busy, Ahead, Foreign}
 use Rattle.std.specs.Bool.{Decides}
 use Rattle.std.proofs.lemmas.Slice.Eq.{slice_eq-Decides}
-use Rattle.std.proofs.lemmas.Bool.Decides.{Decides-eqb}
-use Rattle.cal_signal.specs.declared.record.Record.{Record}
 use Rattle.cal_signal.specs.contracts.record.RecordPartialEq.TheImpl as record_eq
-use Rattle.cal_policy.specs.declared.history.look.Seen.{Seen}
-use Rattle.cal_policy.specs.declared.history.look.Seen.TheVariants.{Whole, Busy, Ahead, Foreign}
 use Rattle.cal_policy.specs.contracts.history.look.SeenPartialEq.TheImpl.{eq-value}
 use Rattle.cal_world.proofs.world.refusing.same_looks.Goals as goal
 

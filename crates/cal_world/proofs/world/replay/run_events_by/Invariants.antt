@@ -1,5 +1,4 @@
-use Rattle.std.proofs.Common.{◌≡◌, take}
-use Rattle.cal_world.specs.World.{IsLegalListBy}
+use Rattle.cal_world.proofs.Common.{◌≡◌, take, IsLegalListBy}
 use Rattle.cal_world.proofs.world.replay.run_events_by.Given as goal
 
 abbrev pub invariant-loop-at : goal.invariant-loop-at

@@ -1,8 +1,5 @@
-use Rattle.std.proofs.Common.{◌≡◌, ◌<◌, ◌≤◌, ℕ, List, length, Some}
-use Rattle.std.specs.List.{slice_get}
-use Rattle.cal_policy.specs.declared.history.action.Action.{Action}
+use Rattle.cal_world.proofs.Common.{◌≡◌, ◌<◌, ◌≤◌, ℕ, List, length, Some, slice_get, Action, AreSent}
 use Rattle.cal_world.specs.World.Outbox.{Outbox}
-use Rattle.cal_world.specs.World.Sending.{AreSent}
 use Rattle.cal_world.proofs.world.sending.make_room.Given as goal
 
 abbrev pub invariant-loop-k : goal.invariant-loop-k

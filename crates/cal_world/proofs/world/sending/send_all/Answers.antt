@@ -1,5 +1,4 @@
-use Rattle.std.proofs.Common.{◌≡◌, ◌+◌, ◌-◌, length, ◌∙◌, arith, subst}
-use Rattle.cal_world.specs.World.Sending.{AreGranted, AreSent, HaveRoom}
+use Rattle.cal_world.proofs.Common.{◌≡◌, ◌+◌, ◌-◌, length, ◌∙◌, arith, subst, AreGranted, AreSent, HaveRoom}
 use Rattle.cal_world.proofs.WorldLemmas.Sent.{one_on, all_on}
 use Rattle.cal_world.proofs.world.sending.send_all.Goals as goal
 

@@ -1,6 +1,4 @@
-use Rattle.std.proofs.Common.{◌≡◌, ◌-◌, ◌++◌, List, length, take}
-use Rattle.cal_policy.specs.declared.history.action.Action.{Action}
-use Rattle.cal_world.specs.World.Sending.{AreGranted, AreSent, HaveRoom}
+use Rattle.cal_world.proofs.Common.{◌≡◌, ◌-◌, ◌++◌, List, length, take, Action, AreGranted, AreSent, HaveRoom}
 use Rattle.cal_world.proofs.world.sending.send_all.Given as goal
 
 abbrev pub invariant-loop-action : goal.invariant-loop-action

@@ -1,8 +1,4 @@
-use Rattle.std.proofs.Common.{◌≡◌, Some, length, refl, sym, ap, ◌∙◌, arith}
-use Rattle.std.specs.List.{slice_get}
-use Rattle.std.proofs.lemmas.Option.{slice_get_read}
-use Rattle.cal_policy.specs.Board.{core_changed}
-use Rattle.cal_policy.specs.History.{addressed_to}
+use Rattle.cal_world.proofs.Common.{◌≡◌, Some, length, refl, sym, ap, ◌∙◌, arith, slice_get, slice_get_read, core_changed, addressed_to}
 use Rattle.cal_world.proofs.WorldLemmas.Sent.{sent_one, sent_past, sent_none, room_one}
 use Rattle.cal_world.proofs.world.sending.send_one.Goals as goal
 

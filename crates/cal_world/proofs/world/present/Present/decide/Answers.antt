@@ -1,6 +1,4 @@
-use Rattle.std.proofs.Common.{[], ◌∷◌, ◌++◌, refl, ap, ◌∙◌, subst}
-use Rattle.cal_world.specs.Projections.{actions_in}
-use Rattle.cal_world.specs.World.Sending.{AreSent, AreGranted}
+use Rattle.cal_world.proofs.Common.{[], ◌∷◌, ◌++◌, refl, ap, ◌∙◌, subst, actions_in, AreSent, AreGranted}
 use Rattle.cal_world.proofs.WorldLemmas.Present.{present_decided}
 use Rattle.cal_world.proofs.world.present.Present.decide.Goals as goal
 

@@ -1,11 +1,4 @@
-use Rattle.std.proofs.Common.{◌+◌, List, [], ◌∷◌, ◌++◌, eqb, refl, sym, ap, ◌∙◌, subst}
-use Rattle.cal_policy.specs.declared.history.look.Seen.{Seen}
-use Rattle.cal_world.specs.declared.event.Event.{Event}
-use Rattle.cal_world.specs.declared.event.Event.TheVariants.{Take, Yield, Publish, Read, Skip, Watch}
-use Rattle.cal_world.specs.declared.illegal.Illegal.TheVariants.{NothingSent}
-use Rattle.cal_world.specs.Projections.{takes_in, next_command}
-use Rattle.cal_world.specs.Looks.{looks_since}
-use Rattle.cal_world.specs.World.{IsAllowedBy}
+use Rattle.cal_world.proofs.Common.{◌+◌, List, [], ◌∷◌, ◌++◌, eqb, refl, sym, ap, ◌∙◌, subst, Seen, Event, Take, Yield, Publish, Read, Skip, Watch, NothingSent, takes_in, next_command, looks_since, IsAllowedBy}
 use Rattle.cal_world.proofs.WorldLemmas.Noted.{standings_kept, of_other, of_publish}
 use Rattle.cal_world.proofs.ScheduleLemmas.Kept.{pages_kept_by}
 use Rattle.cal_world.proofs.WorldLemmas.Present.{present_by, changes}

@@ -1,21 +1,8 @@
 -- What is known of the thread of an event: it is the table's, and what is kept of it is what the events
 -- say.
-use Rattle.std.proofs.Common.{◌≡◌, ◌<◌, ℕ, List, length, slice_get, refl, ap, subst, ◌∙◌, arith}
-use Rattle.std.proofs.lemmas.Option.{slice_get_read}
-use Rattle.cal_machine.specs.Table.{Table}
-use Rattle.cal_machine.specs.TableTasks.{threads_of_table}
-use Rattle.cal_machine.specs.declared.command.Command.{Command}
-use Rattle.cal_policy.specs.History.{commands_to}
-use Rattle.cal_policy.specs.declared.history.look.Seen.{Seen}
+use Rattle.cal_world.proofs.Common.{◌≡◌, ◌<◌, ℕ, List, length, refl, ap, subst, ◌∙◌, arith, slice_get_read, Table, threads_of_table, Command, commands_to, Seen, Record, looks_since, actions_in, state_in, published_by, page_in, NamesThread, IsPresent, IsOf, Event}
+use Rattle.std.proofs.Common.{slice_get}
 use Rattle.cal_signal.specs.Pages as pages
-use Rattle.cal_signal.specs.declared.record.Record.{Record}
-use Rattle.cal_world.specs.Looks.{looks_since}
-use Rattle.cal_world.specs.Projections.{actions_in}
-use Rattle.cal_world.specs.Threads.{state_in, published_by, page_in}
-use Rattle.cal_world.specs.World.{NamesThread}
-use Rattle.cal_world.specs.World.Present.{IsPresent}
-use Rattle.cal_world.specs.World.Standing.{IsOf}
-use Rattle.cal_world.specs.declared.event.Event.{Event}
 use Rattle.cal_world.specs.declared.world.present.Present.{Present}
 use Rattle.cal_world.proofs.world.present.Present.refusal.Goals as goal
 
