@@ -102,7 +102,8 @@ def test_which_was_meant() -> None:
     assert key_tip(MACHINE, variations_of(["cores=2", "task.0.delays=1"], ())) == "  did you mean `task.0.delay`?\n"
     assert key_tip(MACHINE, variations_of(["zzz=1"], ())) == "" == key_tip(MACHINE, variations_of(["cores=1"], ()))
     words = ["sweep", "--load", "1", "--task", "serch", "--names", "search,kv"]
-    assert refused(lambda: asked_of(read_words(LAB, words))) == "--task serch: the tasks are called search,kv\n  did you mean `search`?"
+    assert refused(lambda: asked_of(read_words(LAB, words))) == (
+        "--task serch: the tasks are called search,kv\n  did you mean `search`?")
 
 
 def test_a_key_that_is_nearly_right(lab: Run, stub: Callable[..., str]) -> None:
