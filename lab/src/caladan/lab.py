@@ -6,12 +6,12 @@ import functools
 import io
 import os
 from dataclasses import dataclass, field, replace
-from typing import TYPE_CHECKING, Iterable, Mapping, Optional, Sequence, Union
+from typing import TYPE_CHECKING, Callable, Iterable, Mapping, Optional, Sequence, Union
 
+from .arrivals import arrivals_of, turns_of
 from .comparisons.command import runs_of, sheet_of
 from .comparisons.given import Reading, parts_of
-from .comparisons.runs import Runs
-from .arrivals import arrivals_of
+from .comparisons.runs import NONE_CAME, Runs
 from .figures import as_csv
 from .files import Output, read_named
 from .labels import Labels, names_of
@@ -20,8 +20,9 @@ from .refusal import Refusal
 from .stamps import tick_of
 from .sweeps.command import answer as swept
 from .sweeps.command import asked_of, table_of
-from .tables import KEYS, SEPARATOR, UNKNOWN_KEY, Machine, table_part
+from .tables import KEYS, SEPARATOR, UNKNOWN_KEY, Machine, names_in, table_part
 from .varying import key_of, variations_of
+from .windows import MIDDLE, Window
 from .words.asked import LAB
 from .words.parsing import Asked, read_words
 
@@ -209,10 +210,28 @@ class Run:
     @functools.cached_property
     def numbers(self) -> pandas.DataFrame:
         """The numbers of the run: a row for each measure, and for each task its number, whether there is more than
-        that, and of how many times a rank is."""
+        that, and of how many times a rank is. Times are of the requests that came in the middle eight tenths of the
+        turns, as in a sweep; where none did, of all. `measured` has those of another window."""
+        return self.measured()
+
+    def measured(self, window: str = MIDDLE, first: Optional[int] = None,
+                 after: Optional[int] = None) -> pandas.DataFrame:
+        """The numbers, with the times of the requests that came within a window: "middle" or "whole", from turn `first`
+        on and before turn `after` where these are given. Refusal where no request came then."""
+        words = Window(window, first, after).words(len(turns_of(self.arrivals)))
+        return self.measured_by(words, is_needed=first is not None or after is not None)
+
+    def measured_by(self, window: Sequence[str], is_needed: bool) -> pandas.DataFrame:
+        """The numbers with these words for a window; of all requests where none came and that is not needed."""
         names: list[Word] = ["--names", ",".join(self.table.names)] if self.table.names else []
         tick: list[Word] = ["--tick", self.tick] if self.tick else []
-        return frame_of(self.told("measure", "--csv", *self.counted(), *names, *tick), "", "measure")
+        try:
+            told = self.told("measure", "--csv", *self.counted(), *window, *names, *tick)
+        except Refusal as refusal:
+            if is_needed or NONE_CAME not in refusal.line:
+                raise
+            told = self.told("measure", "--csv", *self.counted(), *names, *tick)
+        return frame_of(told, "", "measure")
 
     def numbers_by(self, by: Union[int, str]) -> pandas.DataFrame:
         """The run in slices of time, of so many ticks or as "1ms": for each slice and task how many requests came and
@@ -255,13 +274,15 @@ class Run:
 @dataclass(frozen=True)
 class Answer:
     """What came of many runs: the CSV, the words that asked for it, its table, the lines about objectives that are not
-    kept; of a comparison its runs, and of a sweep the number of the task that is swept."""
+    kept; of a comparison its runs, and the CSV of all requests, which is drawn; and of a sweep the number of the task
+    that is swept."""
 
     csv: str
     words: tuple[str, ...]
     table: Table
     misses: tuple[str, ...] = ()
     runs: Optional[Runs] = field(default=None, repr=False, compare=False)
+    drawn: Optional[Callable[[], str]] = field(default=None, repr=False, compare=False)
     swept: int = 0
 
     @property
@@ -287,8 +308,8 @@ class Answer:
         SVG, PNG or PDF by its ending."""
         from .pictures.picture import of_compare, of_sweep
         look, csv = self.table.look(width, dark), self.csv.partition("\n\n")[0]
-        if self.runs is not None:
-            return of_compare(csv, self.runs, look, file)
+        if self.runs is not None and self.drawn is not None:
+            return of_compare(self.drawn(), self.runs, look, file)
         asked = read_words(LAB, self.words)
         return of_sweep(csv, self.table.machine, self.swept, asked.all("slo"), look, file)
 
@@ -306,15 +327,17 @@ def compare(runs: Union[Run, Sequence[Run]], vary: Optional[Keys] = None, **opti
     given = [runs] if isinstance(runs, Run) else list(runs)
     first = given[0]
     words, asked = _asked("compare", first.table, vary, options)
-    variations = variations_of(asked.all("vary"), first.table.names)
+    variations = variations_of(asked.all("vary"), first.table.names or names_in(first.table.text), first.table.tick)
     tables = b"".join(it.table.machine.text() + SEPARATOR for it in given)
     text = tables + first.arrivals
     reading = Reading(first.table.view, text, parts_of(text, bool(variations)), bool(variations))
     came = None if first.came is None else ("the comings", first.came)
     labels = first.table.labels
     made = runs_of(asked, reading, variations, labels, came)
-    csv = sheet_of(made, variations, labels, came is not None, True).decode()
-    return Answer(csv, tuple(words), first.table, runs=made)
+
+    def csv_of(runs: Runs) -> str:
+        return sheet_of(runs, variations, labels, came is not None, True).decode()
+    return Answer(csv_of(made), tuple(words), first.table, runs=made, drawn=lambda: csv_of(made.of_whole()))
 
 
 def listed(values: Union[Value, Sequence[Value], None]) -> Optional[str]:
@@ -337,6 +360,6 @@ def sweep(table: Table, load: Union[Value, Sequence[Value], None] = None, vary: 
     unit: dict[str, Option] = {} if read is None else {"unit": read.unit}
     words, asked = _asked("sweep", table, vary, {"load": listed(load), **of_log, **unit, **options})
     names_of(asked.one("names"))
-    of_words = asked_of(asked, read)
+    of_words = asked_of(asked, read, names_in(table.text))
     csv, lines = swept(of_words, table.text, table.view)
     return Answer(csv, tuple(words), table, tuple(lines.splitlines()), swept=of_words.loads.task)

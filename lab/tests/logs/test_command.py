@@ -410,7 +410,7 @@ def test_a_log_in_python(view: str) -> None:
     frame = log.frame
     assert list(frame.columns) == ["time [us]", "service [us]", "row"] and len(frame) == len(log) == 300
     assert frame["service [us]"].tolist() == [(it * 7) % 11 for it in range(300)]
-    answer = caladan.sweep(table, log=log, turn="2us", batch="batch", scale=[0.3, 0.5], seeds=2, slo="kv.p99=100000")
+    answer = caladan.sweep(table, log=log, turn="2us", batch="batch", scale=[0.3, 0.5], seeds=2, slo="kv.p90=100000")
     assert answer.is_kept and {*answer.frame["load of the log"]} == {0.3, 0.5}
     by_file = caladan.sweep(table, log="log.csv", unit="us", turn="2us", batch="batch", scale=[0.3, 0.5], seeds=2)
     assert by_file.csv == answer.csv

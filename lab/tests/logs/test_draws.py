@@ -131,7 +131,7 @@ def test_arrivals_by_hand() -> None:
                          "request,2,2,3,2,0", "request,2,5,4,5,0", "end,28", ""]
     assert found.came == b"id,turn\n5,0\n6,0\n1,0\n2,0\n3,1\n4,5\n"
     assert {task: (it.came, it.later, it.left_out) for task, it in found.counts.items()} == {0: (2, 0, 0), 1: (4, 2, 0)}
-    assert found.have_misses and found.left_from is None
+    assert found.have_misses and found.left_from == {}
 
 
 def test_misses_are_shared_by_turns() -> None:
@@ -145,7 +145,7 @@ def test_what_finds_no_turn_is_left_out() -> None:
     """Of four requests that come at once to one thread in a run of two turns, two are left out."""
     log = made([0, 0, 0, 0], [1] * 4, ["1"] * 4)
     found = by_lab(log, replace(TERMS, turns=2), MACHINE, 1, 2)
-    assert found.came == b"id,turn\n1,0\n2,0\nleft out,1,2\n" and found.left_from == 0 and found.lost == (2, 4)
+    assert found.came == b"id,turn\n1,0\n2,0\nleft out,1,2\n" and found.left_from == {1: 0} and found.lost == (2, 4)
 
 
 @given(logs(tasks=True), st.integers(1, 2 ** 64 - 1), st.integers(1, 30))

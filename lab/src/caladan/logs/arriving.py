@@ -3,7 +3,7 @@ which a log of the program has none, are put in here."""
 from __future__ import annotations
 
 import re
-from dataclasses import dataclass, replace
+from dataclasses import dataclass, field, replace
 from typing import Optional, Sequence
 
 from ..programs import Came, Ran, Text, Viewer, Word, refused
@@ -31,7 +31,7 @@ class Arrived:
     counts: dict[int, Count]
     turns: int
     summary: str = ""
-    left_from: Optional[int] = None
+    left_from: dict[int, int] = field(default_factory=dict)
     have_misses: bool = False
     endless: tuple[int, ...] = ()
 
@@ -131,7 +131,7 @@ def misses_at(log: Log, slot: Slot) -> int:
 def with_more(found: Arrived, log: Log, terms: Terms, machine: Machine, deal: Optional[Deal],
               batch: Sequence[int]) -> Arrived:
     """Arrivals with the misses of their requests and with those of batch jobs."""
-    left_from = min((turn for left in deal.left.values() for turn in left), default=None) if deal else None
+    left_from = {task: min(left) for task, left in deal.left.items() if left} if deal else {}
     found = replace(found, left_from=left_from)
     if log.rows.misses is None and not batch:
         return found

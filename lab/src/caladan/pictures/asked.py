@@ -8,6 +8,7 @@ from typing import Callable, Optional
 from ..files import say
 from ..labels import names_of
 from ..refusal import Refusal
+from ..windows import WHOLE
 from ..words.asked import LAB
 from ..words.drawn import PICTURE, TEXT_ALONE, WIDTH, format_of, refuse_text
 from ..words.parsing import Asked, check, read_words
@@ -65,11 +66,13 @@ class RunsRefused(Refusal):
 
 
 def runs_for(asked: PictureAsked) -> Asked:
-    """The words for runs that are made of an input: that none is lacking is checked, and the answer is CSV."""
+    """The words for runs that are made of an input: that none is lacking is checked, and the answer is CSV, of a
+    comparison that of all requests."""
     words = asked.runs or read_words(LAB, [asked.word])
     kept = {name: it for name, it in words.found.items() if name != "output"}
     check(replace(words, found=kept))
-    return replace(words, found={**kept, "csv": []})
+    whole = {"window": [WHOLE]} if asked.word == "compare" else {}
+    return replace(words, found={**kept, "csv": [], **whole})
 
 
 def look_of(asked: Asked) -> Look:

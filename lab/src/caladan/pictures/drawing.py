@@ -68,7 +68,7 @@ def compare_paper(got: Compared, look: Look) -> Paper:
 def sweep_paper(sweep: Sweep, table: Optional[Table], swept: Optional[int], goals: Sequence[str], look: Look) -> Paper:
     """The picture of a sweep: of the task that is swept, where that is known, with the first objective of these words
     that is of it."""
-    goal = goal_in(goals, look.names, swept)
+    goal = goal_in(goals, look.names, swept, look.tick)
     task = goal.task if goal and swept is None else swept
     names = [it.label for it in named_tasks(table.tasks, look.names)] if table else look.names
     name = names[task] if task is not None and task < len(names) else ""

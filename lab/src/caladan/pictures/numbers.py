@@ -176,10 +176,14 @@ class SweepRows:
         """Which of the three rows of several seeds a row is; nothing where it is of one seed."""
         if self.seeds in ("", SEED):
             return ""
-        found = row.fields[len(self.between) + 1]
+        found = row.fields[len(self.between) + 1].removeprefix("lower ")
         if found not in (LEAST, MEDIAN, GREATEST):
             raise Refusal(f"{row.where}: `{self.seeds}` is `{found}`; wanted: {LEAST}, {MEDIAN} or {GREATEST}")
         return found
+
+    def is_count(self, fields: Sequence[str]) -> bool:
+        """Whether a row says with how many seeds its table beats the first."""
+        return bool(self.seeds) and fields[len(self.between) + 1] == "beats the first"
 
     def cores(self, fields: Sequence[str]) -> Optional[int]:
         """How many cores the table of a row has, where these are varied. A lone key shares its column with the
@@ -203,7 +207,7 @@ def read_sweep(text: str, name: str) -> Sweep:
     """A sweep."""
     titles, lines = rows_of_kind(text, name, "sweep")
     rows = SweepRows(titles, name)
-    runs = tuple(map(rows.run, lines))
+    runs = tuple(rows.run(it) for it in lines if not rows.is_count(it.fields))
     if not runs:
         raise Refusal(f"{name}: it has no runs below its head")
     in_cores = titles[0].startswith("offered")

@@ -17,7 +17,7 @@ from ..pool import each
 from ..programs import Text, Viewer, Word, refused, viewer
 from ..refusal import Refusal
 from ..sweeps.command import answer, asked_of
-from ..tables import SEPARATOR
+from ..tables import SEPARATOR, names_in
 from ..varying import variations_of
 from .asked import PictureAsked, RunsRefused, runs_for
 from .facts import (Request, Run, Span, Standing, by_pass, kind_of, read_facts, request_of, run_of, span_of,
@@ -200,7 +200,7 @@ def compared_inputs(inputs: Sequence[Given], asked: PictureAsked) -> Compared:
     given = joined_inputs(inputs, asked.arrivals)
     view = viewer(asked.program)
     with asking():
-        variations = variations_of(words.all("vary"), asked.look.names)
+        variations = variations_of(words.all("vary"), asked.look.names, asked.look.tick)
         labels = Labels(tables=table_names(given.files))
         came = words.one("came")
         comings = None if came is None else (came, read_named(came))
@@ -293,7 +293,7 @@ def swept_input(given: Given, asked: PictureAsked) -> Swept:
     view = viewer(asked.program)
     with asking():
         words = runs_for(asked)
-        of_words = asked_of(words)
+        of_words = asked_of(words, known=names_in(given.text.encode()))
         csv, lines = answer(of_words, given.text.encode(), view, is_terminal() and not of_words.is_quiet)
     return Swept(read_sweep(csv, "sweep --csv"), read_table(given.text, given.name), of_words.loads.task, lines)
 

@@ -7,10 +7,11 @@ from typing import TYPE_CHECKING, Optional, Sequence
 from .. import pool
 from ..files import Output, Source, is_terminal, say
 from ..labels import Labels, counted, names_of
+from ..numbers import number_of
 from ..programs import Viewer, refused, viewer
 from ..progress import Progress
 from ..refusal import Refusal
-from ..tables import Machine, machine_of, table_part
+from ..tables import Machine, machine_of, names_in, table_part
 from ..varying import varied
 from ..words.parsing import Asked
 from .asked import SweepAsked, sweep_asked
@@ -84,9 +85,19 @@ def answer(of_words: SweepAsked, given: bytes, view: Viewer, is_shown: bool = Fa
     return SweepSheet(verdict.swept).written(verdict), verdict.lines()
 
 
-def asked_of(asked: Asked, log: Optional[Log] = None) -> SweepAsked:
-    """What the words ask for, but for the table, maybe of a log that is read."""
-    of_words = sweep_asked(asked, Labels(names_of(asked.one("names")), asked.one("tick") or ""), log)
+def names_needed(asked: Asked) -> bool:
+    """Whether words call tasks by names that the words do not give, so that the table is asked for them."""
+    places = [*asked.all("task"), *(it.rpartition("=")[0].partition(".p")[0].removesuffix(".max")
+                                    for it in asked.all("slo") if "." in it)]
+    places += [it.partition("=")[0].rpartition(".")[0] for it in asked.all("vary")]
+    called = [it.removeprefix("task.") for it in places]
+    return not asked.has("names") and any(it and number_of(it) is None for it in called)
+
+
+def asked_of(asked: Asked, log: Optional[Log] = None, known: Sequence[str] = ()) -> SweepAsked:
+    """What the words ask for, but for the table, of whose tasks these names are known; maybe of a log that is read."""
+    labels = Labels(names_of(asked.one("names")), asked.one("tick") or "")
+    of_words = sweep_asked(asked, labels, log, known)
     if not of_words.loads.has_misses:
         of_words.plan.refuse_without_misses()
     return of_words
@@ -99,8 +110,9 @@ def sweep(asked: Asked) -> int:
     source = Source(None if file == "-" else file)
     output_name = asked.one("output")
     output = Output(None if output_name == "-" else output_name)
-    of_words = asked_of(asked)
-    given = source.read()
+    early = source.read() if names_needed(asked) else None
+    of_words = asked_of(asked, known=names_in(table_part(early)) if early is not None else ())
+    given = source.read() if early is None else early
     is_shown = is_terminal() and not of_words.is_quiet
     text, lines = answer(of_words, given, viewer(asked.one("program")), is_shown)
     if not output.is_later:

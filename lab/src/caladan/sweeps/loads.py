@@ -8,6 +8,7 @@ from ..figures import thousandths
 from ..numbers import number_of, task_named, thousandths_of
 from ..refusal import Refusal
 from ..stamps import tick_of
+from ..words.likeness import tip
 from ..words.parsing import Asked
 
 TASK, LOAD, OFFERED, SERVICE, PATTERN, MISSES = ("--task", "--load", "--offered", "--service", "--pattern", "--misses")
@@ -175,8 +176,10 @@ def task_of(word: str, names: Sequence[str]) -> int:
     """The task that a word names."""
     task = task_named(names, word)
     if task is None:
-        raise refused(TASK, word, f"the tasks are called {','.join(names)}" if names
-                      else "a task is a number, or a name that --names gives")
+        refusal = refused(TASK, word, f"the tasks are called {','.join(names)}" if names
+                          else "a task is a number, or a name that --names gives")
+        refusal.below = tip(word, names)
+        raise refusal
     return task
 
 

@@ -53,7 +53,9 @@ def in_long_help(args: tuple[Arg, ...]) -> tuple[Arg, ...]:
 COMPARE = Command(
     "compare", f"{NAME} compare", "Run several tables on the same arrivals, and compare their numbers", texts.COMPARE,
     (Arg("tables", "The input; with --arrivals the tables, a file each", value="FILE", many=True),
-     option("arrivals", "FILE", "The arrivals of all tables"), BY_EACH, *COUNT, *PLAN, VARY, CSV, NAMES, TICK,
+     option("arrivals", "FILE", "The arrivals of all tables"), BY_EACH, *COUNT,
+     option("window", "WINDOW", "Rank what came in the middle of the run, or all [default: middle]",
+            names=("middle", "whole"), hidden=True), *PLAN, VARY, CSV, NAMES, TICK,
      number("write-input", "N", "Write the input of table N's run instead, from 0", conflicts="csv"), OUTPUT),
     extra=PICTURE)
 
@@ -67,6 +69,7 @@ SWEEP = Command(
      option("from", "TURN", "The first turn of the window [default: a tenth in]", hidden=True),
      option("to", "TURN", "The turn after it [default: a tenth before the end]", hidden=True),
      option("seeds", "N", "Run each load with N seeds, from --seed on, 1 to 1000", hidden=True),
+     option("rules", "VERSION", "Judge as version 4 did, or as 5 [default: 5]", names=("4", "5"), hidden=True),
      flag("by-seed", "A row for each seed in place of three", hidden=True),
      flag("cheapest", "List what keeps every objective, best for best effort first", needs="slo", hidden=True),
      option("jobs", "N", "Run N loads at a time at most [default: 2 a processor]", short="j",

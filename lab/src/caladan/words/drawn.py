@@ -68,7 +68,7 @@ LOOKS = (
 # The options of a picture, which -o with .svg, .png or .pdf asks for.
 PICTURE = (*LOOKS, DRAWN_TABLE, PROGRAM)
 # Of each word that writes text too, what has no place in a picture.
-TEXT_ALONE = {"compare": ("csv", "write-input", "from", "to"), "sweep": ("csv", "cheapest")}
+TEXT_ALONE = {"compare": ("csv", "write-input", "from", "to", "window"), "sweep": ("csv", "cheapest")}
 # A file is asked for: without it the words are refused.
 PICTURE_FILE = option("output", "PICTURE", "The picture: .svg, .png or .pdf", short="o", unless="output")
 CALLED = (option("names", "NAME,..", "The names of the tasks, in order"),
