@@ -93,7 +93,7 @@ def chosen_thread(board: Board, task: int) -> Optional[int]:
     """Of the task's threads on no core with room in their rings the one with the greatest delay, the first among
     equals."""
     grantable = [k for k in board.threads_of[task] if board.is_grantable(k)]
-    return max(grantable, key=lambda k: (board.delays[k], -k), default=None)
+    return max(grantable, key=lambda k: (board.delays[k], -k)) if grantable else None
 
 
 def open_class(board: Board, task: int, core: int) -> int:
@@ -118,4 +118,4 @@ def held_class(board: Board, task: int, core: int) -> Optional[int]:
 def core_to_preempt(board: Board, task: int) -> Optional[int]:
     """The core that is taken for a latency-critical task from one that holds it: the least by class, then number."""
     classes = {c: found for c in range(board.table.cores) if (found := held_class(board, task, c)) is not None}
-    return min(classes, key=lambda c: (classes[c], c), default=None)
+    return min(classes, key=lambda c: (classes[c], c)) if classes else None

@@ -32,6 +32,8 @@ class World:
             self.coming[request.turn][request.thread] = job
         self.last = max([*turns[-1:], *(clock for clock, _ in self.passes()[-1:])], default=0)
         self.rows = [HEADER]
+        # The rows of the pass that has begun, up to its looks; and the misses that all threads had shown.
+        self.begun: list[str] = []
         self.shown = 0
 
     def passes(self) -> Sequence[tuple[int, int]]:
@@ -52,7 +54,8 @@ class World:
 
     def make_pass(self, decide: Decide, clock: int, figure: int) -> None:
         """One pass: the looks, the actions of whoever decides, and the commands that they send."""
-        self.rows += self.looks(clock, figure)
+        self.begun = self.looks(clock, figure)
+        self.rows += self.begun
         decide(self.board)
         self.rows += map(row_of, self.board.actions)
         for thread, command in self.board.commands.items():
@@ -98,6 +101,11 @@ class World:
                 self.make_turn(place)
         self.rows.append(f"end,{self.board.number + 1}")
 
+    @property
+    def history(self) -> bytes:
+        """The history, once the run is made."""
+        return ("\n".join(self.rows) + "\n").encode()
+
 
 @dataclass(frozen=True)
 class Played:
@@ -112,5 +120,4 @@ def played(table: Machine, arrivals: Arrivals, decide: Decide, plan: Optional[Ru
     passes as turns."""
     world = World(table, arrivals, plan)
     world.run(decide)
-    requests = text_of(world.jobs, world.board.owner, world.last)
-    return Played(("\n".join(world.rows) + "\n").encode(), requests.encode())
+    return Played(world.history, text_of(world.jobs, world.board.owner, world.last).encode())
