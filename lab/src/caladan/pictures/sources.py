@@ -215,7 +215,7 @@ def column_told(runs: Runs, table: int, policy: str) -> tuple[str, str]:
     """The requests and the series of the run of a table by a policy."""
     moved = runs.moved(table)
     given = runs.machines[table].text() + SEPARATOR + moved.arrivals
-    words: list[Word] = ["--policy", policy, *runs.plan_for(moved).words()]
+    words = runs.words_of(table, policy, moved)
     came: list[Word] = [] if moved.came is None else ["--came", Text(moved.came)]
     return told(runs.view, ["requests", *words, *came], given), told(runs.view, ["series", *words], given)
 

@@ -15,12 +15,13 @@ from typing import Optional, Sequence
 
 from ..refusal import Refusal
 from ..tables import SEPARATOR
+from ..words.arg import EXEC as PREFIX
 from ..world.actions import ROWS, Action, action_of
 from ..world.board import Board
 from ..world.runs import HEADER, World
 from .policy import refusal_of
 
-PREFIX, PATIENCE = "exec:", 10
+PATIENCE = 10
 # The longest row of an answer, in bytes; no action's is as long.
 LONGEST, CHUNK, SHOWN = 200, 1 << 16, 60
 DIE_WITH_PARENT = 1

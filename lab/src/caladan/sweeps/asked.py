@@ -20,7 +20,8 @@ MOST_SEEDS = 1000
 class SweepAsked:
     """What comes to tasks; the objectives; the keys that are varied; the window, from its first turn up to the one
     after it; the seeds, the turns of a run and the ticks of a turn; the policies, the plan, what is written, and how
-    many runs are made at a time."""
+    many runs are made at a time, without a word of how many are done; and for how many seconds an answer of a policy is
+    waited for."""
 
     loads: Loads
     objectives: tuple[Objective, ...]
@@ -37,6 +38,7 @@ class SweepAsked:
     is_cheapest: bool
     jobs: Optional[int]
     is_quiet: bool
+    patience: int
 
     @property
     def shown_tasks(self) -> list[int]:
@@ -86,4 +88,5 @@ def sweep_asked(asked: Asked, labels: Labels) -> SweepAsked:
     return SweepAsked(
         loads, objectives, variations, first, after, _seeds(asked.one("seeds"), asked.number("seed") or 0), turns,
         asked.number("ticks") or 0, tuple(asked.all("policy") or ["caladan"]), plan_of(asked), labels,
-        asked.has("csv"), asked.has("cheapest"), asked.number("jobs"), asked.has("quiet"))
+        asked.has("csv"), asked.has("cheapest"), asked.number("jobs"), asked.has("quiet"),
+        asked.number("patience") or 0)

@@ -5,6 +5,8 @@ from dataclasses import dataclass
 from typing import Optional
 
 WORD = 2 ** 64 - 1
+# The policies that the program has, and what stands before the command of one that is a program of its own.
+POLICIES, EXEC = ("caladan", "assured"), "exec:"
 
 
 @dataclass(frozen=True)
@@ -35,7 +37,8 @@ class Number:
 @dataclass(frozen=True)
 class Arg:
     """An option, a flag or a file. Without `value` it is a flag; without `long` it is a file. `many` may be given more
-    than once. `unless` names what may stand in its place. `hidden` is left out of the short help."""
+    than once. `unless` names what may stand in its place. `hidden` is left out of the short help. Where values have
+    names, others may begin with `prefix`."""
 
     name: str
     help: str
@@ -45,6 +48,7 @@ class Arg:
     many: bool = False
     default: str = ""
     names: tuple[str, ...] = ()
+    prefix: str = ""
     number: Optional[Number] = None
     delimiter: str = ""
     conflicts: str = ""
@@ -89,7 +93,8 @@ VERSION = flag("version", "Print version", short="V")
 @dataclass(frozen=True)
 class Command:
     """A command: its name, the words before its own, what it is for, what the long help says at its end, what it takes
-    in the order of its help, and the commands below it."""
+    in the order of its help, and the commands below it. `extra` is of pictures, `own` of policies of one's own; the long
+    help has both by themselves."""
 
     name: str
     called: str
@@ -99,12 +104,13 @@ class Command:
     commands: tuple["Command", ...] = ()
     version: str = ""
     extra: tuple[Arg, ...] = ()
+    own: tuple[Arg, ...] = ()
     has_help: bool = True
 
     @property
     def all_args(self) -> tuple[Arg, ...]:
         asks = (*((HELP,) if self.has_help else ()), *((VERSION,) if self.version else ()))
-        return (*self.args, *self.extra, *asks)
+        return (*self.args, *self.extra, *self.own, *asks)
 
     @property
     def files(self) -> tuple[Arg, ...]:

@@ -53,11 +53,14 @@ def help_of(command: Command, is_long: bool) -> str:
         parts.append("Commands:\n" + "\n".join(f"  {name:{wide}}  {about}" for name, about in rows))
     if command.files:
         parts.append("Arguments:\n" + told(command, list(command.files)))
-    shown = [it for it in command.all_args if not it.is_file and it not in command.extra]
+    apart = (*command.extra, *command.own)
+    shown = [it for it in command.all_args if not it.is_file and it not in apart]
     if shown:
         parts.append("Options:\n" + told(command, [it for it in shown if is_long or not it.hidden]))
     if command.extra and is_long:
         parts.append("Pictures:\n" + told(command, list(command.extra)))
+    if command.own and is_long:
+        parts.append("Policies of your own:\n" + told(command, list(command.own)))
     if is_long and command.after:
         parts.append(command.after)
     return "\n\n".join(parts) + "\n"
