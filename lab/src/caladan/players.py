@@ -33,6 +33,21 @@ def own_of(names: Sequence[str], patience: int, others: Sequence["Own"] = ()) ->
     return named([*others, *(ProcessPolicy(it.removeprefix(EXEC), patience) for it in commands)])
 
 
+@contextlib.contextmanager
+def naming(policy: str, where: str = "") -> Iterator[None]:
+    """What is refused of a run by a policy is said to be of that; and of which run, where that is one of several."""
+    try:
+        yield
+    except Refusal as refusal:
+        refusal.line = HANDED.sub(lambda _: f"{policy}: played again by caladan_view, ", refusal.line)
+        refusal.below += f"  in the run {where}\n" if where else ""
+        raise
+    except Exception as fault:
+        if where:
+            fault.add_note(f"in the run {where}")
+        raise
+
+
 class Players:
     """What plays the runs of the policies that the program has not; of these alone, with a plan that is the run's."""
 
@@ -75,17 +90,6 @@ class Players:
             return ["--policy", policy, *plan.words()]
         return [REPLAY, Text(self.history(policy, machine, arrivals, plan)), *plan.words()]
 
-    @contextlib.contextmanager
-    def naming(self, policy: str, where: str = "") -> Iterator[None]:
+    def naming(self, policy: str, where: str) -> contextlib.AbstractContextManager[None]:
         """What is refused of a run by a policy that the program has not is said to be of that, and of which run."""
-        try:
-            yield
-        except Refusal as refusal:
-            if policy in self.own:
-                refusal.line = HANDED.sub(lambda _: f"{policy}: played again by caladan_view, ", refusal.line)
-                refusal.below += f"  in the run {where}\n" if where else ""
-            raise
-        except Exception as fault:
-            if policy in self.own and where:
-                fault.add_note(f"in the run {where}")
-            raise
+        return naming(policy, where) if policy in self.own else contextlib.nullcontext()

@@ -70,7 +70,7 @@ def sweep_paper(sweep: Sweep, table: Optional[Table], swept: Optional[int], goal
 
 
 def of_run(asked: PictureAsked) -> Drawn:
-    run = run_from(read_all(asked), maybe(asked.table), asked.program)
+    run = run_from(read_all(asked), maybe(asked.table), asked)
     return Drawn(run_paper(run, asked.look, asked.first, asked.passes, asked.task))
 
 

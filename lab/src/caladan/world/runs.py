@@ -6,6 +6,7 @@ from dataclasses import dataclass
 from typing import Callable, Iterator, Optional, Sequence
 
 from ..arrivals import Arrivals
+from ..refusal import Refusal
 from ..tables import Machine
 from .actions import row_of
 from .board import Board
@@ -17,12 +18,15 @@ from .threads import WHOLE_TURNS, team_of
 # What makes a pass that has begun, action by action.
 Decide = Callable[[Board], None]
 HEADER = "caladan-history,2"
+NO_PACE = "no run by this plan: there are not as many passes as turns"
 
 
 class World:
     """The kernel threads of a table, their requests, and what the scheduler knows; the history so far, as rows."""
 
     def __init__(self, table: Machine, arrivals: Arrivals, plan: Optional[RunPlan]) -> None:
+        if plan is not None and len(arrivals.passes) != len(arrivals.turns):
+            raise Refusal(NO_PACE)
         self.board, self.arrivals, self.plan = Board(table), arrivals, plan
         self.threads = team_of(table.limits)
         turns = arrivals.turns
@@ -116,8 +120,8 @@ class Played:
 
 
 def played(table: Machine, arrivals: Arrivals, decide: Decide, plan: Optional[RunPlan] = None) -> Played:
-    """The run of a table on arrivals, by whoever decides; in lockstep without a plan. Arrivals of a plan have as many
-    passes as turns."""
+    """The run of a table on arrivals, by whoever decides; in lockstep without a plan. Refusal of a plan where the
+    arrivals have not as many passes as turns."""
     world = World(table, arrivals, plan)
     world.run(decide)
     return Played(world.history, text_of(world.jobs, world.board.owner, world.last).encode())
