@@ -118,10 +118,7 @@ class Talk:
     def row(self, when: str) -> bytes:
         """The next row that it writes, without its line end."""
         until = time.monotonic() + self.patience
-        while b"\n" not in self.buffer:
-            if len(self.buffer) > LONGEST:
-                raise self.fault(f"row {self.rows + 1}, {when}, is {shown(self.buffer)}: a row of more than {LONGEST} "
-                                 "bytes")
+        while b"\n" not in self.buffer and len(self.buffer) <= LONGEST:
             part = self.more(until)
             if part is None:
                 raise self.fault(f"silent for {self.patience:g} s {when}: row {self.rows + 1} does not come; is the "
@@ -131,6 +128,8 @@ class Talk:
             self.buffer += part
         row, _, self.buffer = self.buffer.partition(b"\n")
         self.rows += 1
+        if len(row) > LONGEST:
+            raise self.fault(f"row {self.rows}, {when}, is {shown(row)}: a row of more than {LONGEST} bytes")
         return row.removesuffix(b"\r")
 
     def refuse_early(self, when: str) -> None:
@@ -158,7 +157,9 @@ class ProcessGuarded:
 
     def __init__(self, policy: ProcessPolicy, world: World) -> None:
         self.talk, self.world = Talk(policy.command, policy.patience), world
-        self.head = world.board.table.text() + SEPARATOR + f"{HEADER}\n".encode()
+        # An empty line ends the looks of a pass, and stands nowhere else.
+        table = world.board.table.text().replace(b"\n\n", b"\n")
+        self.head = table + SEPARATOR + f"{HEADER}\n".encode()
 
     def show(self, rows: Sequence[str], what: str) -> None:
         """Writes rows, at first below the head of all."""
