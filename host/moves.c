@@ -18,6 +18,9 @@
 #define SELDOM ((uint64_t)1000000000) /* how often such is said, in nanoseconds */
 /* a pinning that waited, and took longer, was of a thread that ran, in ns */
 #define LONG ((uint64_t)5000)
+/* how long the mover may make no move, before it is put elsewhere, and before the run ends, in ns */
+#define STUCK ((uint64_t)1000000000)
+#define LOST ((uint64_t)20000000000)
 /* how long the mover looks for work before it sleeps, in ns */
 #define RESTLESS ((uint64_t)200000)
 enum { MOST_MOVES = 1024 }; /* four of each thread, and more cannot be under way */
@@ -40,6 +43,9 @@ static struct {
 static struct {
     move move[MOST_MOVES];
     atomic_size_t put, done;
+    size_t seen;      /* how many were done when the scheduler looked last, and since when */
+    uint64_t seen_at;
+    bool is_elsewhere; /* the mover was put elsewhere, and has not made a move since */
     atomic_bool is_asleep;
     sem_t bell;
 } queue;
@@ -67,6 +73,12 @@ static long waits(void) {
     return getrusage(RUSAGE_THREAD, &used) ? 0 : used.ru_nvcsw;
 }
 
+/* Whoever looks for strays is to know it before it is pinned. */
+static void take_seat(scheduler *s, const host_thread *thread, pid_t tid) {
+    const host_task *task = &s->task[thread->task];
+    atomic_store(&s->seated[thread->task][thread->seat.slot - task->segment->slot], tid);
+}
+
 static bool put_under(host_seat *seat, pid_t tid) {
     struct sched_param none = {0};
     if (seat->idle == tid) return true;
@@ -76,7 +88,7 @@ static bool put_under(host_seat *seat, pid_t tid) {
 }
 
 /* The thread sleeps, and so wakes on the core's processor. False: it is not pinned there. */
-static bool pin(const scheduler *s, host_thread *thread, unsigned core) {
+static bool pin(scheduler *s, host_thread *thread, unsigned core) {
     host_seat *seat = &thread->seat;
     const host_task *task = &s->task[thread->task];
     pid_t tid = atomic_load(&seat->slot->tid);
@@ -84,6 +96,7 @@ static bool pin(const scheduler *s, host_thread *thread, unsigned core) {
     seat->pinned = seat->unpinned_for = 0;
     seat->is_lost = true;
     if (!is_own_thread(task, tid)) return false;
+    take_seat(s, thread, tid);
     long before = waits();
     uint64_t from = host_clock();
     if ((task->is_under && !put_under(seat, tid)) || !put_on(s, tid, core)) {
@@ -158,6 +171,7 @@ bool begin_moves(scheduler *s) {
  * more is not moved. */
 static void hand_over(const move *m) {
     size_t next = atomic_load(&queue.put);
+    if (next == atomic_load(&queue.done)) queue.seen = next, queue.seen_at = host_clock();
     queue.move[next % MOST_MOVES] = *m;
     atomic_store(&queue.put, next + 1);
     if (atomic_exchange(&queue.is_asleep, false)) sem_post(&queue.bell);
@@ -269,8 +283,27 @@ void carry_out(scheduler *s) {
     settle_moves(s);
 }
 
+static void put_mover_elsewhere(const scheduler *s) {
+    bool is_put = CPU_COUNT(&s->others) && place_clerk(move_each, &s->others);
+    queue.is_elsewhere = true;
+    complain("the mover made no move on processor %d for a second%s", s->options.mover,
+             is_put ? ", and is put on others" : "");
+}
+
+/* Another thread may have all of its processor, in a class above. Where no other processor helps either, there is
+ * nobody who could end a move that it has begun. */
+void look_after_mover(const scheduler *s) {
+    uint64_t now = host_clock();
+    size_t done = atomic_load(&queue.done);
+    bool is_at_work = s->has_mover && done != atomic_load(&queue.put);
+    if (!is_at_work || done != queue.seen) queue.seen = done, queue.seen_at = now, queue.is_elsewhere = false;
+    if (now - queue.seen_at >= STUCK && !queue.is_elsewhere) put_mover_elsewhere(s);
+    uint64_t most = stop_signals() > 1 ? 2 * STUCK : LOST;
+    if (now - queue.seen_at >= most) fail("the mover", "it makes no moves any more");
+}
+
 void wait_for_moves(scheduler *s) {
-    if (s->has_mover) while (atomic_load(&queue.done) != atomic_load(&queue.put)) host_pause();
+    while (s->has_mover && atomic_load(&queue.done) != atomic_load(&queue.put)) look_after_mover(s), host_pause();
     settle_moves(s);
 }
 

@@ -198,7 +198,7 @@ void make_pass(scheduler *s) {
     uint8_t answer = caladan_pass_each(&s->handle, now, figure, s->look, count, s->judged, HOST_THREADS, s->action,
                                        CALADAN_MOST_ACTIONS, &s->made);
     if (answer != CALADAN_DONE) fail("a pass", caladan_answer_text(answer));
-    tick(s, now);
+    account_time(s, now);
     move_cores(s, now);
     note_judged(s);
     latency_decided(&s->latency, now, s->shown, count, s->action, s->made);

@@ -36,6 +36,11 @@ bool make_segment(scheduler *s, host_task *task) {
     return task->memory >= 0;
 }
 
+void beat(scheduler *s) {
+    for (unsigned t = 0; t < s->machine.tasks; t++)
+        atomic_fetch_add_explicit(&s->task[t].segment->heartbeat, 1, memory_order_relaxed);
+}
+
 void drop_segment(host_task *task) {
     if (task->memory < 0) return;
     munmap(task->segment, sizeof *task->segment);
@@ -90,6 +95,8 @@ static void unpin_each(scheduler *s, const host_task *task) {
 void give_up(scheduler *s, host_task *task) {
     wait_for_moves(s);
     unpin_each(s, task);
+    for (unsigned i = 0; i < HOST_LIMIT; i++) atomic_store(&s->seated[number_of(s, task)][i], 0);
+    strays_give_up(s, task);
     drop_segment(task);
     make_segment(s, task);
     for (unsigned k = task->first; k < task->first + task->limit; k++) bury_thread(s, k);

@@ -47,7 +47,7 @@ void plan_park(scheduler *it, size_t k, unsigned from, unsigned to) { (void)it, 
 void plan_nothing(scheduler *it, size_t k) { (void)it, (void)k; }
 void carry_out(scheduler *it) { (void)it; }
 void wait_for_moves(scheduler *it) { (void)it; }
-void tick(scheduler *it, uint64_t now) { (void)it, (void)now; }
+void account_time(scheduler *it, uint64_t now) { (void)it, (void)now; }
 void fail(const char *what, const char *why) { printf("%s: %s\n", what, why), exit(2); }
 void latency_decided(latency *l, uint64_t now, const latency_thread *threads, size_t count,
                      const caladan_action *actions, size_t made) {

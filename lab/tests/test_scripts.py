@@ -1,5 +1,5 @@
 """The scripts of examples/lab: what they print is what the program says where it is asked in another way, by its own
-words and without the package; of own_policy.py what was worked out by hand."""
+words and without the package. That of own_policy.py is in core/."""
 from __future__ import annotations
 
 import csv
@@ -134,12 +134,3 @@ def test_ten_draws(view: str) -> None:
     found = [list(map(float, it.split())) for it in said("ten_draws.py", view).splitlines() if re.match(r"\d+ ", it)]
     short, long = (p99_of_draws(view, delay) for delay in (10, 80))
     assert found == [[seed, one, other, other - one] for seed, one, other in zip(range(1, 11), short, long)]
-
-
-def test_own_policy() -> None:
-    core = pytest.importorskip("caladan.core")
-    try:
-        core.library_of()
-    except core.NoLibrary as fault:
-        pytest.skip(str(fault))
-    assert said("own_policy.py", "") == (SCRIPTS / "own_policy.txt").read_text()

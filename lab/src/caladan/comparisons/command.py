@@ -5,7 +5,7 @@ from dataclasses import replace
 from typing import TYPE_CHECKING, Optional, Sequence
 
 from ..arrivals import is_some_within
-from ..files import STANDARD, Output, Source, joined, read_named
+from ..files import STANDARD, Output, Source, is_terminal, joined, read_named
 from ..labels import Labels, names_of, table_names
 from ..moving import Given, NoTask, ProgramMover
 from ..plans import plan_of
@@ -121,10 +121,11 @@ def runs_of(asked: Asked, reading: Reading, variations: Variations, labels: Labe
     return Runs(reading.view, terms, machines, ProgramMover(reading.view, arrivals), names, players)
 
 
-def sheet_of(runs: Runs, variations: Variations, labels: Labels, has_came: bool, is_csv: bool) -> bytes:
+def sheet_of(runs: Runs, variations: Variations, labels: Labels, has_came: bool, is_csv: bool,
+             is_shown: bool = False) -> bytes:
     """What is written of the runs of a comparison, which are made; in all rows where the file of when requests came is
     given."""
-    sheet = CompareSheet(runs.all(), runs.terms.policies, variations, labels, has_came, is_csv)
+    sheet = CompareSheet(runs.all(is_shown), runs.terms.policies, variations, labels, has_came, is_csv)
     return sheet.written().encode("utf-8", "surrogateescape")
 
 
@@ -136,7 +137,7 @@ def answer(asked: Asked, reading: Reading, variations: Variations, labels: Label
         machines, arrivals = tables_of(asked, reading, variations, labels)
         return input_text(ProgramMover(reading.view, arrivals), machines, variations, table)
     runs = runs_of(asked, reading, variations, labels, came)
-    return sheet_of(runs, variations, labels, came is not None, asked.has("csv"))
+    return sheet_of(runs, variations, labels, came is not None, asked.has("csv"), is_terminal())
 
 
 def table_name(variations: Variations, table: int) -> str:
