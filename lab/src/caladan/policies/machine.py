@@ -288,6 +288,11 @@ class Core(ReadOnly):
         return None if last is None else self._machine.threads[last]
 
     @property
+    def granted_at(self) -> Optional[int]:
+        """The clock of the pass that granted it last, in ticks; none where none did."""
+        return None if self._board.last[self.number] is None else self._board.granted_at[self.number]
+
+    @property
     def owed(self) -> Optional[Task]:
         """The task for which the free core was revoked, if nobody has had it since."""
         owed = self._board.owed[self.number]

@@ -11,12 +11,13 @@ from .threads import PARK
 
 
 class Board:
-    """What all actions and records so far say. Of a core: the thread that holds or leaves it, with the number of its
-    Run and the cause for which it is leaving; the task to which the free core is owed; its ban, a thread and when that
-    thread's request was begun; the thread to which it was granted last, and how many grants had been made then. Of a
-    thread: the core that it holds or leaves, the commands sent to it, its kept record and that of the pass before. Of a
-    task: the cores that it books, those of them that it holds, and its cap. Of the pass: its clock, its bandwidth
-    figure, the rooms of the rings, the actions so far, the commands that they send, and the cores that they grant."""
+    """What all actions and records so far say. Of a core: the thread that holds or leaves it, with the number of its Run
+    and the cause for which it is leaving; the task to which the free core is owed; its ban, a thread and when that
+    thread's request was begun; the thread to which it was granted last, how many grants had been made then, and at
+    which clock. Of a thread: the core that it holds or leaves, the commands sent to it, its kept record and that of
+    the pass before. Of a task: the cores that it books, those of them that it holds, and its cap. Of the pass: its
+    clock, its bandwidth figure, the rooms of the rings, the actions so far, the commands that they send, and the
+    cores that they grant."""
 
     def __init__(self, table: Machine) -> None:
         cores, limits = range(table.cores), table.limits
@@ -32,6 +33,7 @@ class Board:
         self.bans: list[Optional[tuple[int, int]]] = [None for _ in cores]
         self.last: list[Optional[int]] = [None for _ in cores]
         self.granted = [0 for _ in cores]
+        self.granted_at = [0 for _ in cores]
         self.grants = 0
         self.core_of: list[Optional[int]] = [None for _ in threads]
         self.sent = [0 for _ in threads]
@@ -79,7 +81,7 @@ class Board:
         self.booked[task] += 1
         self.held[task] += 1
         self.grants += 1
-        self.granted[core] = self.grants
+        self.granted[core], self.granted_at[core] = self.grants, self.now
         self.granted_now.add(core)
 
     def _free(self, core: int) -> None:
