@@ -50,7 +50,7 @@ class ShortestDelay(cal.Policy):
 
 # begin static
 class StaticPartition(cal.Policy):
-    """Each task has cores of its own: a latency-critical one as many as it is guaranteed, a best-effort one the rest."""
+    """Each task has cores of its own: a latency-critical one as many as it is guaranteed, the batch job the rest."""
 
     def begin(self, machine):
         kinds = [task for task in machine.tasks for _ in range(task.guaranteed)]

@@ -1,5 +1,7 @@
 #!/usr/bin/python3
-"""The longest wait first, latency-critical tasks before best-effort ones: caladan_lab sweep --policy exec:./longest_wait.py
+"""The longest wait first, latency-critical tasks before best-effort ones.
+
+    caladan_lab sweep --policy exec:./longest_wait.py
 
 A core that its thread has left is freed. Each waiting thread gets the lowest free core; where there is none, a
 latency-critical one has the best-effort core revoked that was granted longest ago. longest_wait.c and longest_wait.awk
@@ -10,7 +12,7 @@ ROOM, TAKEN, RUNNING, QUEUED, OLDEST, PAUSED, SINCE = 2, 4, 5, 6, 7, 11, 12
 
 
 def read_table():
-    """The cores, and of each thread its task's kind and number. Each key has a line, and `kind` stands before `limit`."""
+    """The cores, and of each thread its task's kind and number. Each key has a line, `kind` one before `limit`."""
     cores, kinds, kind, task = 0, [], "", -1
     for line in sys.stdin:
         key, _, value = line.strip().partition(" = ")

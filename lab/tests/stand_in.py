@@ -44,7 +44,8 @@ if words == ["--version"]:
 elif words == ["run", "--help"]:
     sys.exit(0 if HAS_REPLAY else 2)
 elif words[0] == "arrivals" and "--summary" in words:
-    print("passes 9 turns 9\\ntask 0 came 3 later 0 left out 0 load 0.500\\ntask 1 came 1 later 0 left out 0 load 0.500")
+    print("passes 9 turns 9")
+    print("task 0 came 3 later 0 left out 0 load 0.500\\ntask 1 came 1 later 0 left out 0 load 0.500")
 elif words[0] == "arrivals":
     if "--came" in words:
         with open(words[words.index("--came") + 1], "w") as it:

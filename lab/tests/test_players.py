@@ -2,6 +2,8 @@
 replay, and nothing where it cannot replay, or refuses to. A stand-in plays again by a second count."""
 from __future__ import annotations
 
+import subprocess
+import sys
 from pathlib import Path
 from typing import Iterator
 
@@ -91,8 +93,8 @@ def test_what_the_replay_refuses_is_told_without_a_number(lab: Run, tmp_path: Pa
     view = stand_in(tmp_path, lies="pass 3: action 1: the core is banned")
     told = lab(*word, "--policy", LONGEST, given=TABLE if word is SWEEP else COMPARED, view=view)
     where = "at load 0.500 with seed 1" if word is SWEEP else "of task.0.delay=0"
-    assert told == (2, "", f"caladan_lab: {LONGEST}: played again by caladan_view, pass 3: action 1: the core is banned\n"
-                           f"  in the run {where}\n")
+    assert told == (2, "", f"caladan_lab: {LONGEST}: played again by caladan_view, pass 3: action 1: the core is "
+                           f"banned\n  in the run {where}\n")
 
 
 def test_an_unsafe_program_is_told_without_a_number(lab: Run, tmp_path: Path) -> None:
@@ -100,14 +102,15 @@ def test_an_unsafe_program_is_told_without_a_number(lab: Run, tmp_path: Path) ->
     program.write_text("#!/bin/sh\nwhile read row; do [ -n \"$row\" ] || { echo free,2; echo; }; done\n")
     program.chmod(0o755)
     told = lab(*SWEEP, "--policy", f"exec:{program}", given=TABLE, view=stand_in(tmp_path))
-    assert told == (2, "", f"caladan_lab: exec:{program}: pass 0, action 0, free,2: it does not fit the state of cores, "
-                           "threads and tasks\n  in the run at load 0.500 with seed 1\n")
+    assert told == (2, "", f"caladan_lab: exec:{program}: pass 0, action 0, free,2: it does not fit the state of "
+                           "cores, threads and tasks\n  in the run at load 0.500 with seed 1\n")
 
 
 def test_words_name_policies(lab: Run) -> None:
     for word in ("exec:", "exec", "fifo"):
         told = lab(*SWEEP, "--policy", word, given=TABLE)
-        assert told.status == 2 and told.err.startswith(f"error: invalid value '{word}' for '--policy <NAME,..>'\n  [po")
+        said = f"error: invalid value '{word}' for '--policy <NAME,..>'\n  [possible values"
+        assert told.status == 2 and told.err.startswith(said)
 
 
 def test_trials_have_a_row_for_each_run(tmp_path: Path) -> None:
@@ -132,6 +135,19 @@ def test_a_batch_job_gets_work_where_no_task_is_named(tmp_path: Path) -> None:
     assert with_batch(machine, 0.3, {"task": 0, "service": 3}) == {"load": "0.3", "task": 0, "service": 3}
 
 
+def test_the_script_of_the_page(tmp_path: Path, monkeypatch: pytest.MonkeyPatch) -> None:
+    pytest.importorskip("matplotlib")
+    monkeypatch.setenv("CALADAN_VIEW", stand_in(tmp_path))
+    monkeypatch.setenv("PYTHONPATH", str(TOP / "lab" / "src"))
+    script = TOP / "examples" / "policies" / "longest_wait_first.py"
+    ran = subprocess.run([sys.executable, "-B", script, tmp_path / "it.svg"], capture_output=True, text=True,
+                         check=False)
+    assert (ran.returncode, ran.stderr) == (0, "")
+    rows = [it.split() for it in ran.stdout.splitlines()]
+    assert rows[2:] == [[it, "33.0", "33.0", "33.0"] for it in ("caladan", "assured", "LongestWait")]
+    assert (tmp_path / "it.svg").read_text().count("LongestWait") == 1
+
+
 @pytest.mark.parametrize("ending, front", [("svg", b"<?xml"), ("png", b"\x89PNG"), ("pdf", b"%PDF")])
 def test_trials_are_drawn(tmp_path: Path, ending: str, front: bytes) -> None:
     pytest.importorskip("matplotlib")
@@ -141,6 +157,8 @@ def test_trials_are_drawn(tmp_path: Path, ending: str, front: bytes) -> None:
     assert file.read_bytes().startswith(front)
     axes = it.plot().paper.figure.axes
     plot = next(each for each in axes if each.get_label() == "plot")
+    words = {each.get_text() for each in it.plot(x="batch cores").paper.figure.texts}
+    assert {"caladan", "LongestWait", "p99 over batch cores, by policy", "p99, ticks", "batch cores"} <= words
     lines = {line.get_gid(): list(zip(*line.get_data())) for line in plot.lines}
     assert lines["median-0"] == lines["median-1"] == [(0.5, 33.0), (0.9, 33.0)]
     with pytest.raises(Refusal, match="^policy: no column of numbers; there are load, seed, p50, "):

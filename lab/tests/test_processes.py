@@ -81,7 +81,8 @@ def test_what_a_program_reads(tmp_path: Path) -> None:
     front, _, told = (tmp_path / "read").read_text().partition("---\n")
     assert machine_of(front.encode()) == machine_of(table.encode())
     assert "\n\n" not in front and told.replace("\n\n", "\n") == history
-    assert told.count("\n\n") == history.count("\npass,") and told.endswith(f"\n\nend,{history.count(chr(10) + 'pass,')}\n")
+    passes = history.count("\npass,")
+    assert told.count("\n\n") == passes and told.endswith(f"\n\nend,{passes}\n")
 
 
 def fault_of(folder: Path, body: str, patience: float = 60) -> str:

@@ -42,9 +42,10 @@ def test_an_action_is_read_as_it_is_written(action: Action) -> None:
     assert action_of(row_of(action)) == action and type(action_of(row_of(action))) is type(action)
 
 
-@pytest.mark.parametrize("row", ["", "free", "free,01", "free,-1", "free,1,2", "grant,0,1", "grant,0,1,0", "grant,0,1,6",
-                                 "cap,0,17", "revoke,0", "revoke,0,ban", "revoke,0,bandwidth,1", "revoke,0,preempt,x",
-                                 "revoke,x,bandwidth", "end,3", "Free,1", "free,1 ", f"ban,0,0,{2 ** 64}"])
+@pytest.mark.parametrize("row", [
+    "", "free", "free,01", "free,-1", "free,1,2", "grant,0,1", "grant,0,1,0", "grant,0,1,6", "cap,0,17", "revoke,0",
+    "revoke,0,ban", "revoke,0,bandwidth,1", "revoke,0,preempt,x", "revoke,x,bandwidth", "end,3", "Free,1", "free,1 ",
+    f"ban,0,0,{2 ** 64}"])
 def test_what_is_no_action(row: str) -> None:
     assert action_of(row) is None
 
@@ -65,9 +66,9 @@ def test_an_example_worked_by_hand() -> None:
 
 
 def test_a_thread_steals_what_waits_behind_a_front() -> None:
-    # Thread 0 gets four requests. At pass 2 it is granted core 0, and begins the first in turn 2; the second becomes its
-    # front. At pass 3 that has waited 15 ticks, and thread 1 gets core 1: in turn 3, at 45, it steals the third, which
-    # stands first in the queue. Once it has served that, the fourth is a front, which nobody steals.
+    # Thread 0 gets four requests. At pass 2 it is granted core 0, and begins the first in turn 2; the second becomes
+    # its front. At pass 3 that has waited 15 ticks, and thread 1 gets core 1: in turn 3, at 45, it steals the third,
+    # which stands first in the queue. Once it has served that, the fourth is a front, which nobody steals.
     requests = tuple(Request(0, turn, turn + 1, 3, 0) for turn in range(4))
     arrivals = Arrivals(tuple((10 * n + 10, 0) for n in range(12)), tuple(10 * n + 15 for n in range(12)), requests)
     rows = played(MACHINE, arrivals, POLICIES["caladan"]).requests.decode().splitlines()[1:]

@@ -61,10 +61,10 @@ def of_sweep(csv: str, machine: Machine, swept: int, goals: Sequence[str], look:
 def of_trials(frame: pandas.DataFrame, keys: Sequence[str], x: str, y: str, look: Look, file: File) -> Picture:
     """The curves of runs by several policies, of a frame with a row for each run."""
     curves = []
-    for names, rows in frame.groupby(["policy", *keys], sort=False):
+    for name, rows in frame.groupby(frame[["policy", *keys]].astype(str).agg(" ".join, axis=1), sort=False):
         medians = rows.groupby("load")[list(dict.fromkeys([x, y]))].median() if x != "load" else \
             rows.groupby("load")[[y]].median().assign(load=lambda it: it.index)
-        curves.append(Curve(" ".join(map(str, names)), tuple(f"{it:g}" for it in medians.index),
+        curves.append(Curve(str(name), tuple(f"{it:g}" for it in medians.index),
                             tuple(zip(medians[x], medians[y])), tuple(zip(rows[x], rows[y]))))
     scene = TrialsScene(curves, x, y, look.tick or "ticks", frame["seed"].nunique(), palette_of(look), look.width)
     return Picture(draw_trials(scene), file)

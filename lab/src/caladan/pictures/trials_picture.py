@@ -67,8 +67,9 @@ def draw_curve(axes: Axes, curve: Curve, number: int, many: int, palette: Palett
     """A curve with its loads, and a pale point for each run."""
     how = look(number, many, palette)
     shown = [(x, y if math.isfinite(y) else math.nan) for x, y in curve.medians]
-    axes.plot([x for x, _ in curve.runs], [y if math.isfinite(y) else math.nan for _, y in curve.runs], linestyle="none",
-              marker="o", markersize=2.5, color=how["color"], alpha=0.35, gid=f"runs-{number}", zorder=2)
+    runs = [(x, y if math.isfinite(y) else math.nan) for x, y in curve.runs]
+    axes.plot([x for x, _ in runs], [y for _, y in runs], linestyle="none", marker="o", markersize=2.5,
+              color=how["color"], alpha=0.35, gid=f"runs-{number}", zorder=2)
     axes.plot([x for x, _ in shown], [y for _, y in shown], gid=f"median-{number}", clip_on=False, **how)
     for load, (x, y) in zip(curve.loads, shown):
         if not is_load and not math.isnan(y):

@@ -128,8 +128,8 @@ class Task(ReadOnly):
 
 
 class Thread(ReadOnly):
-    """A kernel thread. `number` counts all threads, in the order of the tasks, from 0. What it shows is its kept record:
-    the last one that a pass found."""
+    """A kernel thread. `number` counts all threads, in the order of the tasks, from 0. What it shows is its kept
+    record: the last one that a pass found."""
 
     __slots__ = ()
 
@@ -404,7 +404,8 @@ class Machine:
 
     def _may_get_one(self, thread: int) -> bool:
         board = self._board
-        return not self._is_blocked and board.is_grantable(thread) and thread not in board.commands and board.may_book(board.owner[thread])
+        may_be_sent = board.is_grantable(thread) and thread not in board.commands
+        return may_be_sent and board.may_book(board.owner[thread]) and not self._is_blocked
 
     def open_core(self, near: Thread) -> Optional[Core]:
         """The open core that suits the thread best, by its class and then its number; none where the thread may be

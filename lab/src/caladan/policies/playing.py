@@ -88,8 +88,9 @@ class Worker:
             if ASKING.is_ended:
                 raise Interrupted from None
             self.process.join()
-            raise Refusal(f"{name}: the process that makes its runs ended with status {self.process.exitcode}: is there "
-                          "memory for so many at once?", 3) from None
+            status = self.process.exitcode
+            raise Refusal(f"{name}: the process that makes its runs ended with status {status}: is there memory for so "
+                          "many at once?", 3) from None
         if fault is not None:
             raise fault
         return bytes(history)

@@ -15,8 +15,8 @@ WANTED = "an action, such as core.grant(thread)"
 
 class ActionRefused(Refusal):
     """An action that the guard does not permit at its place, or a pass that may not end where it does: by which policy,
-    in which pass, from 0; the number of the action in it, from 0, and the action, none at the end of a pass; and why, in
-    the guard's words."""
+    in which pass, from 0; the number of the action in it, from 0, and the action, none at the end of a pass; and why,
+    in the guard's words."""
 
     def __init__(self, policy: str, number: int = 0, place: int = 0, action: Optional[Action] = None,
                  why: str = "") -> None:

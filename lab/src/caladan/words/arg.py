@@ -93,8 +93,8 @@ VERSION = flag("version", "Print version", short="V")
 @dataclass(frozen=True)
 class Command:
     """A command: its name, the words before its own, what it is for, what the long help says at its end, what it takes
-    in the order of its help, and the commands below it. `extra` is of pictures, `own` of policies of one's own; the long
-    help has both by themselves."""
+    in the order of its help, and the commands below it. `extra` is of pictures, `own` of policies of one's own; the
+    long help has both by themselves."""
 
     name: str
     called: str

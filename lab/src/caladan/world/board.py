@@ -11,8 +11,8 @@ from .threads import PARK
 
 
 class Board:
-    """What all actions and records so far say. Of a core: the thread that holds or leaves it, with the number of its Run
-    and the cause for which it is leaving; the task to which the free core is owed; its ban, a thread and when that
+    """What all actions and records so far say. Of a core: the thread that holds or leaves it, with the number of its
+    Run and the cause for which it is leaving; the task to which the free core is owed; its ban, a thread and when that
     thread's request was begun; the thread to which it was granted last, how many grants had been made then, and at
     which clock. Of a thread: the core that it holds or leaves, the commands sent to it, its kept record and that of
     the pass before. Of a task: the cores that it books, those of them that it holds, and its cap. Of the pass: its
