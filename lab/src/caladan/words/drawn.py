@@ -65,9 +65,9 @@ PICTURE = (*LOOKS, DRAWN_TABLE, PROGRAM)
 # Of each word that writes text too, what has no place in a picture.
 TEXT_ALONE = {"compare": ("csv", "write-input", "from", "to"), "sweep": ("csv", "cheapest")}
 # Of a policy that is a program of its own.
-OWN = (option("patience", "SECONDS", "How long to wait for each answer of a policy exec:COMMAND", default="10",
+OWN = (option("patience", "N", "Seconds for an answer of exec:COMMAND", default="10",
               number=Number(1, 86400)),)
-BY = option("policy", "NAME", "The policy: caladan, assured or exec:COMMAND [default: caladan]", names=POLICIES,
+BY = option("policy", "NAME", "caladan, assured or exec:COMMAND [default: caladan]", names=POLICIES,
             prefix=EXEC)
 # A file is asked for: without it the words are refused.
 PICTURE_FILE = option("output", "PICTURE", "The picture: .svg, .png or .pdf", short="o", unless="output")
