@@ -10,6 +10,7 @@ from ..figures import MaybeFigure
 from ..measured import CROWD, TIMES, Measured, measured_of
 from ..moving import Moved, Mover, NoTask
 from ..plans import Plan
+from ..players import Players
 from ..programs import Ran, Text, Viewer, Word, refused
 from ..progress import Progress
 from ..refusal import Refusal
@@ -66,8 +67,9 @@ class Runs:
     """What makes the runs."""
 
     def __init__(self, view: Viewer, terms: Terms, machines: Sequence[Machine], mover: Mover,
-                 names: Sequence[str]) -> None:
+                 names: Sequence[str], players: Players) -> None:
         self.view, self.terms, self.machines, self.mover, self.names = view, terms, machines, mover, names
+        self.players = players
 
     def moved(self, table: int) -> Moved:
         """What a table gets."""
@@ -87,19 +89,24 @@ class Runs:
         """What the program says of a run, on what, and whether a request came within the window."""
         moved, terms = self.moved(table), self.terms
         given = self.machines[table].text() + SEPARATOR + moved.arrivals
-        words = ["measure", "--csv", "--policy", policy, *self.plan_for(moved).words()]
+        words: list[Word] = ["measure", "--csv", *self.words_of(table, policy, moved)]
         came: list[Word] = [] if moved.came is None else ["--came", Text(moved.came)]
         ran = self.view.ask([*words, *came, *terms.window], given)
         if ran.status == 2 and NONE_CAME in ran.err:
             return self.view.ask([*words, *came], given), moved, False
         return ran, moved, True
 
+    def words_of(self, table: int, policy: str, moved: Moved) -> list[Word]:
+        """The words for how a run goes."""
+        return self.players.words(policy, self.machines[table], moved.arrivals, self.plan_for(moved))
+
     def run(self, unit: tuple[int, str]) -> ComparedRun:
         """The run of a table by a policy."""
         table, policy = unit
-        ran, moved, is_ranked = self.asked(table, policy)
-        if ran.status:
-            raise refused(ran)
+        with self.players.naming(policy, f"of {self.names[table]}"):
+            ran, moved, is_ranked = self.asked(table, policy)
+            if ran.status:
+                raise refused(ran)
         return ComparedRun(measured_of(ran.out), moved.came is not None, is_ranked, len(self.machines[table].tasks))
 
     def all(self, is_shown: bool = False) -> list[ComparedRun]:
@@ -116,6 +123,7 @@ class Runs:
             progress.made()
             return run
         try:
-            return pool.all_of(made, units, pool.at_a_time(), places)
+            with self.players.at_work():
+                return pool.all_of(made, units, pool.at_a_time(), places)
         finally:
             progress.ended()
