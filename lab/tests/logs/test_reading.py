@@ -8,6 +8,7 @@ import sys
 from pathlib import Path
 
 import pytest
+from conftest import TOP
 from hypothesis import given
 from hypothesis import strategies as st
 
@@ -75,7 +76,7 @@ def test_a_name_of_a_column_may_have_a_comma(tmp_path: Path) -> None:
 
 def test_the_standard_input_and_a_pipe(tmp_path: Path) -> None:
     words = [sys.executable, "-c", "from caladan.logs.log import Log; print(Log.read('{}', 'us').text)"]
-    environment = {**os.environ, "PYTHONPATH": os.pathsep.join(sys.path)}
+    environment = {**os.environ, "PYTHONPATH": str(TOP / "lab" / "src")}
     for name in ("-", "/dev/stdin"):
         ran = subprocess.run([*words[:2], words[2].format(name)], input=PLAIN, capture_output=True, text=True,
                              env=environment, check=True)

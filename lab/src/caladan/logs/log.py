@@ -116,9 +116,9 @@ class Log:
     def of(cls, frame: pandas.DataFrame, unit: str, columns: Optional[Mapping[str, str]] = None,
            name: str = "frame") -> "Log":
         """The log that a frame of pandas is, whose rows are counted as those of a file would be."""
-        units = units_of(unit)
+        units, named = units_of(unit), checked(columns or {})
         try:
-            fields = fields_of_frame(frame, checked(columns or {}))
+            fields = fields_of_frame(frame, named)
         except Refusal as refusal:
             raise Refusal(f"{name}: {refusal.line}", refusal.status, refusal.below) from None
         return cls.of_fields(name, fields, units)
@@ -149,6 +149,18 @@ class Log:
         if not self.lasts:
             return None
         return Fraction((len(self) - 1) * WHOLE * 10 ** (9 - POWERS[self.unit]), self.lasts)
+
+    def scaled(self, times: Union[int, float, str, Fraction]) -> "Log":
+        """The log at so many times its load: each request comes so much sooner after the first. Refusal of 0 and
+        less."""
+        from .draws import scaled
+        return scaled(self, Fraction(str(times)))
+
+    def drawn(self, seed: int, block: Optional[int] = None) -> "Log":
+        """A draw from it, in blocks of so many requests, which keep their gaps, services, tasks and misses; without
+        `block` of the root of how many there are. The same seed gives the same."""
+        from .draws import drawn
+        return drawn(self, seed, block)
 
     @property
     def text(self) -> bytes:
