@@ -17,6 +17,7 @@ from .plans import plan_words
 from .players import Players, naming, own_of
 from .programs import Came, Text, Viewer, Word, simulator, viewer
 from .refusal import Refusal
+from .stamps import tick_of
 from .sweeps.command import answer as swept
 from .sweeps.command import asked_of, table_of
 from .tables import KEYS, SEPARATOR, UNKNOWN_KEY, Machine, table_part
@@ -28,6 +29,7 @@ from .words.parsing import Asked, read_words
 if TYPE_CHECKING:
     import pandas
 
+    from .logs.log import Log
     from .pictures.asked import Look
     from .pictures.picture import File, Picture
     from .policies.playing import Own
@@ -120,8 +122,10 @@ class Table:
     @classmethod
     def read(cls, file: Union[str, "os.PathLike[str]"], names: Sequence[str] = (), tick: str = "",
              program: str = "") -> "Table":
-        """The table of a file; of an input what stands before its first line ---."""
-        return cls(table_part(read_named(os.fspath(file))), tuple(names), tick, program)
+        """The table of a file; of an input what stands before its first line ---. A line such as `# A tick is 1 us.`
+        says the unit of a tick too. Refusal of another one."""
+        text = table_part(read_named(os.fspath(file)))
+        return cls(text, tuple(names), tick_of(text, tick), program)
 
     @functools.cached_property
     def view(self) -> Viewer:
@@ -162,6 +166,17 @@ class Table:
         ran = self.view.told([*words, "--came", Came()], self.text)
         return Run(self, ran.out, ran.came, tuple(words), called(policy), tuple(words_of(plan or {})), own_in([policy]))
 
+    def run_log(self, log: Log, turn: str, policy: By = "caladan", plan: Optional[Mapping[str, Option]] = None,
+                **options: Option) -> "Run":
+        """The run of a log, with turns as long as `turn` says, as "5us". Options are those of `caladan_lab log`, as
+        batch="batch", task=0, turns=2000, tick="ns". A tick is that of the table, else the unit of the log. A warning,
+        caladan.LeftOut, says that more than one request in a hundred is left out."""
+        from .logs.running import run_of
+        more = words_of({"names": ",".join(self.names) or None, "tick": self.tick or None, **options})
+        ran = run_of(self.view, log, self.text, self.machine, turn, more)
+        return Run(replace(self, text=ran.text, tick=ran.tick), ran.arrivals, ran.came, ran.words, called(policy),
+                   tuple(words_of(plan or {})), own_in([policy]))
+
     def run_of(self, arrivals: Union[str, "os.PathLike[str]"], policy: By = "caladan",
                plan: Optional[Mapping[str, Option]] = None) -> "Run":
         """The run on the arrivals of a file."""
@@ -193,7 +208,7 @@ class Run:
     @property
     def seed(self) -> Optional[int]:
         """The seed of the arrivals; none where they are not made by one."""
-        if not self.words or "--log" in self.words:
+        if not self.words or "--log" in self.words or self.words[0] == "log":
             return None
         return int(self.words[self.words.index("--seed") + 1]) if "--seed" in self.words else 1
 
@@ -267,13 +282,14 @@ class Run:
 @dataclass(frozen=True)
 class Answer:
     """What came of many runs: the CSV, the words that asked for it, its table, the lines about objectives that are not
-    kept, and of a comparison its runs."""
+    kept; of a comparison its runs, and of a sweep the number of the task that is swept."""
 
     csv: str
     words: tuple[str, ...]
     table: Table
     misses: tuple[str, ...] = ()
     runs: Optional[Runs] = field(default=None, repr=False, compare=False)
+    swept: int = 0
 
     @property
     def tick(self) -> str:
@@ -301,7 +317,7 @@ class Answer:
         if self.runs is not None:
             return of_compare(csv, self.runs, look, file)
         asked = read_words(LAB, self.words)
-        return of_sweep(csv, self.table.machine, asked_of(asked).loads.task, asked.all("slo"), look, file)
+        return of_sweep(csv, self.table.machine, self.swept, asked.all("slo"), look, file)
 
 
 def _asked(word: str, table: Table, vary: Optional[Keys], options: Mapping[str, Option]) -> tuple[list[str], Asked]:
@@ -340,33 +356,48 @@ def compare(runs: Union[Run, Sequence[Run]], vary: Optional[Keys] = None, polici
 
 Load = Union[Value, Sequence[Value], None]
 OfTable = Union[Table, str, "os.PathLike[str]"]
+OfLog = Union["Log", str, "os.PathLike[str]", None]
 
 
 @overload
 def sweep(table: OfTable, load: Load = None, vary: Optional[Keys] = None, policies: None = None, loads: Load = None,
-          **options: Option) -> Answer: ...
+          log: OfLog = None, scale: Load = None, rate: Load = None, **options: Option) -> Answer: ...
 
 
 @overload
 def sweep(table: OfTable, load: Load = None, vary: Optional[Keys] = None, *, policies: Sequence[By], loads: Load = None,
-          **options: Option) -> "Trials": ...
+          log: OfLog = None, scale: Load = None, rate: Load = None, **options: Option) -> "Trials": ...
 
 
 def sweep(table: OfTable, load: Load = None, vary: Optional[Keys] = None, policies: Optional[Sequence[By]] = None,
-          loads: Load = None, **options: Option) -> Union[Answer, "Trials"]:
+          loads: Load = None, log: OfLog = None, scale: Load = None, rate: Load = None,
+          **options: Option) -> Union[Answer, "Trials"]:
     """The response of a task at rising loads, of a Table or of the file of one. Options are those of `caladan_lab
     sweep`, as task=0, service=10, turns=2000, seeds=5, slo="task.0.p99=400". With policies, as ["caladan",
     LongestWait()], a run by each, and Trials, whose frame has a row for each run; without `task` the first
-    latency-critical task has the loads then, and each best-effort one more work than it can do."""
+    latency-critical task has the loads then, and each best-effort one more work than it can do. With a log, a Log or a
+    file, the requests are its own, at times its load (`scale`) or at requests a second (`rate`), as turn="5us",
+    batch="batch", seeds=10."""
     of_table = table if isinstance(table, Table) else Table.read(table)
     given = load if loads is None else loads
     if policies is not None:
+        if log is not None:
+            raise Refusal("a log is swept by the program's policies: leave `policies` out, and give policy=..")
         from .trials import trials_of
         return trials_of(of_table, given, vary, policies, options)
-    words, asked = _asked("sweep", of_table, vary, {"load": load_word(given), **options})
+    words, asked = _asked("sweep", of_table, vary, {"load": load_word(given), **of_log(log, scale, rate), **options})
     names_of(asked.one("names"))
-    csv, lines = swept(asked_of(asked), of_table.text, of_table.view)
-    return Answer(csv, tuple(words), of_table, tuple(lines.splitlines()))
+    of_words = asked_of(asked, None if log is None or isinstance(log, (str, os.PathLike)) else log)
+    csv, lines = swept(of_words, of_table.text, of_table.view)
+    return Answer(csv, tuple(words), of_table, tuple(lines.splitlines()), swept=of_words.loads.task)
+
+
+def of_log(log: OfLog, scale: Load, rate: Load) -> dict[str, Option]:
+    """The options for a log, by its file, or one that is read."""
+    more: dict[str, Option] = {"scale": load_word(scale), "rate": load_word(rate)}
+    if log is None or isinstance(log, (str, os.PathLike)):
+        return {"log": None if log is None else os.fspath(log), **more}
+    return {"log": log.name, "unit": log.unit, **more}
 
 
 def load_word(load: Load) -> Optional[str]:

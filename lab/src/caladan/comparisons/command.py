@@ -13,6 +13,7 @@ from ..players import Players, own_of
 from ..pool import each
 from ..programs import viewer
 from ..refusal import Refusal
+from ..stamps import tick_of
 from ..tables import SEPARATOR, Machine
 from ..varying import Variations, setting_text, varied, variations_of
 from ..words.parsing import Asked
@@ -79,7 +80,7 @@ class Comparison:
         given = self.source.read(self.front)
         came = None if self.came_name is None else (self.came_name, read_named(self.came_name))
         parts = parts_of(given, bool(variations), self.files, self.input_name)
-        labels = Labels(self.names, self.asked.one("tick") or "", table_names(self.files))
+        labels = Labels(self.names, tick_of(given, self.asked.one("tick")), table_names(self.files))
         return answer(self.asked, Reading(viewer(self.asked.one("program")), given, parts, bool(variations)),
                       variations, labels, came)
 

@@ -2,7 +2,7 @@
 from __future__ import annotations
 
 import itertools
-from typing import TYPE_CHECKING, Sequence
+from typing import TYPE_CHECKING, Optional, Sequence
 
 from .. import pool
 from ..files import Output, Source, is_terminal, say
@@ -21,6 +21,7 @@ from .sheet import SweepSheet
 from .verdict import Swept, Verdict
 
 if TYPE_CHECKING:
+    from ..logs.log import Log
     from ..policies.playing import Own
 
 # The words by which the program reads a table as a sweep does.
@@ -79,6 +80,7 @@ def swept_input(of_words: SweepAsked, given: bytes, view: Viewer, is_shown: bool
     """The runs of the sweep of an input, by policies of which these are the others than words name."""
     players = Players(view, own_of(of_words.policies, of_words.patience, others))
     machine = table_of(view, given)
+    of_words = of_words.for_table(given)
     counted(of_words.labels.names, len(machine.tasks))
     known(of_words, machine)
     machines = varied(view, machine, of_words.variations, pool.each) if of_words.variations else [machine]
@@ -97,9 +99,9 @@ def answer_of(swept: Swept) -> tuple[str, str]:
     return SweepSheet(swept).written(verdict), verdict.lines()
 
 
-def asked_of(asked: Asked) -> SweepAsked:
-    """What the words ask for, but for the table."""
-    of_words = sweep_asked(asked, Labels(names_of(asked.one("names")), asked.one("tick") or ""))
+def asked_of(asked: Asked, log: Optional[Log] = None) -> SweepAsked:
+    """What the words ask for, but for the table, maybe of a log that is read."""
+    of_words = sweep_asked(asked, Labels(names_of(asked.one("names")), asked.one("tick") or ""), log)
     if not of_words.loads.has_misses:
         of_words.plan.refuse_without_misses()
     return of_words

@@ -51,10 +51,7 @@ class SweepSheet:
         self.has_policies = len(self.asked.policies) > 1
 
     def load_heading(self) -> str:
-        name = self.asked.labels.name(self.asked.loads.task)
-        if self.asked.loads.in_cores:
-            return f"offered to {name}" if name is not None else "offered"
-        return f"load of {name}" if name is not None else "load"
+        return self.asked.loads.heading(self.asked.labels.name(self.asked.loads.task))
 
     def cells_of(self, values: Sequence[str], policy: Optional[str]) -> Cells:
         """The cells of the values that make a table and of a policy, or of what stands over them: a cell for each; a

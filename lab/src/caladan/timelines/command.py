@@ -11,6 +11,7 @@ from ..plans import plan_of
 from ..pool import all_of
 from ..programs import Viewer, viewer
 from ..refusal import Refusal
+from ..stamps import tick_of
 from ..tables import Machine, accepted, machine_of, table_part
 from ..words.parsing import Asked
 from .counters import Counters, Passes, passes_of
@@ -110,7 +111,7 @@ def answer(asked: Asked, given: bytes, names: tuple[str, ...]) -> Iterator[bytes
     """What is written of an input, in parts. What is refused is told before the first of them."""
     view, trace = viewer(asked.one("program")), trace_of(given)
     told = facts(view, given, words_of(asked), names, trace)
-    labels = Labels(names, asked.one("tick") or "")
+    labels = Labels(names, tick_of(given, asked.one("tick")))
     return text_of(events_of(machine_of(table_part(given)), labels, told, trace))
 
 

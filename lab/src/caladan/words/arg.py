@@ -91,10 +91,19 @@ VERSION = flag("version", "Print version", short="V")
 
 
 @dataclass(frozen=True)
+class Section:
+    """Options that the long help has apart, under a title, and what it says of them."""
+
+    title: str
+    args: tuple[Arg, ...]
+    says: str
+
+
+@dataclass(frozen=True)
 class Command:
     """A command: its name, the words before its own, what it is for, what the long help says at its end, what it takes
-    in the order of its help, and the commands below it. `extra` is of pictures, `own` of policies of one's own; the
-    long help has both by themselves."""
+    in the order of its help, and the commands below it. `extra` is of pictures, `own` of policies of one's own, and
+    `sections` are of others; the long help has all by themselves. Of `is_text` no file's ending makes a picture."""
 
     name: str
     called: str
@@ -106,11 +115,18 @@ class Command:
     extra: tuple[Arg, ...] = ()
     own: tuple[Arg, ...] = ()
     has_help: bool = True
+    sections: tuple[Section, ...] = ()
+    is_text: bool = False
+
+    @property
+    def apart(self) -> tuple[Arg, ...]:
+        """The options that stand in parts of the help of their own."""
+        return (*self.extra, *self.own, *(it for section in self.sections for it in section.args))
 
     @property
     def all_args(self) -> tuple[Arg, ...]:
         asks = (*((HELP,) if self.has_help else ()), *((VERSION,) if self.version else ()))
-        return (*self.args, *self.extra, *self.own, *asks)
+        return (*self.args, *self.apart, *asks)
 
     @property
     def files(self) -> tuple[Arg, ...]:

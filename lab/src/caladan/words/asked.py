@@ -7,6 +7,7 @@ from .. import __version__
 from . import texts
 from .arg import EXEC, POLICIES, Arg, Command, Number, flag, number, option
 from .drawn import OWN, PICTURE, PROGRAM, RUN, SEEDS
+from .logged import LOG, SWEPT_LOG
 
 NAME = "caladan_lab"
 UNITS = ("ns", "us", "ms", "s")
@@ -57,7 +58,7 @@ COMPARE = Command(
 SWEEP = Command(
     "sweep", f"{NAME} sweep", "Run a table at rising loads", texts.SWEEP,
     (INPUT, option("task", "TASK", "A task that gets requests", many=True, default="0"),
-     option("load", "LOAD", "Rising loads, such as 0.1,0.3,..,0.9", many=True, unless="offered"),
+     option("load", "LOAD", "Rising loads, such as 0.1,0.3,..,0.9", many=True, unless="offered log"),
      option("offered", "CORES", "The same in cores, whatever its limit, such as 1.5", many=True),
      *RUN_OF_LOADS, BY_EACH, *in_long_help(PLAN), VARY,
      option("slo", "OBJECTIVE", "What the last load must keep, such as task.0.p99=65", many=True),
@@ -69,7 +70,7 @@ SWEEP = Command(
             number=Number(1, 2 ** 63 - 1), hidden=True),
      flag("quiet", "Do not show on a terminal how many loads are done", short="q", hidden=True),
      CSV, NAMES, TICK, OUTPUT),
-    extra=PICTURE, own=OWN)
+    extra=PICTURE, own=OWN, sections=(SWEPT_LOG,))
 
 TIMELINE = Command(
     "timeline", f"{NAME} timeline", "Write a history or a run as trace events, for Perfetto", texts.TIMELINE,
@@ -86,4 +87,4 @@ copy; `man caladan-viewer` has the rest.
 Exit status: 0 done, 1 an objective missed, 2 bad arguments or rejected input, 3
 memory or output was refused, or a program is missing. A fault is one line on
 the standard error; below it, lines say why an input was rejected.""",
-    commands=(COMPARE, SWEEP, TIMELINE, RUN, SEEDS), version=__version__)
+    commands=(COMPARE, SWEEP, TIMELINE, LOG, RUN, SEEDS), version=__version__)
