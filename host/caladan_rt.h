@@ -94,6 +94,27 @@ bool caladan_rt_attach_again(caladan_rt *rt);
  * is full, there is no such kernel thread, or the runtime is that of the process's parent. */
 bool caladan_rt_submit(caladan_rt *rt, unsigned thread, caladan_request request);
 
+/* The same of several at once, in this order, shown to the scheduler at once. How many were handed in: as many as
+ * fit. */
+size_t caladan_rt_submit_each(caladan_rt *rt, unsigned thread, const caladan_request *requests, size_t count);
+
+/* Ends the runtime: threads end the requests that they have begun, without cores, and then themselves; the task is
+ * given up, and the process may start another runtime. To be called when nobody else calls any of these functions for
+ * it; requests that have begun may need what they were given until it is back. *unserved (or NULL): how many requests
+ * are left that nobody has begun. False: errno says why (EDEADLK: it is called by a kernel thread; ECHILD: the
+ * runtime is that of the process's parent), and nothing has changed. */
+bool caladan_rt_stop(caladan_rt *rt, size_t *unserved);
+
+/* So many requests that somebody waits for: begun before they are handed in, done once by each, and waited for, as
+ * many nanoseconds at most (0: however long; false: not by then). A kernel thread that waits keeps its
+ * core meanwhile. */
+typedef struct caladan_latch {
+    uint32_t left;
+} caladan_latch;
+void caladan_latch_begin(caladan_latch *latch, uint32_t count);
+void caladan_latch_done(caladan_latch *latch);
+bool caladan_latch_wait(caladan_latch *latch, uint64_t ns);
+
 /* Adds to the calling kernel thread's count of cache misses, and shows it; the count stops at 2^56. A scheduler
  * believes at most one miss a nanosecond since a piece of its record began: so report misses as they come, and not
  * those of a second at once. */

@@ -66,18 +66,31 @@ typedef struct leaving {
     uint64_t on_cpu, sampled, sampled_wall; /* when it was asked last: its count, run time and wall time */
 } leaving;
 
-/* A kernel thread of a process. While it has moves that are not done (moves.c), what stands before
- * `handed` is the mover's. */
+/* What moves do to a kernel thread: the mover's, while moves of it are not done (moves.c). */
+typedef struct host_pin {
+    caladan_sender sender;
+    pid_t tid;     /* which one was pinned last; 0: none */
+    unsigned core; /* and to which core's processor */
+    pid_t idle;    /* which one was put into SCHED_IDLE last; 0: none */
+    int error;     /* the errno with which it could not be pinned; 0: it is not the process's */
+    bool is_lost;  /* the last move could not pin it */
+    bool is_slow;  /* or that took long */
+    unsigned slow; /* how often that took long, one after the other */
+} host_pin;
+
+/* Of a kernel thread of a task that stands under: under.c's. */
+typedef struct host_under {
+    unsigned target;   /* the core where it is to be, plus one; or 0 */
+    unsigned stands;   /* the one where it was sent, and was not seen to leave, plus one; or 0 */
+    bool is_revoked;   /* that one was taken from it: it was sent Park */
+    uint64_t seqno;    /* of the last command of its ring, also of one that the mover has not sent yet */
+    caladan_look page; /* the last record of its page that it can have published */
+} host_under;
+
+/* A kernel thread of a process. */
 typedef struct host_seat {
     host_slot *slot;
-    caladan_sender sender;
-    pid_t pinned;        /* which one was pinned last; 0: none */
-    unsigned pinned_to;  /* and to which core's processor */
-    pid_t idle;          /* which one was put into SCHED_IDLE last; 0: none */
-    int unpinned_for;    /* the errno with which it could not be; 0: it is not the process's */
-    bool is_lost;        /* the last move could not pin it */
-    bool is_slow;        /* or that took long */
-    unsigned slow;       /* how often that took long, one after the other */
+    host_pin pin;
     uint64_t handed;     /* its moves: how many were planned */
     uint64_t settled;    /* and how many are known to be done */
     _Atomic uint64_t done;
@@ -85,15 +98,10 @@ typedef struct host_seat {
     uint64_t retry_at;   /* it could not be pinned, and is granted nothing until then */
     uint64_t place, misses; /* what its page had at a time */
     uint64_t from;       /* since when it can have published, and missed, once a nanosecond */
-    bool is_doubted;     /* its last look was refused: it is granted nothing until one is kept */
-    bool is_mute;        /* it did not answer in time: nobody waits for it until it does */
+    bool is_refused;     /* its last look was: it is granted nothing until one is kept */
+    bool is_unacked;     /* it did not answer in time: nobody waits for it until it does */
     leaving leaving;
-    /* What follows is of a task that stands under. */
-    unsigned target;     /* the core where it is to be, plus one; or 0 */
-    unsigned stands;     /* the one where it was sent, and was not seen to leave, plus one; or 0 */
-    bool is_told;        /* to leave that one */
-    uint64_t ordered;    /* the commands of its ring, also those that the mover has not sent yet */
-    caladan_look page;   /* the last record of its page that it can have published */
+    host_under under;
 } host_seat;
 
 /* How a thread that stands under is to leave the core that it has. */

@@ -5,7 +5,7 @@
  *   load lc -n NAME -u TASK [-s SECONDS] [-q REQUESTS_A_SECOND] [-m MICROSECONDS] [-i IDLE_NS]
  *        [-x CPU] [-k TURNS] [-c COUNTER]
  *   load be -n NAME -u TASK [-s SECONDS] [-i IDLE_NS] [-b] [-h] [-e WHAT] [-k TURNS] [-c
- *        COUNTER] [-p WHAT] [-l MS]
+ *        COUNTER] [-p WHAT] [-l MS] [-t]
  *
  * lc: requests come at times that are drawn beforehand (Poisson), whether earlier ones are
  * served or not, and the time of a request counts from there. A request is a number of turns of
@@ -17,7 +17,8 @@
  * again; seek: run until it has attached again), and the process goes on. Both: -a: the main
  * thread has all signals blocked; -g: the process has a handler of SIGURG; -z: it closes all its
  * files when it has started; -f: it has a child that hands in a request, and one that attaches
- * as its task, and the status is 4 where these are not refused. -l: so long without a sign of it
+ * as its task, and the status is 4 where these are not refused. -t: it starts and stops its
+ * runtime five times, with requests that are waited for and others that are left. -l: so long without a sign of it
  * the scheduler counts as over, and threads do as -e says. -p: a thread with a core starts
  * something that lives for a minute, and says its number: thread, fork, spawn, exec, or, by the
  * runtime, rt_thread and rt_spawn; vfork: the child hands in a request, and the status is 4 where
@@ -61,7 +62,7 @@ static struct {
     unsigned task;
     double turns, microseconds, rate, seconds, lost;
     int cpu;
-    bool bytes, holds, blocks, handles, closes, forks;
+    bool bytes, holds, blocks, handles, closes, forks, stops;
     const char *after, *starts;
     uint64_t idle_ns;
 } options = {.microseconds = 20, .rate = 10000, .seconds = 1, .cpu = -1, .idle_ns = 5000};
@@ -380,6 +381,40 @@ static void serve_chunk(void *with, unsigned thread, caladan_request request) {
     caladan_rt_submit(rt, thread, (caladan_request){caladan_rt_now(rt), request.what});
 }
 
+/* ---- runtimes that are stopped ---- */
+
+enum { WAITED_FOR = 40, TOO_MANY = 10000 };
+
+static void serve_latched(void *with, unsigned thread, caladan_request request) {
+    (void)with, (void)thread;
+    spin((uint64_t)(options.turns * 20));
+    if (request.what) caladan_latch_done((caladan_latch *)(uintptr_t)request.what);
+}
+
+/* So many requests at once, in turn to each thread; how many were taken. */
+static size_t submit_each(size_t count, caladan_latch *latch) {
+    static caladan_request requests[TOO_MANY];
+    size_t taken = 0, part = count / caladan_rt_threads(rt);
+    for (size_t i = 0; i < count; i++)
+        requests[i] = (caladan_request){caladan_rt_now(rt), (uint64_t)(uintptr_t)latch};
+    for (unsigned k = 0; k < caladan_rt_threads(rt); k++) taken += caladan_rt_submit_each(rt, k, requests, part);
+    return taken;
+}
+
+static void start_and_stop(void) {
+    caladan_latch latch;
+    size_t unserved = 0;
+    start(serve_latched);
+    caladan_latch_begin(&latch, WAITED_FOR + 1);
+    if (submit_each(WAITED_FOR, &latch) != WAITED_FOR) die("a batch", "it was not taken");
+    if (caladan_latch_wait(&latch, 1000000)) die("a latch", "it fell too early");
+    caladan_latch_done(&latch);
+    if (!caladan_latch_wait(&latch, 60000000000u)) die("a batch", "it was not served in a minute");
+    size_t taken = caladan_rt_submit_each(rt, 0, NULL, 0) + submit_each(TOO_MANY, NULL);
+    if (!caladan_rt_stop(rt, &unserved)) die("a runtime", "it was not stopped");
+    if (taken < TOO_MANY / 4 || unserved > taken) die("a batch", "it was not taken, or more is left");
+}
+
 /* What a child can do with its parent's runtime: nothing. */
 static bool is_refused(void) {
     if (caladan_rt_submit(rt, 0, (caladan_request){caladan_rt_now(rt), 0})) return false;
@@ -415,6 +450,8 @@ static int best_effort(void) {
         memset(buffer, 1, BUFFER);
     }
     is_best = true;
+    for (int i = 0; i < 5 && options.stops; i++) start_and_stop();
+    if (options.stops) exit(0); /* nothing is left, and the address sanitizer looks */
     start(serve_chunk);
     for (unsigned i = 0; i < caladan_rt_threads(rt); i++)
         caladan_rt_submit(rt, i, (caladan_request){caladan_rt_now(rt), i});
@@ -443,6 +480,7 @@ static void read_option(int option) {
     case 'a': options.blocks = true; break;
     case 'g': options.handles = true; break;
     case 'z': options.closes = true; break;
+    case 't': options.stops = true; break;
     case 'f': options.forks = true; break;
     case 'e': options.after = optarg; break;
     case 'l': options.lost = atof(optarg); break;
@@ -454,7 +492,7 @@ static void read_option(int option) {
 int main(int count, char **words) {
     const char *word = count > 1 ? words[1] : "";
     if (!strcmp(word, "spin")) return printf("%.2f\n", turns_of_a_microsecond()), 0;
-    static const char letters[] = "n:u:k:c:x:m:q:s:i:bhagzfe:p:l:";
+    static const char letters[] = "n:u:k:c:x:m:q:s:i:bhagzfe:p:l:t";
     for (int c; count > 1 && (c = getopt(count - 1, words + 1, letters)) != -1;) read_option(c);
     if ((strcmp(word, "lc") && strcmp(word, "be")) || options.name == NULL)
         die("usage", "load spin | lc | be -n NAME -u TASK ..");

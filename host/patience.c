@@ -73,7 +73,7 @@ static bool is_covered(const scheduler *s, size_t k) {
     const host_seat *seat = &s->thread[k].seat;
     unsigned above = seat->leaving.core < HOST_CORES ? s->on_core[seat->leaving.core] : 0;
     if (!stands_under(s, k) || above == 0 || above - 1 == k) return false;
-    if (seat->handed == seat->settled && seat->idle == 0) return false;
+    if (seat->handed == seat->settled && seat->pin.idle == 0) return false;
     return s->task[s->thread[above - 1].task].is_critical;
 }
 
@@ -88,7 +88,7 @@ static bool is_excused(const scheduler *s, size_t k) {
 static void sample(scheduler *s, size_t k) {
     host_seat *seat = &s->thread[k].seat;
     leaving *it = &seat->leaving;
-    pid_t pid = s->task[s->thread[k].task].pid, tid = seat->pinned ? seat->pinned : atomic_load(&seat->slot->tid);
+    pid_t pid = s->task[s->thread[k].task].pid, tid = seat->pin.tid ? seat->pin.tid : atomic_load(&seat->slot->tid);
     uint64_t on_cpu = on_cpu_time(pid, tid), looked_on = s->run_time - it->sampled, ran = 0;
     if (it->sampled_wall == 0) looked_on = s->run_time - it->since;
     else if (tid == it->tid && on_cpu > it->on_cpu) ran = on_cpu - it->on_cpu;
@@ -118,11 +118,17 @@ static void kill_for(scheduler *s, size_t k) {
     kill_process(s, &s->task[s->thread[k].task], why);
 }
 
+/* Long before the bound by the wall clock, also where the scheduler has little time itself. */
+static bool is_half_over(const scheduler *s, const leaving *it) {
+    uint64_t half = s->options.patience ? s->options.patience / 2 : LAST;
+    if (s->run_time - it->since >= half || it->ran + it->rested >= half) return true;
+    return s->wall_time - it->since_wall >= 2 * half;
+}
+
 static void hurry(scheduler *s, size_t k) {
     host_seat *seat = &s->thread[k].seat;
     leaving *it = &seat->leaving;
-    uint64_t half = s->options.patience ? s->options.patience / 2 : LAST;
-    if (it->again || (s->run_time - it->since < half && it->ran + it->rested < half)) return;
+    if (it->again || !is_half_over(s, it)) return;
     it->again = true; /* a signal may have come while the thread could not take it */
     if (stands_under(s, k)) lift(s, k);
     interrupt(&s->task[s->thread[k].task], seat->slot);

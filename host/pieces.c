@@ -32,8 +32,8 @@ static void begin_thread(scheduler *s, size_t k) {
     host_thread *thread = &s->thread[k];
     host_seat *seat = &thread->seat;
     clear_slot(seat->slot);
-    seat->sender = (caladan_sender){&seat->slot->ring, 0};
-    seat->is_doubted = seat->is_mute = seat->leaving.is_set = false;
+    seat->pin.sender = (caladan_sender){&seat->slot->ring, 0};
+    seat->is_refused = seat->is_unacked = seat->leaving.is_set = false;
     seat->place = seat->misses = seat->left_at = 0;
     seat->from = now_of(s);
     thread->by_hand = thread->is_deferred = false;
@@ -95,7 +95,7 @@ static void lift_each(scheduler *s) {
 static void note_each_leaving(scheduler *s) {
     for (size_t k = 0; k < s->machine.threads; k++) {
         const host_thread *thread = &s->thread[k];
-        unsigned core = stands_under(s, k) ? thread->seat.stands : thread->core;
+        unsigned core = stands_under(s, k) ? thread->seat.under.stands : thread->core;
         bool stays = thread->core || (s->task[thread->task].pid && !is_quiet(s, thread->seat.slot));
         if (!stays) s->thread[k].seat.leaving.is_set = false;
         else if (!thread->seat.leaving.is_set) note_leaving(s, k, core ? core - 1 : NO_CORE);
@@ -138,7 +138,7 @@ void end_piece(scheduler *s) {
         make_pass(s); /* who left since the last look is not parted with */
         note_each_leaving(s);
         kill_the_deaf(s); /* and who was killed and does not end */
-        if (s->run_time - run >= patience / 2) lift_each(s);
+        if (s->run_time - run >= patience / 2 || s->wall_time - wall >= patience) lift_each(s);
         if (at_once) part_with_each(s);
         if (passes >= RECORD_END_PASSES) break;
         if (s->options.patience == 0 && (is_overdue || s->run_time - run >= patience)) break;

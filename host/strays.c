@@ -32,7 +32,7 @@ struct strays {
     const scheduler *of;
     cpu_set_t managed;
     suspect suspect[2 * HOST_TASKS];
-    unsigned looks; /* of this round */
+    unsigned looks; /* of this process, so far */
     note note[NOTES];
     atomic_size_t put, taken;
     sem_t bell;
@@ -106,12 +106,12 @@ static void forget(suspect *one) {
 static void look_at(strays *it, suspect *one) {
     if (one->pid == 0) return;
     if (has_gone(one)) return forget(one);
+    it->looks = 0;
     look_at_process(it, one->pid, 0);
     if (!one->is_attached && ++one->looks == 2) forget(one);
 }
 
 static void look_at_each(strays *it) {
-    it->looks = 0;
     for (unsigned i = 0; i < 2 * HOST_TASKS; i++) look_at(it, &it->suspect[i]);
 }
 

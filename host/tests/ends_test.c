@@ -10,7 +10,7 @@
 #include <time.h>
 #include <unistd.h>
 
-static unsigned long long nanoseconds, kills, looks_made, looks_at_kill;
+static unsigned long long nanoseconds, kills, looks_made, looks_at_kill, hurried_at;
 static int fake_clock(clockid_t clock, struct timespec *t) {
     (void)clock;
     nanoseconds += 1000;
@@ -56,7 +56,7 @@ void give_up(scheduler *s, host_task *task) {
 void bury(scheduler *s, host_task *task) { buried++, give_up(s, task); }
 bool has_ended(const host_task *task) { (void)task; return false; }
 void tend_each(scheduler *s) { (void)s; }
-void interrupt(const host_task *task, const host_slot *slot) { (void)task, (void)slot; }
+void interrupt(const host_task *task, const host_slot *slot) { (void)task, (void)slot, hurried_at = nanoseconds; }
 void complain(const char *format, ...) { (void)format; }
 void fail(const char *what, const char *why) { (void)what, (void)why, exit(2); }
 unsigned stop_signals(void) { return 0; }
@@ -152,6 +152,16 @@ static void check_patience(void) {
     check_between("one that stood still with the machine", patience_at(3500 * ms, false), 0, 0);
 }
 
+/* Whoever was not given time is to have it in time. */
+static void check_hurry(void) {
+    uint64_t ms = 1000000;
+    is = WAITS;
+    uint64_t took = patience_at(64 * ms, true), at = took + hurried_at - nanoseconds;
+    check_between("one without a processor, as the scheduler, is interrupted again", at, 1000 * ms, 1200 * ms);
+    took = patience_at(ms, true), at = took + hurried_at - nanoseconds;
+    check_between("one without a processor is interrupted again", at, 500 * ms, 520 * ms);
+}
+
 static void check_dump(void) {
     is = DUMPS;
     patience_at(1000000, true);
@@ -162,6 +172,7 @@ static void check_dump(void) {
 int main(void) {
     nanoseconds = 10000000000;
     check_patience();
+    check_hurry();
     check_dump();
     for (uint64_t leaves = 900000000; leaves < 1000000000; leaves += 5000000) {
         end_one(leaves, false);

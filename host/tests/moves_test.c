@@ -110,9 +110,9 @@ static void begin(void) {
         host_thread *thread = &s.thread[k];
         *thread = (host_thread){.task = k / 2, .core = (unsigned)k + 1};
         thread->seat.slot = &segment.slot[k];
-        thread->seat.sender.ring = &segment.slot[k].ring;
-        thread->seat.pinned = k == 1 ? 0 : 100 + k;
-        thread->seat.pinned_to = (unsigned)k;
+        thread->seat.pin.sender.ring = &segment.slot[k].ring;
+        thread->seat.pin.tid = k == 1 ? 0 : 100 + k;
+        thread->seat.pin.core = (unsigned)k;
         atomic_store(&segment.slot[k].tid, 100 + k);
         atomic_store(&segment.slot[k].asleep, k != 2);
     }
@@ -162,7 +162,7 @@ static void pin_slowly(int times, bool waits, unsigned long long ns) {
     takes = ns;
     for (int i = 0; i < times; i++) {
         waits_for_it = waits;
-        s.thread[1].seat.pinned = 0;
+        s.thread[1].seat.pin.tid = 0;
         plan_run(&s, 1, 1);
         carry_out(&s);
     }

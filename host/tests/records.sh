@@ -44,7 +44,7 @@ on_disk() { # a file is called whole only when it is on the disk with all that i
     begin -k 1000 -g 100000 -p 1000
     wrap=()
     wait_for 60 has_pieces 2; timed $? "$what: there are no two pieces: $(cat "$build/said")"
-    kill -TERM "$(pgrep -P "$(pgrep -P $scheduler)")"
+    only_child_of $scheduler && only_child_of "$child" && kill -TERM "$child"
     wait $scheduler; timed $? "$what: its status: $(tail -n 3 "$build/said")"
     [ -s "$build/calls" ] || { skip "$what, for want of rights"; return; }
     # of each piece: its file, its name, its folder
@@ -158,6 +158,9 @@ installed() { # what is installed stands by itself
     [ -s "$build/prefix/share/man/man8/caladand.8" ]; note $? "$what: the manual page"
     ${CC:-cc} -pthread -I"$build/prefix/include" "$top/host/load.c" -L"$build/prefix/lib" -lcaladan_rt -lm -o "$build/prefix/load" 2> "$build/make.log"; note $? "$what: $(cat "$build/make.log")"
     refuses "there is no scheduler of that name" "$build/prefix/load" lc -n installed -u 0
+    command -v c++ > /dev/null || { skip "$what, from C++, for want of c++"; return; }
+    printf '#include <caladan_rt.h>\nint main() { return caladan_rt_why(1) == nullptr; }\n' > "$build/in_cpp.cpp"
+    c++ -Wall -Wextra -Wconversion -pedantic -Werror -pthread -I"$build/prefix/include" "$build/in_cpp.cpp" -L"$build/prefix/lib" -lcaladan_rt -o "$build/in_cpp" 2> "$build/make.log" && "$build/in_cpp"; note $? "$what, from C++: $(cat "$build/make.log")"
 }
 
 other_compiler() { # which refuses what is gcc's alone

@@ -39,6 +39,9 @@ def answer(asked: Asked) -> int:
     if word == "timeline":
         from .timelines.command import timeline
         return timeline(asked)
+    if word == "report":
+        from .reports.command import report
+        return report(asked)
     say(help_of(LAB, False))
     return 2
 

@@ -11,7 +11,9 @@ from typing import TYPE_CHECKING, Iterable, Mapping, Optional, Sequence, Union, 
 from .comparisons.command import runs_of, sheet_of
 from .comparisons.given import Reading, parts_of
 from .comparisons.runs import Runs
-from .files import read_named
+from .arrivals import arrivals_of
+from .figures import as_csv
+from .files import Output, read_named
 from .labels import Labels, names_of
 from .plans import plan_words
 from .players import Players, naming, own_of
@@ -262,6 +264,28 @@ class Run:
         tick: list[Word] = ["--tick", self.tick] if self.tick else []
         return frame_of(self.told("measure", "--csv", *self.counted(), *names, *tick), "", "measure")
 
+    def numbers_by(self, by: Union[int, str]) -> pandas.DataFrame:
+        """The run in slices of time, of so many ticks or as "1ms": for each slice and task how many requests came and
+        were answered, the responses of those that came, and the cores held in the mean. Refusal of a plan's run without
+        turns, of more than 1,000 slices, and of a time where the table does not say what a tick is."""
+        from .slices import Counted, heading, rows_by, ticks_of
+        ticks = ticks_of(by, self.tick)
+        words: list[Word] = ["measure", "--policy", self.policy, *self.plan, "--csv", *self.counted()]
+        counted = Counted(self.told("requests", *self.counted()), self.told("series"))
+        rows = rows_by(arrivals_of(self.arrivals).turns, ticks,
+                       [self.table.labels.task(it) for it in range(len(self.table.machine.tasks))], counted,
+                       lambda more: self.table.view.ask([*words, *more], self.input))
+        return read_frame(as_csv([heading(self.tick or "ticks"), *([str(it) for it in row] for row in rows)]))
+
+    def report(self, file: Union[str, "os.PathLike[str]"], explain: str = "") -> None:
+        """Writes the run as one page of HTML to click through, as `caladan_lab report` does: explain="all", "changes"
+        or "none" says which passes are explained. Refusal of a run by a plan, and where the page cannot be written."""
+        from .reports.command import report_of
+        if self.plan:
+            raise Refusal(f"a run by {self.plan[0]} cannot be explained, so it has no report")
+        page = report_of(self.table.view, self.input, self.table.labels, self.policy, explain, came=self.came)
+        Output(os.fspath(file)).keep(page)
+
     def explain(self, number: int, task: Optional[int] = None, core: Optional[int] = None) -> str:
         """Why a pass, from 0, does what it does."""
         if self.is_own:
@@ -270,13 +294,14 @@ class Run:
         history = simulator(self.table.view).told(["lockstep", "--table", "--policy", self.policy], self.input).out
         return self.table.view.told(["explain", "--policy", self.policy, *more], history).out.decode()
 
-
     def picture(self, file: File = None, first: int = 0, passes: Optional[int] = None, task: Optional[int] = None,
-                width: int = 800, dark: bool = False) -> Picture:
+                width: int = 800, dark: bool = False, responses: bool = False) -> Picture:
         """The lanes of the run, as `caladan_lab run` draws them: so many passes from one on, of a task alone where one
-        is named, so many pixels wide. It is written to the file, if one is named: SVG, PNG or PDF by its ending."""
+        is named, so many pixels wide, with a lane for the responses of each task where these are asked for. It is
+        written to the file, if one is named: SVG, PNG or PDF by its ending."""
         from .pictures.picture import of_run
-        return of_run(self.told, self.table.machine, self.table.look(width, dark), file, first, passes, task)
+        requests = self.told("requests", *self.counted()).decode() if responses else ""
+        return of_run(self.told, self.table.machine, self.table.look(width, dark), file, first, passes, task, requests)
 
 
 @dataclass(frozen=True)

@@ -28,9 +28,9 @@ class Look:
 @dataclass(frozen=True)
 class PictureAsked:
     """A picture: the word for its kind, its file, its look, and the files that are read, where - is the standard input;
-    the program and the file of a task table. Of a run the first pass shown, how many are, and which task alone, the
-    policy where one is named, and for how many seconds its answers are waited for; of what makes runs their words, and
-    the file of the arrivals."""
+    the program and the file of a task table. Of a run the first pass shown, how many are, which task alone, the policy
+    where one is named, for how many seconds its answers are waited for, and whether responses have lanes; of what makes
+    runs their words, and the file of the arrivals."""
 
     word: str
     output: str
@@ -44,6 +44,7 @@ class PictureAsked:
     policy: Optional[str] = None
     patience: int = 0
     runs: Optional[Asked] = None
+    has_responses: bool = False
 
     @property
     def arrivals(self) -> Optional[str]:
@@ -90,7 +91,7 @@ def picture_of(asked: Asked) -> PictureAsked:
     if word == "run":
         return PictureAsked(word, output, look_of(asked), files, program, table, asked.number("from") or 0,
                             asked.number("passes"), asked.number("task"), asked.one("policy"),
-                            asked.number("patience") or 0)
+                            asked.number("patience") or 0, has_responses=asked.has("responses"))
     return PictureAsked(word, output, look_of(asked), files, program, table, runs=asked if word != "seeds" else None)
 
 

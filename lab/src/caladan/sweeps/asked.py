@@ -24,9 +24,9 @@ OF_LOGS = ("unit", "turn", "columns", "separator", "batch", "scale", "rate", "bl
 @dataclass(frozen=True)
 class SweepAsked:
     """What comes to tasks; the objectives; the keys that are varied; the window, from its first turn up to the one
-    after it; the seeds, the turns of a run and the ticks of a turn; the policies, the plan, what is written, and how
-    many runs are made at a time, without a word of how many are done; and for how many seconds an answer of a policy is
-    waited for."""
+    after it; the seeds, the turns of a run and the ticks of a turn; the policies, the plan, what is written, how
+    many runs are made at a time, without a word of how many are done, for how many seconds an answer of a policy is
+    waited for, and whether each seed has its row."""
 
     loads: Loads
     objectives: tuple[Objective, ...]
@@ -44,6 +44,7 @@ class SweepAsked:
     jobs: Optional[int]
     is_quiet: bool
     patience: int
+    is_by_seed: bool = False
 
     def window(self, turns: int) -> tuple[int, int]:
         """The turns of the window of a run with so many turns, which those of a log differ in."""
@@ -115,4 +116,4 @@ def sweep_asked(asked: Asked, labels: Labels, log: Optional[Log] = None) -> Swee
         loads, objectives, variations, first, after, _seeds(asked.one("seeds"), asked.number("seed") or 0), turns,
         asked.number("ticks") or 0, tuple(asked.all("policy") or ["caladan"]), plan_of(asked), labels,
         asked.has("csv"), asked.has("cheapest"), asked.number("jobs"), asked.has("quiet"),
-        asked.number("patience") or 0)
+        asked.number("patience") or 0, asked.has("by-seed"))
