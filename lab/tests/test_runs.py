@@ -57,7 +57,8 @@ def test_each_seed_has_its_row_where_that_is_asked_for(lab: Run, stub: Stub) -> 
     assert told[1:] == [f"0.500,{delay},{seed},{rest}" for delay in (10, 20) for seed in (7, 8)]
     three = lab(*words, given=TABLE, view=stub(NUMBERS)).out.splitlines()
     assert three[0].startswith("load,task.0.delay,of 2 seeds,p50,")
-    assert [it.split(",")[2] for it in three[1:]] == ["least", "median", "greatest"] * 2
+    rows = ["least", "lower median", "greatest"]
+    assert [it.split(",")[2] for it in three[1:]] == [*rows, *rows, "beats the first"]
     alone = lab(*SWEEP, "--csv", "--by-seed", given=TABLE, view=stub(NUMBERS)).out.splitlines()
     assert alone[0].startswith("load,seed,p50,") and alone[1:] == [f"0.500,1,{rest}"]
 

@@ -18,8 +18,8 @@ own. Its answer is the exit status, both outputs, and each file that is new, cha
 the byte, but for the name of the program: a line that begins with `caladan_view:`, or with `Usage: caladan_view`, must
 begin so with NAME (else the file name of the program's last word); within a line either name may stand. Another program
 than caladan_view is asked to count and judge as that did (frozen/changed.py; README.md says what is otherwise). The
-last line is 'N passed, M failed', and above it stands the first difference of each case that failed. A case that is made
-otherwise than the kept one fails too: freeze it again."""
+last line is 'N passed, M failed', and above it stands the first difference of each case that failed. A case that is
+made otherwise than the kept one fails too: freeze it again."""
 import argparse
 import os
 import shlex
