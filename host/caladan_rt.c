@@ -10,67 +10,7 @@
 #include <stdlib.h>
 #include <sys/mman.h>
 #include <sys/socket.h>
-#include "host.h"
-
-#define MOST_MISSES ((uint64_t)1 << 56) /* what a record may count */
-#define NAP 200000                      /* between two looks for work where there is no scheduler, in nanoseconds */
-/* how long one that dozes may take to be at work, in nanoseconds */
-#define WAKES ((uint64_t)30000)
-/* How long threads that are to wait may hold their Park off, in nanoseconds: less than a scheduler waits. */
-#define GATHER ((uint64_t)3000000000)
-enum { QUEUE = 1 << 13 };
-enum { NOT_YET, BEGUN, GIVEN_UP }; /* whether kernel threads may begin */
-
-typedef struct kernel_thread {
-    _Alignas(CALADAN_LINE) caladan_rt *rt;
-    host_slot *slot;
-    unsigned number;
-    caladan_request *queue;
-    /* under the lock; count is also read without */
-    _Alignas(CALADAN_LINE) _Atomic uint32_t lock;
-    bool open; /* the page is ours to publish on: a piece has begun and does not end */
-    caladan_publisher publisher;
-    uint64_t words[CALADAN_WORDS];
-    size_t head;
-    _Atomic size_t count;
-    /* what is queued waits for one that dozes: before this tick that is no delay */
-    uint64_t awaited;
-    /* it sleeps on its core, or is about to: who takes this away wakes it */
-    _Atomic uint32_t dozes;
-    /* the thread's own, and its signal handler's */
-    _Alignas(CALADAN_LINE) bool working;
-    caladan_request current;
-    uint32_t phase;
-    pthread_t thread;
-    _Atomic uint32_t waits; /* the turn that it waits for, and until then it looks at nothing else */
-    volatile sig_atomic_t held;    /* how often a Park is held off */
-    volatile sig_atomic_t pending; /* a signal came meanwhile */
-} kernel_thread;
-
-struct caladan_rt {
-    host_segment *segment;
-    int connection;
-    char name[HOST_NAME + 1];
-    unsigned task;
-    unsigned forks;    /* how many forks lie between it and the process that started the first one */
-    bool stands_under;
-    uint64_t epoch;    /* tick 0 of the runtime's own clock: the first scheduler's */
-    uint64_t idle_ns;
-    caladan_serve *serve;
-    void *with;
-    unsigned threads;
-    /* where its threads may run while no scheduler says otherwise, and in which class */
-    cpu_set_t allowed;
-    int class;
-    _Atomic uint32_t begun;   /* a futex */
-    _Atomic bool is_over;     /* the scheduler has ended, or gave the task up */
-    _Atomic bool is_watched;  /* a thread waits for that, or has still to tell the others */
-    _Atomic int after;        /* what threads do then */
-    _Atomic bool is_waiting;  /* all are to wait, for they get another segment */
-    _Atomic uint32_t turn;    /* a futex: it grows when they go on */
-    _Atomic uint64_t tick_0;  /* of the scheduler, or of the last one */
-    kernel_thread thread[];
-};
+#include "runtime.h"
 
 static _Thread_local kernel_thread *self __attribute__((tls_model("initial-exec")));
 
@@ -78,9 +18,14 @@ static _Thread_local kernel_thread *self __attribute__((tls_model("initial-exec"
  * for it, and nobody there is a kernel thread. */
 static unsigned forks;
 static int not_noticed; /* the error with which forks cannot be, or 0 */
-static void in_child(void) { forks++, self = NULL; }
+static void leave_core(const caladan_rt *rt);
+static void in_child(void) {
+    forks++;
+    if (self) leave_core(self->rt); /* whose core the child has not */
+    self = NULL;
+}
 static void notice_forks(void) { not_noticed = pthread_atfork(NULL, NULL, in_child); }
-static bool is_of_parent(const caladan_rt *rt) { return rt->forks != forks; }
+static bool is_of_parent(const caladan_rt *rt) { return rt->forks != forks || getpid() != rt->process; }
 
 uint64_t caladan_rt_now(const caladan_rt *rt) { return host_clock() - rt->epoch; }
 unsigned caladan_rt_threads(const caladan_rt *rt) { return rt->threads; }
@@ -178,6 +123,9 @@ static void follow_phase(kernel_thread *k) {
 }
 
 static bool outlives(kernel_thread *k);
+static bool does_without(kernel_thread *k);
+static void come_back(kernel_thread *k);
+static void pin_itself(kernel_thread *k);
 
 /* Takes what was sent, shows it, and is back when the thread has a core, or needs none. Held, or in the handler. */
 static void obey(kernel_thread *k) {
@@ -188,9 +136,17 @@ static void obey(kernel_thread *k) {
             if (outlives(k)) return;
             continue;
         }
+        if (atomic_load(&k->rt->is_lost)) {
+            if (does_without(k)) return;
+            continue;
+        }
+        if (k->is_away) come_back(k);
         follow_phase(k);
         take_commands(k);
-        if (k->words[RUNNING] != 0) return;
+        if (k->words[RUNNING] != 0) {
+            if (k->pins_itself) pin_itself(k);
+            return;
+        }
         sleep_on_bell(k->slot, bell);
     }
 }
@@ -243,26 +199,34 @@ static kernel_thread *dozer_for(kernel_thread *k) {
     return NULL;
 }
 
-bool caladan_rt_submit(caladan_rt *rt, unsigned thread, caladan_request request) {
-    if (thread >= rt->threads || is_of_parent(rt)) return false;
-    kernel_thread *k = &rt->thread[thread], *caller = self;
+/* As many as fit, and who is to be woken for them, one for each at most. Under the lock of the queue's thread. */
+static size_t queue_each(kernel_thread *k, const caladan_request *requests, size_t count,
+                         kernel_thread *dozer[HOST_LIMIT]) {
+    uint64_t now = caladan_rt_now(k->rt);
+    size_t put = count < QUEUE - k->count ? count : QUEUE - k->count;
+    for (size_t i = 0; i < put; i++) k->queue[(k->head + k->count++) % QUEUE] = requests[i];
+    for (size_t i = 0; i < put && i < HOST_LIMIT && (dozer[i] = dozer_for(k)); i++) k->awaited = now + WAKES;
+    if (put == 0) return 0;
+    show_queue(k);
+    publish(k, now);
+    return put;
+}
+
+size_t caladan_rt_submit_each(caladan_rt *rt, unsigned thread, const caladan_request *requests, size_t count) {
+    kernel_thread *dozer[HOST_LIMIT + 1] = {NULL}, *caller = self;
+    if (thread >= rt->threads || is_of_parent(rt)) return 0;
+    kernel_thread *k = &rt->thread[thread];
     hold(caller);
     lock(k);
-    bool fits = k->count < QUEUE;
-    kernel_thread *dozer = NULL;
-    if (fits) {
-        uint64_t now = caladan_rt_now(rt);
-        k->queue[(k->head + k->count) % QUEUE] = request;
-        k->count++;
-        dozer = dozer_for(k);
-        if (dozer) k->awaited = now + WAKES;
-        show_queue(k);
-        publish(k, now);
-    }
+    size_t put = queue_each(k, requests, count, dozer);
     unlock(k);
-    if (dozer) ring_bell(dozer->slot);
+    for (size_t i = 0; dozer[i]; i++) ring_bell(dozer[i]->slot);
     release(caller);
-    return fits;
+    return put;
+}
+
+bool caladan_rt_submit(caladan_rt *rt, unsigned thread, caladan_request request) {
+    return caladan_rt_submit_each(rt, thread, &request, 1) == 1;
 }
 
 /* Under the lock of the queue's thread. */
@@ -320,15 +284,20 @@ static bool some_queued(caladan_rt *rt) {
 
 /* ---- without a scheduler ---- */
 
+/* The calling thread is where the process was when the runtime began, and in that class, where it may. */
+static void leave_core(const caladan_rt *rt) {
+    struct sched_param none = {0};
+    sched_setaffinity(0, sizeof rt->allowed, &rt->allowed);
+    if (rt->stands_under) sched_setscheduler(0, rt->class, &none);
+}
+
 /* On no page any more, and on no core that somebody else may be granted. */
 static void let_go(kernel_thread *k) {
-    struct sched_param none = {0};
     lock(k);
-    k->open = false;
+    k->open = k->is_away = k->pins_itself = false;
     put_on(k, CALADAN_PARK, 0);
     unlock(k);
-    sched_setaffinity(0, sizeof k->rt->allowed, &k->rt->allowed);
-    if (k->rt->stands_under) sched_setscheduler(0, k->rt->class, &none); /* where it may */
+    leave_core(k->rt);
 }
 
 static void wait_for_turn(kernel_thread *k) {
@@ -336,7 +305,7 @@ static void wait_for_turn(kernel_thread *k) {
     uint32_t turn = atomic_load(&rt->turn);
     if (!atomic_load(&rt->is_over)) return; /* it was so when this thread looked */
     atomic_store(&k->waits, turn + 1);
-    while (atomic_load(&rt->turn) == turn) futex_wait(&rt->turn, turn);
+    while (atomic_load(&rt->turn) == turn && !atomic_load(&rt->stops)) futex_wait(&rt->turn, turn);
 }
 
 /* The scheduler is over. True where the thread goes on by itself; false when it has waited for another one. Its number
@@ -345,6 +314,7 @@ static bool outlives(kernel_thread *k) {
     caladan_rt *rt = k->rt;
     struct timespec nap = {0, NAP};
     let_go(k);
+    if (atomic_load(&rt->stops)) return true;
     if (atomic_load(&rt->after) == CALADAN_RT_RUN && !atomic_load(&rt->is_waiting)) {
         if (!k->working && !some_queued(rt)) nanosleep(&nap, NULL);
         return true;
@@ -356,6 +326,56 @@ static bool outlives(kernel_thread *k) {
     return false;
 }
 
+/* ---- while the scheduler shows nothing ---- */
+
+/* Its page stays as it is until the thread comes back: as if it went on in a long request. */
+static void go_away(kernel_thread *k) {
+    lock(k);
+    k->was_open = k->open;
+    k->open = false;
+    put_on(k, CALADAN_PARK, 0);
+    unlock(k);
+    leave_core(k->rt);
+    k->is_away = k->pins_itself = true;
+}
+
+/* To the core that it has, as the scheduler does it, or did it before. */
+static void pin_itself(kernel_thread *k) {
+    struct sched_param none = {0};
+    cpu_set_t cpus;
+    int processor = caladan_rt_processor();
+    k->pins_itself = false;
+    if (processor < 0 || processor >= CPU_SETSIZE) return;
+    CPU_ZERO(&cpus);
+    CPU_SET((size_t)processor, &cpus);
+    if (k->rt->stands_under) sched_setscheduler(0, SCHED_IDLE, &none);
+    sched_setaffinity(0, sizeof cpus, &cpus);
+}
+
+/* Without a core, as one that has given it up. */
+static void come_back(kernel_thread *k) {
+    lock(k);
+    k->is_away = false;
+    k->open = k->was_open;
+    put_on(k, CALADAN_PARK, 0);
+    show_queue(k);
+    publish(k, caladan_rt_now(k->rt));
+    unlock(k);
+}
+
+/* True where the thread goes on by itself; false when it has waited. */
+static bool does_without(kernel_thread *k) {
+    caladan_rt *rt = k->rt;
+    struct timespec nap = {0, NAP};
+    if (!k->is_away) go_away(k);
+    if (atomic_load(&rt->after) == CALADAN_RT_RUN) {
+        if (!k->working && !some_queued(rt)) nanosleep(&nap, NULL);
+        return true;
+    }
+    futex_wait(&rt->is_lost, 1);
+    return false;
+}
+
 static void interrupt_each(caladan_rt *rt) {
     for (unsigned i = 0; i < rt->threads; i++) {
         pthread_kill(rt->thread[i].thread, HOST_SIGNAL);
@@ -363,21 +383,66 @@ static void interrupt_each(caladan_rt *rt) {
     }
 }
 
-/* Sleeps until the scheduler closes the connection: it ended, or has given the task up; or until
- * the process itself has closed it. Its number may be another file's by then, of which nothing
- * is read. */
+static void set_lost(caladan_rt *rt, bool is) {
+    if (atomic_exchange(&rt->is_lost, is) == is) return;
+    futex_wake_all(&rt->is_lost);
+    interrupt_each(rt);
+}
+
+/* What the watcher felt: the last beat, when, and how long it has felt none. Where the machine stood still, that is two
+ * looks. */
+typedef struct pulse {
+    uint64_t beat, at, silent;
+} pulse;
+
+static void feel(caladan_rt *rt, pulse *p) {
+    uint64_t most = atomic_load(&rt->lost_after), now = host_clock(), passed = now - p->at;
+    uint64_t beat = most ? atomic_load(&rt->segment->heartbeat) : 0;
+    bool is_there = most == 0 || beat != p->beat;
+    p->silent = is_there ? 0 : p->silent + (passed < 2 * FEEL ? passed : 2 * FEEL);
+    p->at = now, p->beat = beat;
+    if (is_there || p->silent >= most) set_lost(rt, !is_there);
+}
+
+/* Sleeps until something comes over the connection, or until a beat is to be felt, or to be felt from now on: that a
+ * signal says. */
+static void wait_for_word(caladan_rt *rt, struct pollfd *file) {
+    struct timespec soon = {0, FEEL};
+    sigset_t most;
+    sigfillset(&most);
+    sigdelset(&most, HOST_SIGNAL);
+    ppoll(file, 1, atomic_load(&rt->lost_after) ? &soon : NULL, &most);
+}
+
+/* Until the scheduler closes the connection: it ended, or has given the task up; or until the process itself has
+ * closed it. Its number may be another file's by then, of which nothing is read. */
 static void *watch(void *argument) {
     caladan_rt *rt = argument;
     struct pollfd file = {rt->connection, POLLIN, 0};
+    pulse felt = {0};
     char byte;
-    do poll(&file, 1, -1);
-    while ((file.revents & (POLLHUP | POLLERR | POLLNVAL)) == 0 &&
-           recv(rt->connection, &byte, 1, MSG_DONTWAIT) != 0);
+    atomic_store(&rt->watcher, (int32_t)syscall(SYS_gettid));
+    do {
+        file.revents = 0;
+        wait_for_word(rt, &file);
+        feel(rt, &felt);
+    } while ((file.revents & (POLLHUP | POLLERR | POLLNVAL)) == 0 &&
+             recv(rt->connection, &byte, 1, MSG_DONTWAIT) != 0);
+    atomic_store(&rt->watcher, 0);
     atomic_store(&rt->is_over, true);
+    set_lost(rt, false);
     interrupt_each(rt);
     atomic_store(&rt->is_watched, false);
     return NULL;
 }
+
+void caladan_rt_lost_after(caladan_rt *rt, uint64_t ns) {
+    atomic_store(&rt->lost_after, ns);
+    int32_t watcher = atomic_load(&rt->watcher);
+    if (watcher && !is_of_parent(rt)) syscall(SYS_tgkill, getpid(), watcher, HOST_SIGNAL);
+}
+
+bool caladan_rt_is_lost(const caladan_rt *rt) { return atomic_load(&rt->is_lost) && !is_of_parent(rt); }
 
 /* With all signals blocked, so that none of the process's comes to it. */
 static int begin_to_watch(caladan_rt *rt) {
@@ -487,7 +552,7 @@ static void doze(kernel_thread *k) {
     atomic_store(&k->dozes, 1);
     /* who has queued a request finds this, or is found here */
     atomic_thread_fence(memory_order_seq_cst);
-    bool may = atomic_load(&k->slot->may_doze) && !atomic_load(&k->rt->is_over);
+    bool may = atomic_load(&k->slot->may_doze) && !atomic_load(&k->rt->is_over) && !atomic_load(&k->rt->is_lost);
     if (may && !some_queued(k->rt)) sleep_on_bell(k->slot, bell);
     atomic_store(&k->dozes, 0);
     obey(k);
@@ -510,6 +575,11 @@ static bool may_begin(kernel_thread *k) {
     return atomic_load(&k->rt->begun) == BEGUN;
 }
 
+/* Only when the scheduler has let it go: until then its core is not free. */
+static bool has_to_end(const kernel_thread *k) {
+    return atomic_load(&k->rt->stops) && atomic_load(&k->rt->is_over);
+}
+
 static void *live(void *argument) {
     kernel_thread *k = argument;
     sigset_t ours;
@@ -521,7 +591,7 @@ static void *live(void *argument) {
     pthread_sigmask(SIG_UNBLOCK, &ours, NULL); /* whoever started the runtime may have blocked all */
     atomic_store(&k->slot->tid, (int32_t)syscall(SYS_gettid));
     obey(k);
-    for (;;) {
+    while (!has_to_end(k)) {
         if (next_own(k) || next_stolen(k)) {
             release(k);
             k->rt->serve(k->rt->with, k->number, k->current);
@@ -531,6 +601,7 @@ static void *live(void *argument) {
             else yield_core(k);
         }
     }
+    self = NULL; /* a signal from here on is nobody's */
     return NULL;
 }
 
@@ -554,6 +625,19 @@ int caladan_rt_processor(void) {
 
 bool caladan_rt_stands_under(const caladan_rt *rt) { return rt->stands_under; }
 
+/* ---- what is not to be on a core ---- */
+
+int caladan_rt_thread(caladan_rt *rt, pthread_t *thread, const pthread_attr_t *attributes, void *(*start)(void *),
+                      void *with) {
+    return is_of_parent(rt) ? ECHILD : helper_thread(rt->helper, thread, attributes, start, with);
+}
+
+int caladan_rt_spawn(caladan_rt *rt, pid_t *pid, const char *path, const posix_spawn_file_actions_t *actions,
+                     const posix_spawnattr_t *attributes, char *const *words, char *const *environment) {
+    if (is_of_parent(rt)) return ECHILD;
+    return helper_spawn(rt->helper, pid, path, actions, attributes, words, environment);
+}
+
 /* ---- the start ---- */
 
 static caladan_rt *make_rt(host_segment *segment) {
@@ -563,6 +647,7 @@ static caladan_rt *make_rt(host_segment *segment) {
     __builtin_memset(rt, 0, size);
     rt->segment = segment;
     rt->forks = forks;
+    rt->process = getpid();
     rt->stands_under = segment->stands_under;
     rt->epoch = segment->epoch;
     atomic_store(&rt->tick_0, segment->epoch);
@@ -582,6 +667,7 @@ static void unmake(caladan_rt *rt, unsigned started) {
     futex_wake_all(&rt->begun);
     for (unsigned i = 0; i < started; i++) pthread_join(rt->thread[i].thread, NULL);
     for (unsigned i = 0; i < rt->threads; i++) free(rt->thread[i].queue);
+    helper_end(rt->helper);
     free(rt);
 }
 
@@ -594,6 +680,7 @@ static caladan_rt *start_threads(caladan_rt *rt) {
     for (unsigned i = 0; i < rt->threads && !error; i++) error = rt->thread[i].queue ? 0 : ENOMEM;
     for (; started < rt->threads && !error; started += !error)
         error = pthread_create(&rt->thread[started].thread, NULL, live, &rt->thread[started]);
+    if (!error) rt->helper = helper_begin(), error = rt->helper ? 0 : errno;
     if (!error) error = begin_to_watch(rt);
     if (error) {
         unmake(rt, started);
@@ -604,6 +691,33 @@ static caladan_rt *start_threads(caladan_rt *rt) {
     atomic_store(&rt->begun, BEGUN);
     futex_wake_all(&rt->begun);
     return rt;
+}
+
+/* ---- the end ---- */
+
+/* Its threads have ended. */
+static size_t dismantle(caladan_rt *rt) {
+    size_t left = 0;
+    for (unsigned i = 0; i < rt->threads; i++) left += rt->thread[i].count, free(rt->thread[i].queue);
+    helper_end(rt->helper);
+    munmap(rt->segment, sizeof *rt->segment);
+    close(rt->connection);
+    free(rt);
+    return left;
+}
+
+bool caladan_rt_stop(caladan_rt *rt, size_t *unserved) {
+    errno = is_of_parent(rt) ? ECHILD : EDEADLK;
+    if (is_of_parent(rt) || (self && self->rt == rt)) return false;
+    atomic_store(&rt->stops, true);
+    /* the scheduler gives the task up, and the watcher tells the threads */
+    if (!atomic_load(&rt->is_over)) shutdown(rt->connection, SHUT_RDWR);
+    while (atomic_load(&rt->is_watched)) sched_yield();
+    futex_wake_all(&rt->turn); /* where the scheduler was over before, they may wait */
+    for (unsigned i = 0; i < rt->threads; i++) pthread_join(rt->thread[i].thread, NULL);
+    size_t left = dismantle(rt);
+    if (unserved) *unserved = left;
+    return true;
 }
 
 /* Whoever has a handler counts on it: it is not replaced. */

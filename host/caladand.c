@@ -112,7 +112,8 @@ static void begin(scheduler *s) {
     take_processors(s);
     take_folder(s);
     if (s->options.folder) open_record(s);
-    if (!begin_lines(&s->others) || !begin_metrics(s)) fail("a clerk", "no thread can be begun");
+    if (!begin_lines(&s->others) || !begin_metrics(s) || !begin_strays(s) || !begin_pairs(s))
+        fail("a clerk", "no thread can be begun");
     if (!begin_moves(s)) fail("-m", "no thread can be begun");
     warn_of_class(s);
     warn_of_place(s);
@@ -133,8 +134,12 @@ static void keep_house(scheduler *s, uint64_t now) {
     tend_each(s);
     kill_the_deaf(s);
     look_after_pin(s);
+    look_after_own_place(s);
+    look_after_mover(s);
     if (now - s->metrics_at < FLUSH) return;
     s->metrics_at = now;
+    strays_say(s);
+    look_after_clerks(s);
     look_after_record(s);
     hand_metrics(s);
 }
@@ -171,9 +176,12 @@ int main(int count, char **words) {
     while (!is_over(&s)) run_piece(&s);
     wait_for_moves(&s);
     close_tasks(&s);
-    if (s.options.folder) record_close();
-    print_summary(&s);
+    bool is_kept = s.options.folder == NULL || record_close();
     end_metrics();
+    leave_places(); /* whoever does not read the summary keeps neither a name nor a processor from others */
+    strays_say(&s);
+    print_summary(&s);
     end_lines();
-    return fflush(stdout) ? 2 : 0;
+    if (fflush(stdout)) return 2;
+    return is_kept ? 0 : 3;
 }

@@ -14,31 +14,64 @@ enum { LINES = 64, LINE = HOST_PATH + 512 }; /* a line has room for a path, and 
 
 /* ---- any clerk ---- */
 
+enum { CLERKS = 8 };
+
 typedef struct clerk {
     clerk_work *work;
     void *with;
     cpu_set_t where;
+    _Atomic pid_t tid; /* 0: it has not begun */
 } clerk;
 
+static clerk clerks[CLERKS];
+static unsigned begun;
+
 static void *live(void *argument) {
-    clerk it = *(clerk *)argument;
+    clerk *it = argument;
     sigset_t all;
-    free(argument);
     sigfillset(&all);
     pthread_sigmask(SIG_BLOCK, &all, NULL);
-    if (CPU_COUNT(&it.where)) sched_setaffinity(0, sizeof it.where, &it.where);
-    it.work(it.with);
+    if (CPU_COUNT(&it->where)) sched_setaffinity(0, sizeof it->where, &it->where);
+    atomic_store(&it->tid, gettid());
+    it->work(it->with);
     return NULL;
 }
 
 bool start_clerk(clerk_work *work, void *with, const cpu_set_t *where) {
-    clerk *it = malloc(sizeof *it);
+    clerk *it = &clerks[begun];
     pthread_t thread;
-    if (it == NULL) return false;
-    *it = (clerk){work, with, *where};
-    if (pthread_create(&thread, NULL, live, it)) return free(it), false;
+    if (begun == CLERKS) return false;
+    it->work = work, it->with = with, it->where = *where;
+    if (pthread_create(&thread, NULL, live, it)) return false;
     pthread_detach(thread);
+    begun++;
     return true;
+}
+
+static bool is_elsewhere(const clerk *it, pid_t tid) {
+    cpu_set_t cpus, right;
+    if (tid == 0 || CPU_COUNT(&it->where) == 0 || sched_getaffinity(tid, sizeof cpus, &cpus)) return false;
+    CPU_AND(&right, &cpus, &it->where);
+    return !CPU_EQUAL(&right, &cpus);
+}
+
+bool place_clerk(clerk_work *work, const cpu_set_t *where) {
+    for (unsigned i = 0; i < begun; i++) {
+        pid_t tid = atomic_load(&clerks[i].tid);
+        if (clerks[i].work != work || tid == 0) continue;
+        clerks[i].where = *where;
+        return sched_setaffinity(tid, sizeof *where, where) == 0;
+    }
+    return false;
+}
+
+void look_after_clerks(scheduler *s) {
+    for (unsigned i = 0; i < begun; i++) {
+        pid_t tid = atomic_load(&clerks[i].tid);
+        if (!is_elsewhere(&clerks[i], tid)) continue;
+        s->counts.displaced++;
+        sched_setaffinity(tid, sizeof clerks[i].where, &clerks[i].where);
+    }
 }
 
 /* A second signal waits for no clerk longer than the least. */

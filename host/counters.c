@@ -22,12 +22,13 @@ void print_summary(scheduler *s) {
     for (int k = CALADAN_FREE; k <= CALADAN_GRANT; k++)
         printf("%s %s %" PRIu64, k > 1 ? "," : "", kinds[k], c->actions[k]);
     printf("\nprocesses: attached %" PRIu64 ", ended %" PRIu64 ", left %" PRIu64 ", refused %" PRIu64
-           ", killed %" PRIu64 ", written off %" PRIu64 "\n",
-           c->attached, c->ended, c->given_up, c->refused, c->killed, c->written_off);
-    printf("longest gap between passes %" PRIu64 " ns, lines lost %" PRIu64 "\n", c->longest_gap, lost_lines());
+           ", killed %" PRIu64 ", written off %" PRIu64 ", dumped core %" PRIu64 "\n",
+           c->attached, c->ended, c->given_up, c->refused, c->killed, c->written_off, c->dumped);
+    printf("longest gap between passes %" PRIu64 " ns, lines lost %" PRIu64 ", moved itself back %" PRIu64 "\n",
+           c->longest_gap, lost_lines(), c->displaced);
     printf("threads: not the process's own %" PRIu64 ", not pinned %" PRIu64
-           ", pinned slowly %" PRIu64 ", strayed %" PRIu64 ", worn out %" PRIu64 "\n",
-           c->foreign_tids, c->unpinned, c->slow_pins, c->strayed, c->worn);
+           ", pinned slowly %" PRIu64 ", strayed %" PRIu64 ", worn out %" PRIu64 ", put back %" PRIu64 "\n",
+           c->foreign_tids, c->unpinned, c->slow_pins, c->strayed, c->worn, c->put_back);
     printf("standing under: gave way %" PRIu64 ", had their core back %" PRIu64
            ", taken off %" PRIu64 "\n", c->given_way, c->notes, c->taken_off);
     latency_print(&s->latency, stdout);
@@ -66,12 +67,15 @@ static void put_counts(FILE *out, const counts *c) {
                 {"refused_total", c->refused},
                 {"killed_total", c->killed},
                 {"written_off_total", c->written_off},
+                {"dumped_core_total", c->dumped},
                 {"places_too_far_total", c->jumped},
                 {"misses_too_many_total", c->outran},
                 {"foreign_threads_total", c->foreign_tids},
                 {"unpinned_total", c->unpinned},
                 {"strayed_total", c->strayed},
                 {"slow_pins_total", c->slow_pins},
+                {"put_back_total", c->put_back},
+                {"moved_itself_back_total", c->displaced},
                 {"gave_way_total", c->given_way},
                 {"had_back_total", c->notes},
                 {"taken_off_total", c->taken_off}};
@@ -107,6 +111,8 @@ static struct {
     sem_t bell;
     atomic_bool is_busy; /* the tally is the clerk's */
     atomic_bool is_over; /* nothing is written any more */
+    atomic_bool is_gone; /* nobody finds the scheduler any more */
+    bool is_told;
 } desk;
 
 static void put_each_task(FILE *out, const tally *t) {
@@ -164,6 +170,7 @@ static void write_each(void *with) {
     while (!atomic_load(&desk.is_over)) {
         while (sem_wait(&desk.bell)) {}
         write_metrics(&desk.tally);
+        if (!atomic_load(&desk.is_over)) atomic_store(&desk.is_gone, !can_be_found(desk.tally.tasks));
         atomic_store(&desk.is_busy, false);
     }
 }
@@ -178,6 +185,9 @@ bool begin_metrics(const scheduler *s) {
 void hand_metrics(const scheduler *s) {
     tally *t = &desk.tally;
     if (atomic_load(&desk.is_busy)) return;
+    bool is_gone = atomic_load(&desk.is_gone);
+    if (is_gone && !desk.is_told) complain("its folder, or a socket there, was removed: nobody can attach any more");
+    desk.is_told = is_gone;
     t->counts = s->counts, t->latency = s->latency;
     t->tasks = s->machine.tasks, t->is_recorded = s->record != NULL, t->lost_lines = lost_lines();
     for (unsigned i = 0; i < t->tasks; i++) t->is_attached[i] = s->task[i].is_attached;

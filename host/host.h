@@ -22,7 +22,7 @@
 
 /* Rises when what lies in a segment or what is said over the socket changes; pages have a version of their own. */
 #ifndef HOST_LAYOUT
-#define HOST_LAYOUT 4
+#define HOST_LAYOUT 5
 #endif
 #define HOST_VERSION ((uint64_t)HOST_LAYOUT << 32 | CALADAN_PAGES_VERSION)
 #define HOST_SIGNAL SIGURG /* by default it is ignored: a thread that has no handler for it takes no harm */
@@ -57,6 +57,7 @@ typedef struct host_segment {
     uint32_t stands_under;
     int32_t processor[HOST_CORES]; /* of each core */
     _Alignas(CALADAN_LINE) _Atomic uint32_t phase;
+    _Alignas(CALADAN_LINE) _Atomic uint64_t heartbeat; /* it grows each millisecond, or with each pass */
     host_slot slot[HOST_LIMIT];
 } host_segment;
 
@@ -71,7 +72,7 @@ typedef struct host_word {
 
 enum {
     HOST_DONE, HOST_TAKEN, HOST_OTHER_USER, HOST_OTHER_NAMESPACE, HOST_NO_RIGHTS, HOST_NO_MEMORY,
-    HOST_OTHER_GROUP
+    HOST_OTHER_GROUP, HOST_WAITS /* which is never said */
 };
 typedef struct host_answer {
     uint64_t version;

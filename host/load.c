@@ -5,7 +5,7 @@
  *   load lc -n NAME -u TASK [-s SECONDS] [-q REQUESTS_A_SECOND] [-m MICROSECONDS] [-i IDLE_NS]
  *        [-x CPU] [-k TURNS] [-c COUNTER]
  *   load be -n NAME -u TASK [-s SECONDS] [-i IDLE_NS] [-b] [-h] [-e WHAT] [-k TURNS] [-c
- *        COUNTER]
+ *        COUNTER] [-p WHAT] [-l MS] [-t]
  *
  * lc: requests come at times that are drawn beforehand (Poisson), whether earlier ones are
  * served or not, and the time of a request counts from there. A request is a number of turns of
@@ -17,8 +17,12 @@
  * again; seek: run until it has attached again), and the process goes on. Both: -a: the main
  * thread has all signals blocked; -g: the process has a handler of SIGURG; -z: it closes all its
  * files when it has started; -f: it has a child that hands in a request, and one that attaches
- * as its task, and the status is 4 where these are not refused. lc reads that file, and says how many pieces
- * were done meanwhile.
+ * as its task, and the status is 4 where these are not refused. -t: it starts and stops its
+ * runtime five times, with requests that are waited for and others that are left. -l: so long without a sign of it
+ * the scheduler counts as over, and threads do as -e says. -p: a thread with a core starts
+ * something that lives for a minute, and says its number: thread, fork, spawn, exec, or, by the
+ * runtime, rt_thread and rt_spawn; vfork: the child hands in a request, and the status is 4 where
+ * it is not refused. lc reads that file, and says how many pieces were done meanwhile.
  *
  * Each request and each piece looks whether it runs on the processor of its thread's core: two
  * threads are never on one. The first that does not is a line on standard error, and the status
@@ -32,8 +36,10 @@
 #include <errno.h>
 #include <fcntl.h>
 #include <math.h>
+#include <pthread.h>
 #include <sched.h>
 #include <signal.h>
+#include <spawn.h>
 #include <stdatomic.h>
 #include <stdio.h>
 #include <stdlib.h>
@@ -54,10 +60,10 @@ typedef struct counter {
 static struct {
     const char *name, *counter;
     unsigned task;
-    double turns, microseconds, rate, seconds;
+    double turns, microseconds, rate, seconds, lost;
     int cpu;
-    bool bytes, holds, blocks, handles, closes, forks;
-    const char *after;
+    bool bytes, holds, blocks, handles, closes, forks, stops;
+    const char *after, *starts;
     uint64_t idle_ns;
 } options = {.microseconds = 20, .rate = 10000, .seconds = 1, .cpu = -1, .idle_ns = 5000};
 
@@ -178,6 +184,7 @@ static void start(caladan_serve *serve) {
     char task[64];
     snprintf(task, sizeof task, "task %u", options.task);
     if (rt == NULL) die(task, caladan_rt_why(errno));
+    if (options.lost > 0) caladan_rt_lost_after(rt, (uint64_t)(options.lost * 1e6));
 }
 
 /* ---- the latency-critical task ---- */
@@ -309,9 +316,59 @@ static void read_piece(unsigned thread) {
     caladan_rt_missed(PIECE / 64);
 }
 
+/* ---- what is started on a core ---- */
+
+static void tell_started(long number) { fprintf(stderr, "load: started %ld\n", number); }
+
+static void *live_on(void *with) {
+    tell_started(gettid());
+    sleep(60);
+    return with;
+}
+
+static pid_t spawn(bool by_runtime) {
+    static char *const words[] = {"sleep", "60", NULL};
+    pid_t child = 0;
+    int error = by_runtime ? caladan_rt_spawn(rt, &child, "/bin/sleep", NULL, NULL, words, environ)
+                           : posix_spawn(&child, "/bin/sleep", NULL, NULL, words, environ);
+    if (error) die("a child", strerror(error));
+    return child;
+}
+
+/* A child that has its parent's memory. */
+static void have_vforked(void) {
+    static volatile bool is_accepted;
+    pid_t child = vfork();
+    if (child == 0) is_accepted = caladan_rt_submit(rt, 0, (caladan_request){caladan_rt_now(rt), 0}), _exit(0);
+    if (child > 0) waitpid(child, NULL, 0);
+    if (child < 0 || is_accepted) _exit(4);
+    tell_started(child);
+}
+
+static void start_on_core(const char *what) {
+    pthread_t thread;
+    pid_t child = strcmp(what, "fork") ? -1 : fork();
+    if (child == 0) sleep(60), _exit(0);
+    if (child > 0) tell_started(child);
+    if (!strcmp(what, "thread")) pthread_create(&thread, NULL, live_on, NULL);
+    if (!strcmp(what, "rt_thread") && caladan_rt_thread(rt, &thread, NULL, live_on, NULL)) die(what, "refused");
+    if (!strcmp(what, "spawn") || !strcmp(what, "rt_spawn")) tell_started(spawn(*what == 'r'));
+    if (!strcmp(what, "exec")) tell_started(getpid()), execl("/bin/sleep", "sleep", "60", NULL);
+    if (!strcmp(what, "vfork")) have_vforked();
+}
+
+static void start_once(void) {
+    static atomic_bool is_started;
+    if (options.starts == NULL || atomic_exchange(&is_started, true)) return;
+    caladan_rt_hold();
+    start_on_core(options.starts);
+    caladan_rt_release();
+}
+
 /* A chunk, and another one after it. */
 static void serve_chunk(void *with, unsigned thread, caladan_request request) {
     (void)with;
+    start_once();
     if (options.holds) caladan_rt_hold();
     for (int i = 0; i < PIECES_OF_A_CHUNK; i++) {
         if (options.bytes) read_piece(thread);
@@ -322,6 +379,40 @@ static void serve_chunk(void *with, unsigned thread, caladan_request request) {
     }
     if (options.holds) caladan_rt_release();
     caladan_rt_submit(rt, thread, (caladan_request){caladan_rt_now(rt), request.what});
+}
+
+/* ---- runtimes that are stopped ---- */
+
+enum { WAITED_FOR = 40, TOO_MANY = 10000 };
+
+static void serve_latched(void *with, unsigned thread, caladan_request request) {
+    (void)with, (void)thread;
+    spin((uint64_t)(options.turns * 20));
+    if (request.what) caladan_latch_done((caladan_latch *)(uintptr_t)request.what);
+}
+
+/* So many requests at once, in turn to each thread; how many were taken. */
+static size_t submit_each(size_t count, caladan_latch *latch) {
+    static caladan_request requests[TOO_MANY];
+    size_t taken = 0, part = count / caladan_rt_threads(rt);
+    for (size_t i = 0; i < count; i++)
+        requests[i] = (caladan_request){caladan_rt_now(rt), (uint64_t)(uintptr_t)latch};
+    for (unsigned k = 0; k < caladan_rt_threads(rt); k++) taken += caladan_rt_submit_each(rt, k, requests, part);
+    return taken;
+}
+
+static void start_and_stop(void) {
+    caladan_latch latch;
+    size_t unserved = 0;
+    start(serve_latched);
+    caladan_latch_begin(&latch, WAITED_FOR + 1);
+    if (submit_each(WAITED_FOR, &latch) != WAITED_FOR) die("a batch", "it was not taken");
+    if (caladan_latch_wait(&latch, 1000000)) die("a latch", "it fell too early");
+    caladan_latch_done(&latch);
+    if (!caladan_latch_wait(&latch, 60000000000u)) die("a batch", "it was not served in a minute");
+    size_t taken = caladan_rt_submit_each(rt, 0, NULL, 0) + submit_each(TOO_MANY, NULL);
+    if (!caladan_rt_stop(rt, &unserved)) die("a runtime", "it was not stopped");
+    if (taken < TOO_MANY / 4 || unserved > taken) die("a batch", "it was not taken, or more is left");
 }
 
 /* What a child can do with its parent's runtime: nothing. */
@@ -359,6 +450,8 @@ static int best_effort(void) {
         memset(buffer, 1, BUFFER);
     }
     is_best = true;
+    for (int i = 0; i < 5 && options.stops; i++) start_and_stop();
+    if (options.stops) exit(0); /* nothing is left, and the address sanitizer looks */
     start(serve_chunk);
     for (unsigned i = 0; i < caladan_rt_threads(rt); i++)
         caladan_rt_submit(rt, i, (caladan_request){caladan_rt_now(rt), i});
@@ -387,8 +480,11 @@ static void read_option(int option) {
     case 'a': options.blocks = true; break;
     case 'g': options.handles = true; break;
     case 'z': options.closes = true; break;
+    case 't': options.stops = true; break;
     case 'f': options.forks = true; break;
     case 'e': options.after = optarg; break;
+    case 'l': options.lost = atof(optarg); break;
+    case 'p': options.starts = optarg; break;
     default: exit(2);
     }
 }
@@ -396,7 +492,7 @@ static void read_option(int option) {
 int main(int count, char **words) {
     const char *word = count > 1 ? words[1] : "";
     if (!strcmp(word, "spin")) return printf("%.2f\n", turns_of_a_microsecond()), 0;
-    static const char letters[] = "n:u:k:c:x:m:q:s:i:bhagzfe:";
+    static const char letters[] = "n:u:k:c:x:m:q:s:i:bhagzfe:p:l:t";
     for (int c; count > 1 && (c = getopt(count - 1, words + 1, letters)) != -1;) read_option(c);
     if ((strcmp(word, "lc") && strcmp(word, "be")) || options.name == NULL)
         die("usage", "load spin | lc | be -n NAME -u TASK ..");

@@ -11,8 +11,10 @@
  *   last_one the same on one of its threads alone
  *   misses   shows as many misses as a record may have on each of its threads, and ends
  *   wordy    publishes records of the longest numbers, and never leaves
+ *   storms   attaches and closes its connection, again and again
  *   visits   connects, says nothing and closes; it lives on
  *   silent   connects twelve times at once, says nothing, and comes again where it is sent away
+ *   dumps    is given a core, and dumps core, with 512 MiB of memory
  *   closes   is given a core, closes its connection, and works on
  *   mixed    becomes nobody by half, as root alone can: its scheduler may not signal it
  *   awake    hands over, at each Run, the number of one or the other of two threads that never
@@ -106,6 +108,14 @@ static void miss(host_slot *slot) {
     for (int i = 0; i < 100; i++, usleep(2000)) caladan_publish(&publisher, words);
 }
 
+/* Memory that is written into a core file: no page is of zeros, and none is like another. */
+static void fill_memory(void) {
+    size_t size = (size_t)512 << 20;
+    uint64_t *memory = mmap(NULL, size, PROT_READ | PROT_WRITE, MAP_PRIVATE | MAP_ANONYMOUS, -1, 0);
+    if (memory == MAP_FAILED) perror("misbehave"), exit(2);
+    for (size_t i = 0; i < size / sizeof *memory; i += 512) memory[i] = i + 1;
+}
+
 /* It waits until it is refused, and ends with status 7 where it is not from then on. */
 static void punch(void) {
     while (host_clock() < until && madvise(segment, sizeof *segment, MADV_REMOVE) == 0) {}
@@ -154,6 +164,17 @@ static int visit(const char *name, unsigned task) {
     return 0;
 }
 
+/* Who is refused, since the one before is not given up yet, comes again. */
+static int attach_again_and_again(const char *name, unsigned task) {
+    while (host_clock() < until) {
+        segment = host_attach(name, task, &connection);
+        if (segment == NULL) continue;
+        munmap(segment, sizeof *segment);
+        close(connection);
+    }
+    return 0;
+}
+
 /* Twelve connections that say nothing; where one is closed, there is another. */
 static int say_nothing(const char *name, unsigned task) {
     struct sockaddr_un address;
@@ -188,6 +209,7 @@ static void *live(void *argument) {
     if (!strcmp(how, "half")) caladan_publish_begin(&publisher);
     if (!strcmp(how, "foreign")) work(slot, &publisher, words);
     if (!strcmp(how, "closes")) close(connection);
+    if (!strcmp(how, "dumps")) abort();
     while (host_clock() < until)
         if (strcmp(how, "deaf")) usleep(1000);
     return NULL;
@@ -198,7 +220,9 @@ int main(int count, char **words) {
     until = host_clock() + strtoull(words[3], NULL, 10) * 1000000000u;
     how = words[4];
     if (!strcmp(how, "visits")) return visit(words[1], (unsigned)atoi(words[2]));
+    if (!strcmp(how, "storms")) return attach_again_and_again(words[1], (unsigned)atoi(words[2]));
     if (!strcmp(how, "silent")) return say_nothing(words[1], (unsigned)atoi(words[2]));
+    if (!strcmp(how, "dumps")) fill_memory();
     if (!strcmp(how, "mixed") && setresuid(0, 65534, 0)) return perror("misbehave"), 3;
     segment = host_attach(words[1], (unsigned)atoi(words[2]), &connection);
     if (segment == NULL) return fprintf(stderr, "misbehave: %s\n", host_why(errno)), 2;

@@ -18,6 +18,9 @@
 #define SELDOM ((uint64_t)1000000000) /* how often such is said, in nanoseconds */
 /* a pinning that waited, and took longer, was of a thread that ran, in ns */
 #define LONG ((uint64_t)5000)
+/* how long the mover may make no move, before it is put elsewhere, and before the run ends, in ns */
+#define STUCK ((uint64_t)1000000000)
+#define LOST ((uint64_t)20000000000)
 /* how long the mover looks for work before it sleeps, in ns */
 #define RESTLESS ((uint64_t)200000)
 enum { MOST_MOVES = 1024 }; /* four of each thread, and more cannot be under way */
@@ -40,6 +43,9 @@ static struct {
 static struct {
     move move[MOST_MOVES];
     atomic_size_t put, done;
+    size_t seen;      /* how many were done when the scheduler looked last, and since when */
+    uint64_t seen_at;
+    bool is_elsewhere; /* the mover was put elsewhere, and has not made a move since */
     atomic_bool is_asleep;
     sem_t bell;
 } queue;
@@ -50,8 +56,8 @@ static struct {
 static bool is_pinned(const scheduler *s, const host_thread *thread, unsigned core) {
     const host_seat *seat = &thread->seat;
     pid_t tid = atomic_load(&seat->slot->tid);
-    if (tid == 0 || seat->pinned != tid || seat->pinned_to != core) return false;
-    return !s->task[thread->task].is_under || seat->idle == tid;
+    if (tid == 0 || seat->pin.tid != tid || seat->pin.core != core) return false;
+    return !s->task[thread->task].is_under || seat->pin.idle == tid;
 }
 
 static bool put_on(const scheduler *s, pid_t tid, unsigned core) {
@@ -67,34 +73,41 @@ static long waits(void) {
     return getrusage(RUSAGE_THREAD, &used) ? 0 : used.ru_nvcsw;
 }
 
+/* Whoever looks for strays is to know it before it is pinned. */
+static void take_seat(scheduler *s, const host_thread *thread, pid_t tid) {
+    const host_task *task = &s->task[thread->task];
+    atomic_store(&s->seated[thread->task][thread->seat.slot - task->segment->slot], tid);
+}
+
 static bool put_under(host_seat *seat, pid_t tid) {
     struct sched_param none = {0};
-    if (seat->idle == tid) return true;
+    if (seat->pin.idle == tid) return true;
     if (sched_setscheduler(tid, SCHED_IDLE, &none)) return false;
-    seat->idle = tid;
+    seat->pin.idle = tid;
     return true;
 }
 
 /* The thread sleeps, and so wakes on the core's processor. False: it is not pinned there. */
-static bool pin(const scheduler *s, host_thread *thread, unsigned core) {
+static bool pin(scheduler *s, host_thread *thread, unsigned core) {
     host_seat *seat = &thread->seat;
     const host_task *task = &s->task[thread->task];
     pid_t tid = atomic_load(&seat->slot->tid);
     if (is_pinned(s, thread, core)) return true;
-    seat->pinned = seat->unpinned_for = 0;
-    seat->is_lost = true;
+    seat->pin.tid = seat->pin.error = 0;
+    seat->pin.is_lost = true;
     if (!is_own_thread(task, tid)) return false;
+    take_seat(s, thread, tid);
     long before = waits();
     uint64_t from = host_clock();
     if ((task->is_under && !put_under(seat, tid)) || !put_on(s, tid, core)) {
-        seat->unpinned_for = errno;
+        seat->pin.error = errno;
         return false;
     }
-    if (host_clock() - from > LONG && waits() != before) seat->is_slow = true;
-    else seat->slow = 0;
-    seat->is_lost = false;
-    seat->pinned = tid;
-    seat->pinned_to = core;
+    if (host_clock() - from > LONG && waits() != before) seat->pin.is_slow = true;
+    else seat->pin.slow = 0;
+    seat->pin.is_lost = false;
+    seat->pin.tid = tid;
+    seat->pin.core = core;
     return true;
 }
 
@@ -108,14 +121,14 @@ static uint64_t command_of(scheduler *s, const move *m) {
  * can answer. */
 static void put_elsewhere(const scheduler *s, host_thread *thread, unsigned core) {
     host_seat *seat = &thread->seat;
-    if (!is_own_thread(&s->task[thread->task], seat->pinned)) return;
-    if (put_on(s, seat->pinned, core)) seat->pinned_to = core;
+    if (!is_own_thread(&s->task[thread->task], seat->pin.tid)) return;
+    if (put_on(s, seat->pin.tid, core)) seat->pin.core = core;
 }
 
 static void do_move(scheduler *s, const move *m) {
     host_thread *thread = &s->thread[m->thread];
     host_seat *seat = &thread->seat;
-    if (!m->is_sent) caladan_ring_send(&seat->sender, command_of(s, m));
+    if (!m->is_sent) caladan_ring_send(&seat->pin.sender, command_of(s, m));
     if (m->what == PARK) interrupt(&s->task[thread->task], seat->slot);
     else ring_bell(seat->slot);
     if (m->to) put_elsewhere(s, thread, m->to - 1);
@@ -158,6 +171,7 @@ bool begin_moves(scheduler *s) {
  * more is not moved. */
 static void hand_over(const move *m) {
     size_t next = atomic_load(&queue.put);
+    if (next == atomic_load(&queue.done)) queue.seen = next, queue.seen_at = host_clock();
     queue.move[next % MOST_MOVES] = *m;
     atomic_store(&queue.put, next + 1);
     if (atomic_exchange(&queue.is_asleep, false)) sem_post(&queue.bell);
@@ -176,13 +190,13 @@ static void say_unpinned(scheduler *s, size_t k, const char *then, const char *w
 }
 
 static const char *why_unpinned(const host_seat *seat) {
-    return seat->unpinned_for ? strerror(seat->unpinned_for) : "it is no thread of that process";
+    return seat->pin.error ? strerror(seat->pin.error) : "it is no thread of that process";
 }
 
 static void settle_lost(scheduler *s, size_t k) {
     host_thread *thread = &s->thread[k];
     host_seat *seat = &thread->seat;
-    if (seat->unpinned_for) s->counts.unpinned++;
+    if (seat->pin.error) s->counts.unpinned++;
     else s->counts.foreign_tids++;
     seat->retry_at = now_of(s) + RETRY;
     say_unpinned(s, k, "is parked again", why_unpinned(seat));
@@ -194,8 +208,8 @@ static void settle_lost(scheduler *s, size_t k) {
 static void settle_slow(scheduler *s, size_t k) {
     host_seat *seat = &s->thread[k].seat;
     s->counts.slow_pins++;
-    if (++seat->slow < 2) return;
-    seat->slow = 0;
+    if (++seat->pin.slow < 2) return;
+    seat->pin.slow = 0;
     seat->retry_at = now_of(s) + RETRY;
     say_unpinned(s, k, "is granted nothing for a while", "it takes long, since it does not sleep");
 }
@@ -203,8 +217,8 @@ static void settle_slow(scheduler *s, size_t k) {
 static void settle_seat(scheduler *s, size_t k) {
     host_seat *seat = &s->thread[k].seat;
     seat->settled = seat->handed;
-    if (seat->is_lost) seat->is_lost = false, settle_lost(s, k);
-    if (seat->is_slow) seat->is_slow = false, settle_slow(s, k);
+    if (seat->pin.is_lost) seat->pin.is_lost = false, settle_lost(s, k);
+    if (seat->pin.is_slow) seat->pin.is_slow = false, settle_slow(s, k);
 }
 
 static void settle_moves(scheduler *s) {
@@ -252,7 +266,7 @@ static void send_what_can_be(scheduler *s) {
         move *m = &plan.move[i];
         host_thread *thread = &s->thread[m->thread];
         if (!m->is_first || (m->what == RUN && !is_pinned(s, thread, m->core))) continue;
-        caladan_ring_send(&thread->seat.sender, m->what == RUN ? m->core + 1u : CALADAN_PARK);
+        caladan_ring_send(&thread->seat.pin.sender, m->what == RUN ? m->core + 1u : CALADAN_PARK);
         m->is_sent = true;
     }
 }
@@ -269,8 +283,27 @@ void carry_out(scheduler *s) {
     settle_moves(s);
 }
 
+static void put_mover_elsewhere(const scheduler *s) {
+    bool is_put = CPU_COUNT(&s->others) && place_clerk(move_each, &s->others);
+    queue.is_elsewhere = true;
+    complain("the mover made no move on processor %d for a second%s", s->options.mover,
+             is_put ? ", and is put on others" : "");
+}
+
+/* Another thread may have all of its processor, in a class above. Where no other processor helps either, there is
+ * nobody who could end a move that it has begun. */
+void look_after_mover(const scheduler *s) {
+    uint64_t now = host_clock();
+    size_t done = atomic_load(&queue.done);
+    bool is_at_work = s->has_mover && done != atomic_load(&queue.put);
+    if (!is_at_work || done != queue.seen) queue.seen = done, queue.seen_at = now, queue.is_elsewhere = false;
+    if (now - queue.seen_at >= STUCK && !queue.is_elsewhere) put_mover_elsewhere(s);
+    uint64_t most = stop_signals() > 1 ? 2 * STUCK : LOST;
+    if (now - queue.seen_at >= most) fail("the mover", "it makes no moves any more");
+}
+
 void wait_for_moves(scheduler *s) {
-    if (s->has_mover) while (atomic_load(&queue.done) != atomic_load(&queue.put)) host_pause();
+    while (s->has_mover && atomic_load(&queue.done) != atomic_load(&queue.put)) look_after_mover(s), host_pause();
     settle_moves(s);
 }
 
@@ -280,8 +313,8 @@ void lift(scheduler *s, size_t k) {
     host_seat *seat = &s->thread[k].seat;
     struct sched_param none = {0};
     const host_task *task = &s->task[s->thread[k].task];
-    if (seat->handed != seat->settled || !is_own_thread(task, seat->idle)) return;
-    if (sched_setscheduler(seat->idle, SCHED_OTHER, &none) == 0) seat->idle = 0;
+    if (seat->handed != seat->settled || !is_own_thread(task, seat->pin.idle)) return;
+    if (sched_setscheduler(seat->pin.idle, SCHED_OTHER, &none) == 0) seat->pin.idle = 0;
 }
 
 /* ---- what was pinned is not so for ever ---- */
@@ -289,9 +322,9 @@ void lift(scheduler *s, size_t k) {
 static bool is_where_it_was_put(const scheduler *s, const host_thread *thread) {
     const host_seat *seat = &thread->seat;
     cpu_set_t cpus;
-    if (sched_getaffinity(seat->pinned, sizeof cpus, &cpus)) return true; /* it has ended */
-    if (seat->idle == seat->pinned && sched_getscheduler(seat->pinned) != SCHED_IDLE) return false;
-    return CPU_COUNT(&cpus) == 1 && CPU_ISSET((size_t)s->options.cpu[seat->pinned_to], &cpus);
+    if (sched_getaffinity(seat->pin.tid, sizeof cpus, &cpus)) return true; /* it has ended */
+    if (seat->pin.idle == seat->pin.tid && sched_getscheduler(seat->pin.tid) != SCHED_IDLE) return false;
+    return CPU_COUNT(&cpus) == 1 && CPU_ISSET((size_t)s->options.cpu[seat->pin.core], &cpus);
 }
 
 /* A cpuset grows narrower, a processor goes away, a process moves its threads or changes their
@@ -301,13 +334,13 @@ void look_after_pin(scheduler *s) {
     uint8_t k = s->looked_after = (uint8_t)((s->looked_after + 1u) % s->machine.threads);
     host_thread *thread = &s->thread[k];
     host_seat *seat = &thread->seat;
-    if (seat->handed != seat->settled || seat->pinned == 0) return;
+    if (seat->handed != seat->settled || seat->pin.tid == 0) return;
     if (is_where_it_was_put(s, thread)) return;
     s->counts.strayed++;
-    seat->pinned = seat->idle = 0;
-    unsigned core = stands_under(s, k) ? seat->stands : thread->core;
+    seat->pin.tid = seat->pin.idle = 0;
+    unsigned core = stands_under(s, k) ? seat->under.stands : thread->core;
     bool is_back = core == 0 || pin(s, thread, core - 1);
-    seat->is_lost = seat->is_slow = false; /* it ran, and was to */
+    seat->pin.is_lost = seat->pin.is_slow = false; /* it ran, and was to */
     if (is_back) return;
     seat->retry_at = now_of(s) + RETRY;
     say_unpinned(s, k, "runs elsewhere", why_unpinned(seat));

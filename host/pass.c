@@ -18,7 +18,7 @@ static bool may_be_sent(const scheduler *s, const host_thread *thread, uint64_t 
     if (thread->core != 0) return true;
     bool sleeps = seat->left_at == 0 || now - seat->left_at >= TO_SLEEP;
     bool is_there = sleeps && atomic_load(&seat->slot->tid) != 0;
-    return is_there && !seat->is_doubted && now >= seat->retry_at;
+    return is_there && !seat->is_refused && now >= seat->retry_at;
 }
 
 /* Nobody publishes more than once a nanosecond. A page that shows a place further on than that is taken as one that is
@@ -51,7 +51,7 @@ static void look_at_page(scheduler *s, host_seat *seat, caladan_look *look, uint
     if (is_too_far(seat, look, now)) s->counts.jumped++;
     else s->counts.outran++;
     *look = (caladan_look){.busy = 1, .number = 1, .second = 1};
-    seat->is_doubted = true;
+    seat->is_refused = true;
 }
 
 static void look_at(scheduler *s, size_t k, uint64_t now) {
@@ -80,9 +80,9 @@ static void note_judged(scheduler *s) {
     for (size_t k = 0; k < s->machine.threads; k++) {
         host_seat *seat = &s->thread[k].seat;
         s->counts.judged[s->judged[k]]++;
-        if (s->judged[k] > CALADAN_BUSY) seat->is_doubted = true;
+        if (s->judged[k] > CALADAN_BUSY) seat->is_refused = true;
         if (s->judged[k] != CALADAN_KEPT) continue;
-        if (!stands_under(s, k)) seat->is_doubted = false; /* else its page was judged before */
+        if (!stands_under(s, k)) seat->is_refused = false; /* else its page was judged before */
         s->shown[k].shown = s->look[k];
     }
 }
@@ -178,10 +178,10 @@ static void wait_for_answer(scheduler *s, host_thread *thread, uint64_t until) {
     while (!thread->is_deferred) {
         caladan_observe(&seat->slot->page, &look);
         if (!look.busy && look.taken >= thread->sent) break;
-        if (seat->is_mute) return;
-        seat->is_mute = now_of(s) >= until;
+        if (seat->is_unacked) return;
+        seat->is_unacked = now_of(s) >= until;
     }
-    seat->is_mute = false;
+    seat->is_unacked = false;
 }
 
 static void note_gap(scheduler *s, uint64_t now) {
@@ -198,7 +198,7 @@ void make_pass(scheduler *s) {
     uint8_t answer = caladan_pass_each(&s->handle, now, figure, s->look, count, s->judged, HOST_THREADS, s->action,
                                        CALADAN_MOST_ACTIONS, &s->made);
     if (answer != CALADAN_DONE) fail("a pass", caladan_answer_text(answer));
-    tick(s, now);
+    account_time(s, now);
     move_cores(s, now);
     note_judged(s);
     latency_decided(&s->latency, now, s->shown, count, s->action, s->made);

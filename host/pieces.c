@@ -32,8 +32,8 @@ static void begin_thread(scheduler *s, size_t k) {
     host_thread *thread = &s->thread[k];
     host_seat *seat = &thread->seat;
     clear_slot(seat->slot);
-    seat->sender = (caladan_sender){&seat->slot->ring, 0};
-    seat->is_doubted = seat->is_mute = seat->leaving.is_set = false;
+    seat->pin.sender = (caladan_sender){&seat->slot->ring, 0};
+    seat->is_refused = seat->is_unacked = seat->leaving.is_set = false;
     seat->place = seat->misses = seat->left_at = 0;
     seat->from = now_of(s);
     thread->by_hand = thread->is_deferred = false;
@@ -91,42 +91,57 @@ static void lift_each(scheduler *s) {
         if (stands_under(s, k) && !is_quiet(s, s->thread[k].seat.slot)) lift(s, k);
 }
 
-/* Who has not left after the patience is killed, and written off when that did not help; `at_once`, without waiting. */
-static void part_with_each(scheduler *s, bool at_once) {
+/* Whoever has still to leave, or to say so, is to do it in the patience, which begins now where it has not begun. */
+static void note_each_leaving(scheduler *s) {
+    for (size_t k = 0; k < s->machine.threads; k++) {
+        const host_thread *thread = &s->thread[k];
+        unsigned core = stands_under(s, k) ? thread->seat.under.stands : thread->core;
+        bool stays = thread->core || (s->task[thread->task].pid && !is_quiet(s, thread->seat.slot));
+        if (!stays) s->thread[k].seat.leaving.is_set = false;
+        else if (!thread->seat.leaving.is_set) note_leaving(s, k, core ? core - 1 : NO_CORE);
+    }
+}
+
+/* Who has not left is killed, and waited for no longer. */
+static void part_with_each(scheduler *s) {
     for (unsigned t = 0; t < s->machine.tasks; t++) {
         host_task *task = &s->task[t];
         if (task->pid == 0 || has_left(s, task)) continue;
         if (s->options.patience) kill_process(s, task, "it did not leave its cores at the end of a piece");
-        if (at_once) write_off(s, task);
+        write_off(s, task);
     }
 }
 
 /* Passes come further and further apart, so that few are made however long a thread takes. */
 static void wait_some(scheduler *s, uint64_t from) {
     uint64_t now = now_of(s), gap = (now - from) / 16, until = now + (gap > 20000 ? gap : 20000);
-    for (; (now = now_of(s)) < until; tick(s, now)) host_pause();
+    for (; (now = now_of(s)) < until; account_time(s, now)) host_pause();
 }
 
-/* It ends: after the patience who stays is killed, and a second later written off. Without a patience nobody is killed,
- * and what has not left in a second stays: then there is no record, and the run ends here. */
+/* It ends: after the patience who stays is killed, and a second later written off; at the latest after some times the
+ * patience by the wall clock. Without a patience nobody is killed, and what has not left in a second stays: then there
+ * is no record, and the run ends here. */
 void end_piece(scheduler *s) {
-    uint64_t from = now_of(s), clock = s->clock, looks = s->looks,
+    uint64_t from = now_of(s), run = s->run_time, wall = s->wall_time,
              patience = s->options.patience ? s->options.patience : PATIENCE;
     stop_moving(s);
     s->is_closing = true;
     set_phase(s, s->phase | 1);
     interrupt_each(s);
     make_pass(s);
+    note_each_leaving(s);
     for (unsigned passes = 1; !have_all_left(s); passes++) {
-        bool at_once = passes >= RECORD_END_PASSES - 8 || stop_signals() > 1;
+        bool is_overdue = s->wall_time - wall >= WALL_BOUND * patience && passes >= LEAST_LOOKS;
+        bool at_once = passes >= RECORD_END_PASSES - 8 || stop_signals() > 1 || is_overdue;
         wait_some(s, from);
-        tend_each(s);     /* who closes its connection has left; who comes waits for the next piece */
-        make_pass(s);     /* who left since the last look is not parted with */
+        tend_each(s); /* who closes its connection has left; who comes waits for the next piece */
+        make_pass(s); /* who left since the last look is not parted with */
+        note_each_leaving(s);
         kill_the_deaf(s); /* and who was killed and does not end */
-        bool is_late = s->clock - clock >= patience && s->looks - looks >= LEAST_LOOKS;
-        if (s->clock - clock >= patience / 2) lift_each(s);
-        if (at_once || is_late) part_with_each(s, at_once);
-        if (passes >= RECORD_END_PASSES || (s->options.patience == 0 && s->clock - clock >= patience)) break;
+        if (s->run_time - run >= patience / 2 || s->wall_time - wall >= patience) lift_each(s);
+        if (at_once) part_with_each(s);
+        if (passes >= RECORD_END_PASSES) break;
+        if (s->options.patience == 0 && (is_overdue || s->run_time - run >= patience)) break;
     }
     if (s->record && !record_end_piece(s->record, s->passes)) s->record = NULL;
     caladan_close(&s->handle);

@@ -27,11 +27,14 @@ static void empty_folder(void) {
     else if (again >= 0) close(again);
 }
 
-/* A clerk that was not waited for may put a last file there. */
+/* A clerk that was not waited for may put a last file there. Once: the next scheduler may have the name by then. */
 static void leave_folder(void) {
-    int tries = 0;
+    int tries = 0, folder = place.folder;
+    if (folder < 0) return;
     do empty_folder();
     while (unlinkat(place.above, place.name, AT_REMOVEDIR) && errno == ENOTEMPTY && tries++ < 8);
+    place.folder = -1;
+    close(folder); /* and its lock */
 }
 
 static int open_or_fail(int at, const char *path) {
@@ -60,6 +63,16 @@ void take_folder(scheduler *s) {
     atexit(leave_folder);
     empty_folder();
     s->folder = place.folder;
+}
+
+bool can_be_found(unsigned tasks) {
+    char name[32];
+    bool is_there = is_still_there();
+    for (unsigned t = 0; t < tasks && is_there; t++) {
+        snprintf(name, sizeof name, "task-%u", t);
+        is_there = faccessat(place.folder, name, F_OK, 0) == 0;
+    }
+    return is_there;
 }
 
 /* ---- the processors ---- */
@@ -103,6 +116,11 @@ static void check_map(const options *o, unsigned cores, const cpu_set_t *allowed
     }
 }
 
+void leave_places(void) {
+    leave_folder();
+    unlock_processors();
+}
+
 /* The scheduler runs on its own processor, else on those that it does not manage. */
 void take_processors(scheduler *s) {
     const options *o = &s->options;
@@ -117,10 +135,23 @@ void take_processors(scheduler *s) {
         CPU_SET((size_t)o->own, &own);
         if (CPU_COUNT(&allowed) > 1) CPU_CLR((size_t)o->own, &allowed);
     }
-    s->others = allowed;
+    s->others = allowed, s->place = own;
     if (CPU_COUNT(&own) && sched_setaffinity(0, sizeof own, &own)) fail("-o", strerror(errno));
     atexit(unlock_processors);
     for (unsigned i = 0; i < o->cpus; i++) lock_processor(o->cpu[i]);
+}
+
+/* The kernel moves a thread whose processor goes away, or whose cpuset has it no more; anyone of its user may. */
+void look_after_own_place(scheduler *s) {
+    int here = sched_getcpu();
+    if (CPU_COUNT(&s->place) == 0 || here < 0 || CPU_ISSET((size_t)here, &s->place)) return;
+    int error = sched_setaffinity(0, sizeof s->place, &s->place) ? errno : 0;
+    uint64_t now = now_of(s);
+    s->counts.displaced++;
+    if (s->displaced_at && now - s->displaced_at < 1000000000u) return;
+    s->displaced_at = now;
+    if (error == 0) complain("the scheduler was moved to processor %d, and went back", here);
+    else complain("the scheduler runs on processor %d, and cannot go back: %s", here, strerror(error));
 }
 
 /* ---- whoever started it ---- */

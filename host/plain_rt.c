@@ -57,6 +57,12 @@ static void wake_one(caladan_rt *rt, unsigned thread) {
     }
 }
 
+size_t caladan_rt_submit_each(caladan_rt *rt, unsigned thread, const caladan_request *requests, size_t count) {
+    size_t put = 0;
+    while (put < count && caladan_rt_submit(rt, thread, requests[put])) put++;
+    return put;
+}
+
 bool caladan_rt_submit(caladan_rt *rt, unsigned thread, caladan_request request) {
     worker *w = &rt->worker[thread];
     if (thread >= rt->threads) return false;
@@ -135,11 +141,22 @@ bool caladan_rt_is_over(const caladan_rt *rt) { return (void)rt, false; }
 const char *caladan_rt_why(int error) { return strerror(error); }
 void caladan_rt_after(caladan_rt *rt, int what) { (void)rt, (void)what; }
 bool caladan_rt_attach_again(caladan_rt *rt) { return (void)rt, false; }
+bool caladan_rt_stop(caladan_rt *rt, size_t *unserved) { return (void)rt, (void)unserved, errno = ENOSYS, false; }
+void caladan_rt_lost_after(caladan_rt *rt, uint64_t ns) { (void)rt, (void)ns; }
+bool caladan_rt_is_lost(const caladan_rt *rt) { return (void)rt, false; }
 void caladan_rt_missed(uint64_t misses) { (void)misses; }
 int caladan_rt_processor(void) { return -1; }
 bool caladan_rt_stands_under(const caladan_rt *rt) { return (void)rt, false; }
 void caladan_rt_hold(void) {}
 void caladan_rt_release(void) {}
+int caladan_rt_thread(caladan_rt *rt, pthread_t *thread, const pthread_attr_t *attributes, void *(*start)(void *),
+                      void *with) {
+    return (void)rt, pthread_create(thread, attributes, start, with);
+}
+int caladan_rt_spawn(caladan_rt *rt, pid_t *pid, const char *path, const posix_spawn_file_actions_t *actions,
+                     const posix_spawnattr_t *attributes, char *const *words, char *const *environment) {
+    return (void)rt, posix_spawn(pid, path, actions, attributes, words, environment);
+}
 
 static bool read_name(caladan_rt *rt, const char *name) {
     char text[256], *rest = text;

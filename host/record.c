@@ -48,7 +48,8 @@ static struct record {
 static void write_table(const record *r, const char *table) {
     int file = openat(r->folder, "table.toml", O_WRONLY | O_CREAT | O_EXCL | O_NOFOLLOW | O_CLOEXEC, 0600);
     size_t length = strlen(table);
-    if (file < 0 || write(file, table, length) != (ssize_t)length || close(file)) fail(r->path, strerror(errno));
+    bool is_written = file >= 0 && write(file, table, length) == (ssize_t)length && fsync(file) == 0;
+    if (!is_written || close(file)) fail(r->path, strerror(errno));
 }
 
 static void make_folder(record *r, const char *folder, const char *name) {
@@ -117,8 +118,16 @@ static int write_growing(record *r, piece *it, int file) {
         int error = write_all(it, file, &written, atomic_load(&it->filled));
         if (error || is_whole) return error;
         if (is_over) return ECANCELED;
+        sync_file_range(file, 0, 0, SYNC_FILE_RANGE_WRITE); /* so that little is left to wait for at the end */
         wait_a_while(r);
     }
+}
+
+/* A file of a whole piece is whole, also where the machine stops at any moment. */
+static int finish_piece(const record *r, int file, const char *part, const char *whole) {
+    if (fsync(file)) return errno;
+    if (renameat(r->folder, part, r->folder, whole)) return errno;
+    return fsync(r->folder) ? errno : 0;
 }
 
 static int write_piece(record *r, piece *it) {
@@ -128,8 +137,8 @@ static int write_piece(record *r, piece *it) {
     int file = openat(r->folder, part, O_WRONLY | O_CREAT | O_EXCL | O_NOFOLLOW | O_CLOEXEC, 0600);
     if (file < 0) return errno;
     int error = write_growing(r, it, file);
+    if (error == 0) error = finish_piece(r, file, part, whole);
     if (close(file) && error == 0) error = errno;
-    if (error == 0 && renameat(r->folder, part, r->folder, whole)) error = errno;
     return error;
 }
 
@@ -210,12 +219,12 @@ bool record_end_piece(record *r, uint64_t passes) {
 }
 
 static bool is_done(void) { return atomic_load(&the_record.is_done); }
-void record_close(void) {
+bool record_close(void) {
     record *r = &the_record;
     atomic_store(&r->is_over, true);
     sem_post(&r->bell);
     bool is_in_time = wait_for_clerk(is_done, LAST);
-    if (r->is_given_up) return;
-    if (is_in_time) record_keeps_up(r);
-    else give_in(r, r->now ? r->now->number : 0, "the disk has not taken it in time");
+    if (r->is_given_up) return false;
+    if (is_in_time) return record_keeps_up(r);
+    return give_in(r, r->now ? r->now->number : 0, "the disk has not taken it in time");
 }

@@ -25,6 +25,7 @@ bool record_is_full(const record *r);
 bool record_begin_piece(record *r, uint64_t number);
 bool record_end_piece(record *r, uint64_t passes);
 bool record_keeps_up(record *r);
-/* Waits until all whole pieces are written, also of a record that has ended before; some seconds at most. */
-void record_close(void);
+/* Waits until all whole pieces are written, also of a record that has ended before; some seconds at most. False: the
+ * record is not whole, and it was said. */
+bool record_close(void);
 #endif

@@ -36,6 +36,11 @@ bool make_segment(scheduler *s, host_task *task) {
     return task->memory >= 0;
 }
 
+void beat(scheduler *s) {
+    for (unsigned t = 0; t < s->machine.tasks; t++)
+        atomic_fetch_add_explicit(&s->task[t].segment->heartbeat, 1, memory_order_relaxed);
+}
+
 void drop_segment(host_task *task) {
     if (task->memory < 0) return;
     munmap(task->segment, sizeof *task->segment);
@@ -55,11 +60,11 @@ bool close_segment(const host_task *task) {
 static void bury_thread(scheduler *s, size_t k) {
     host_thread *thread = &s->thread[k];
     host_seat *seat = &thread->seat;
-    seat->sender = (caladan_sender){&seat->slot->ring, stands_under(s, k) ? 0 : thread->sent};
-    seat->pinned = seat->idle = 0;
-    seat->is_doubted = seat->is_mute = thread->is_deferred = seat->leaving.is_set = false;
+    seat->pin.sender = (caladan_sender){&seat->slot->ring, stands_under(s, k) ? 0 : thread->sent};
+    seat->pin.tid = seat->pin.idle = 0;
+    seat->is_refused = seat->is_unacked = thread->is_deferred = seat->leaving.is_set = false;
     seat->retry_at = seat->left_at = 0;
-    seat->slow = 0;
+    seat->pin.slow = 0;
     seat->place = seat->misses = 0;
     seat->from = now_of(s);
     if (stands_under(s, k)) return under_bury(s, k);
@@ -79,7 +84,7 @@ static void bury_thread(scheduler *s, size_t k) {
 static void unpin_each(scheduler *s, const host_task *task) {
     struct sched_param none = {0};
     for (unsigned k = task->first; k < task->first + task->limit; k++) {
-        pid_t tid = s->thread[k].seat.pinned;
+        pid_t tid = s->thread[k].seat.pin.tid;
         if (tid == 0 || !is_own_thread(task, tid)) continue;
         if (CPU_COUNT(&s->others)) sched_setaffinity(tid, sizeof s->others, &s->others);
         if (task->is_under) sched_setscheduler(tid, SCHED_OTHER, &none);
@@ -90,6 +95,8 @@ static void unpin_each(scheduler *s, const host_task *task) {
 void give_up(scheduler *s, host_task *task) {
     wait_for_moves(s);
     unpin_each(s, task);
+    for (unsigned i = 0; i < HOST_LIMIT; i++) atomic_store(&s->seated[number_of(s, task)][i], 0);
+    strays_give_up(s, task);
     drop_segment(task);
     make_segment(s, task);
     for (unsigned k = task->first; k < task->first + task->limit; k++) bury_thread(s, k);

@@ -13,6 +13,8 @@
 /* How long who connects may take to say who it is, and that it has mapped its segment. */
 #define GREETING ((uint64_t)4000000000)
 #define MANNERS ((uint64_t)100000000)   /* and to say who it is, where others wait */
+/* How often guests of a task are looked at, of whom at most one attaches then: so a crowd costs passes little. */
+#define SELDOM ((uint64_t)10000000)
 
 unsigned number_of(const scheduler *s, const host_task *task) { return (unsigned)(task - s->task); }
 
@@ -159,15 +161,17 @@ static uint32_t judge(const host_task *task, int connection, const host_word *wo
 }
 
 /* Whether what is said of classes holds between it and each process that is attached: a
- * best-effort one that stands under, and a latency-critical one. */
-static bool is_in_fit_group(const scheduler *s, const host_task *task, pid_t pid) {
+ * best-effort one that stands under, and a latency-critical one. -1: it is not known yet. */
+static int is_in_fit_group(const scheduler *s, const host_task *task, pid_t pid) {
+    host_pair pairs[HOST_TASKS];
+    size_t count = 0;
     for (unsigned t = 0; t < s->machine.tasks; t++) {
         const host_task *other = &s->task[t];
         if (other->pid == 0 || other == task) continue;
-        if (task->is_under && other->is_critical && !gives_way(pid, other->pid)) return false;
-        if (task->is_critical && other->is_under && !gives_way(other->pid, pid)) return false;
+        if (task->is_under && other->is_critical) pairs[count++] = (host_pair){pid, other->pid};
+        if (task->is_critical && other->is_under) pairs[count++] = (host_pair){other->pid, pid};
     }
-    return true;
+    return each_gives_way(pairs, count, number_of(s, task), now_of(s));
 }
 
 static void dismiss(scheduler *s, host_guest *guest, uint32_t status) {
@@ -176,27 +180,34 @@ static void dismiss(scheduler *s, host_guest *guest, uint32_t status) {
     s->counts.refused++;
 }
 
-static bool has_ended(const host_task *task) {
+bool has_ended(const host_task *task) {
     struct pollfd file = {task->file, POLLIN, 0};
     return task->pid && poll(&file, 1, 0) > 0;
 }
 
-static void bury(scheduler *s, host_task *task) {
+void bury(scheduler *s, host_task *task) {
     s->counts.ended += task->is_attached;
     give_up(s, task);
 }
 
-/* Hands over the segment. Until the other end says that it has mapped it, its threads are granted nothing. */
-static void hand_over(scheduler *s, host_task *task, host_guest *guest, const host_word *word, pid_t sender) {
-    struct ucred peer = {0, 0, 0};
+/* What becomes of a guest that has said who it is, or HOST_WAITS. */
+static uint32_t judge_guest(scheduler *s, host_task *task, host_guest *guest, struct ucred *peer) {
+    const host_word *word = &guest->word;
     bool is_hello = word->version == HOST_VERSION && word->word == HOST_HELLO;
     if (has_ended(task)) bury(s, task); /* its predecessor, which may have ended since we looked */
-    uint32_t status = is_hello ? judge(task, guest->connection, word, sender, &peer) : HOST_NO_RIGHTS;
-    if (status == HOST_DONE && task->memory < 0) { /* there was no memory; there may be some now */
-        give_up(s, task);
-        status = task->memory < 0 ? HOST_NO_MEMORY : HOST_DONE;
-    }
-    if (status == HOST_DONE && !is_in_fit_group(s, task, peer.pid)) status = HOST_OTHER_GROUP;
+    uint32_t status = is_hello ? judge(task, guest->connection, word, guest->sender, peer) : HOST_NO_RIGHTS;
+    if (status != HOST_DONE) return status;
+    int fits = is_in_fit_group(s, task, peer->pid);
+    if (fits <= 0) return fits ? HOST_WAITS : HOST_OTHER_GROUP;
+    if (task->memory < 0) give_up(s, task); /* there was no memory; there may be some now */
+    return task->memory < 0 ? HOST_NO_MEMORY : HOST_DONE;
+}
+
+/* Hands over the segment. Until the other end says that it has mapped it, its threads are granted nothing. */
+static void hand_over(scheduler *s, host_task *task, host_guest *guest) {
+    struct ucred peer = {0, 0, 0};
+    uint32_t status = judge_guest(s, task, guest, &peer);
+    if (status == HOST_WAITS) return;
     if (status != HOST_DONE) return dismiss(s, guest, status);
     int file = file_of_peer(guest->connection, peer.pid);
     if (file < 0 || !have_rights(file, peer.pid) || !watch(s, task, file)) {
@@ -205,16 +216,17 @@ static void hand_over(scheduler *s, host_task *task, host_guest *guest, const ho
     }
     task->pid = peer.pid, task->file = file, task->connection = guest->connection;
     guest->connection = -1;
-    task->handed_at = s->clock + !s->clock;
+    task->handed_at = s->run_time + !s->run_time;
+    strays_attach(s, task);
     answer(task->connection, HOST_DONE, task->memory);
 }
 
 static void hear_guest(scheduler *s, host_task *task, host_guest *guest) {
-    host_word word;
-    pid_t sender;
-    int heard = hear(guest->connection, &word, &sender);
-    if (heard > 0) return hand_over(s, task, guest, &word, sender);
-    if (heard < 0 || s->clock - guest->at >= GREETING) send_away(guest); /* it only looked in */
+    int heard = guest->has_said ? 1 : hear(guest->connection, &guest->word, &guest->sender);
+    guest->has_said = heard > 0;
+    if (heard > 0) hand_over(s, task, guest);
+    if (guest->connection < 0) return;
+    if (heard < 0 || s->run_time - guest->at >= GREETING) send_away(guest); /* it only looked in */
 }
 
 /* The process that has the segment says that it has mapped it, or closes the connection. */
@@ -222,7 +234,7 @@ static void hear_owner(scheduler *s, host_task *task) {
     host_word word;
     pid_t sender = 0;
     int heard = hear(task->connection, &word, &sender);
-    bool is_late = !task->is_attached && s->clock - task->handed_at >= GREETING;
+    bool is_late = !task->is_attached && s->run_time - task->handed_at >= GREETING;
     if (heard == 0 && !is_late) return;
     if (heard > 0 && word.word == HOST_MAPPED && sender == task->pid && !task->is_attached && !has_ended(task) &&
         close_segment(task)) {
@@ -238,32 +250,44 @@ static void hear_owner(scheduler *s, host_task *task) {
 
 /* A place for who comes next: one that is free, or that of a guest who was silent for long enough. */
 static host_guest *place_of_next(const scheduler *s, host_task *task) {
-    host_guest *place = &task->guest[0];
+    host_guest *place = NULL;
     for (int i = 0; i < HOST_GUESTS; i++) {
         host_guest *guest = &task->guest[i];
         if (guest->connection < 0) return guest;
-        if (guest->at < place->at) place = guest;
+        if (!guest->has_said && (place == NULL || guest->at < place->at)) place = guest;
     }
-    return s->clock - place->at >= MANNERS ? place : NULL;
+    return place && s->run_time - place->at >= MANNERS ? place : NULL;
 }
 
 static void welcome(scheduler *s, host_task *task) {
     for (host_guest *guest; (guest = place_of_next(s, task));) {
         if (guest->connection >= 0) hear_guest(s, task, guest); /* it may have said something since */
+        if (guest->connection >= 0 && guest->has_said) continue;
         int connection = accept4(task->listener, NULL, NULL, SOCK_CLOEXEC | SOCK_NONBLOCK);
         if (connection < 0) break;
         send_away(guest);
-        *guest = (host_guest){connection, s->clock};
+        *guest = (host_guest){.connection = connection, .at = s->run_time};
         if (!watch(s, task, connection)) send_away(guest);
     }
     for (int i = 0; i < HOST_GUESTS; i++)
         if (task->guest[i].connection >= 0) hear_guest(s, task, &task->guest[i]);
 }
 
+/* Who waits for an answer of ours is not kept waiting. */
+static void answer_guests(scheduler *s, host_task *task) {
+    for (int i = 0; i < HOST_GUESTS; i++)
+        if (task->guest[i].connection >= 0 && task->guest[i].has_said) hear_guest(s, task, &task->guest[i]);
+}
+
 static void tend(scheduler *s, host_task *task) {
+    uint64_t now = now_of(s);
     if (has_ended(task)) bury(s, task);
     if (task->connection >= 0) hear_owner(s, task);
-    if (!s->is_closing) welcome(s, task); /* or one after the other would keep a piece open */
+    if (s->is_closing) return; /* or one after the other would keep a piece open */
+    answer_guests(s, task);
+    if (now - task->welcomed_at < SELDOM) return;
+    task->welcomed_at = now;
+    welcome(s, task);
 }
 
 /* Something is to come from it in time. */

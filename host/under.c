@@ -18,7 +18,7 @@
 
 bool stands_under(const scheduler *s, size_t k) { return s->task[s->thread[k].task].is_under; }
 
-static bool is_answered(const host_seat *seat) { return seat->page.taken == seat->ordered; }
+static bool is_acked(const host_seat *seat) { return seat->under.page.taken == seat->under.seqno; }
 static bool is_under_way(const host_seat *seat) { return seat->handed != seat->settled; }
 
 /* ---- what its page says ---- */
@@ -26,28 +26,28 @@ static bool is_under_way(const host_seat *seat) { return seat->handed != seat->s
 /* Whether the record is one that the thread can have published, by the rules by which the passes
  * judge others. */
 static uint8_t judge(const host_seat *seat, const caladan_look *page) {
-    const caladan_look *last = &seat->page;
-    unsigned may_be_on = seat->is_told ? 0 : seat->stands;
+    const caladan_look *last = &seat->under.page;
+    unsigned may_be_on = seat->under.is_revoked ? 0 : seat->under.stands;
     if (page->number < last->number) return CALADAN_PLACE_FELL;
     if (page->misses > MOST_MISSES) return CALADAN_MISSHAPEN;
     if (page->taken < last->taken || page->misses < last->misses) return CALADAN_WORD_FELL;
-    if (page->taken > seat->ordered) return CALADAN_AHEAD;
+    if (page->taken > seat->under.seqno) return CALADAN_AHEAD;
     if (page->running == 0 || page->running == last->running) {
-        bool is_back = page->running && page->taken == seat->ordered && page->running != may_be_on;
+        bool is_back = page->running && page->taken == seat->under.seqno && page->running != may_be_on;
         return is_back ? CALADAN_FOREIGN : CALADAN_KEPT;
     }
-    return page->running == seat->stands ? CALADAN_KEPT : CALADAN_FOREIGN;
+    return page->running == seat->under.stands ? CALADAN_KEPT : CALADAN_FOREIGN;
 }
 
 /* It has left the core where it was sent: as it was told, or of its own accord. */
 static void note_left(host_thread *thread, uint64_t now) {
     host_seat *seat = &thread->seat;
-    if (!seat->is_told) {
-        thread->gave_up = thread->core == seat->stands;
-        seat->target = 0;
+    if (!seat->under.is_revoked) {
+        thread->gave_up = thread->core == seat->under.stands;
+        seat->under.target = 0;
     }
-    seat->stands = 0;
-    seat->is_told = false;
+    seat->under.stands = 0;
+    seat->under.is_revoked = false;
     seat->leaving.is_set = false;
     seat->left_at = now;
 }
@@ -55,26 +55,26 @@ static void note_left(host_thread *thread, uint64_t now) {
 static void read_page(scheduler *s, host_thread *thread, const caladan_look *page, uint64_t now) {
     host_seat *seat = &thread->seat;
     uint8_t judged = judge(seat, page);
-    seat->is_doubted = judged != CALADAN_KEPT;
-    if (seat->is_doubted) {
+    seat->is_refused = judged != CALADAN_KEPT;
+    if (seat->is_refused) {
         s->counts.judged[judged]++;
         return;
     }
-    seat->page = *page;
-    if (seat->stands && is_answered(seat) && page->running == 0) note_left(thread, now);
+    seat->under.page = *page;
+    if (seat->under.stands && is_acked(seat) && page->running == 0) note_left(thread, now);
 }
 
 /* ---- what the passes see ---- */
 
 static bool is_off(const scheduler *s, const host_thread *thread) {
     if (thread->core == 0 || thread->leaves == HOST_GIVES_WAY || thread->gave_up) return true;
-    return (thread->leaves == HOST_LEAVES || s->is_closing) && thread->seat.stands == 0;
+    return (thread->leaves == HOST_LEAVES || s->is_closing) && thread->seat.under.stands == 0;
 }
 
 static bool is_on(const host_thread *thread) {
     const host_seat *seat = &thread->seat;
-    bool is_there = seat->stands == thread->core && seat->page.running == thread->core;
-    return is_there && is_answered(seat) && !seat->is_told && thread->leaves == HOST_STAYS;
+    bool is_there = seat->under.stands == thread->core && seat->under.page.running == thread->core;
+    return is_there && is_acked(seat) && !seat->under.is_revoked && thread->leaves == HOST_STAYS;
 }
 
 /* A request that it has begun waits, where it has no core: it is not at work in the eyes of the
@@ -87,7 +87,7 @@ static void show_work(caladan_look *shown, const caladan_look *page) {
 }
 
 static void show(const scheduler *s, host_thread *thread, uint64_t now) {
-    const caladan_look *page = &thread->seat.page;
+    const caladan_look *page = &thread->seat.under.page;
     caladan_look shown = thread->shown;
     uint64_t misses = thread->misses + page->misses;
     if (is_off(s, thread)) shown.running = 0, shown.taken = thread->sent;
@@ -117,10 +117,10 @@ void under_look(scheduler *s, size_t k, const caladan_look *page, uint64_t now) 
 void under_begin(scheduler *s, size_t k) {
     host_thread *thread = &s->thread[k];
     host_seat *seat = &thread->seat;
-    seat->target = seat->stands = 0;
-    seat->is_told = false;
-    seat->ordered = 0;
-    memset(&seat->page, 0, sizeof seat->page);
+    seat->under.target = seat->under.stands = 0;
+    seat->under.is_revoked = false;
+    seat->under.seqno = 0;
+    memset(&seat->under.page, 0, sizeof seat->under.page);
     memset(&thread->shown, 0, sizeof thread->shown);
     thread->leaves = HOST_STAYS;
     thread->gave_up = false;
@@ -145,21 +145,21 @@ static void swap(host_thread *a, host_thread *b) {
     host_seat seat = a->seat;
     a->seat = b->seat;
     b->seat = seat;
-    a->misses = a->shown.misses - a->seat.page.misses;
-    b->misses = b->shown.misses - b->seat.page.misses;
+    a->misses = a->shown.misses - a->seat.under.page.misses;
+    b->misses = b->shown.misses - b->seat.under.page.misses;
 }
 
 /* Who stands there without having it, or who sleeps. */
 static bool is_fit(const host_thread *thread, unsigned stands) {
     const host_seat *seat = &thread->seat;
-    bool may_move = thread->core == 0 && !is_under_way(seat) && !seat->is_doubted && !seat->is_told;
-    return may_move && seat->stands == stands && (stands || seat->target == 0);
+    bool may_move = thread->core == 0 && !is_under_way(seat) && !seat->is_refused && !seat->under.is_revoked;
+    return may_move && seat->under.stands == stands && (stands || seat->under.target == 0);
 }
 
 static void choose_seat(scheduler *s, size_t k, unsigned core) {
     host_thread *thread = &s->thread[k];
     const host_task *task = &s->task[thread->task];
-    unsigned stands = thread->seat.stands;
+    unsigned stands = thread->seat.under.stands;
     if (stands == core + 1 || is_under_way(&thread->seat)) return;
     for (unsigned wanted = core + 1;; wanted = 0) {
         for (size_t i = task->first; i < task->first + task->limit; i++)
@@ -174,15 +174,15 @@ void under_grant(scheduler *s, size_t k, unsigned core) {
     thread->core = core + 1;
     thread->leaves = HOST_STAYS;
     thread->gave_up = false;
-    thread->seat.target = core + 1;
-    if (thread->seat.stands == core + 1 && !thread->seat.is_told) s->counts.notes++;
+    thread->seat.under.target = core + 1;
+    if (thread->seat.under.stands == core + 1 && !thread->seat.under.is_revoked) s->counts.notes++;
 }
 
 void under_revoke(scheduler *s, size_t k, uint8_t cause) {
     host_thread *thread = &s->thread[k];
     bool stays = cause == CALADAN_FOR_TASK;
     thread->leaves = stays ? HOST_GIVES_WAY : HOST_LEAVES;
-    if (!stays || thread->seat.stands != thread->core) thread->seat.target = 0;
+    if (!stays || thread->seat.under.stands != thread->core) thread->seat.under.target = 0;
     s->counts.given_way += stays;
 }
 
@@ -195,7 +195,7 @@ void under_free(scheduler *s, size_t k) {
 /* ---- what follows from it ---- */
 
 static bool is_uncalled(const host_thread *thread) {
-    return thread->seat.stands && thread->seat.stands != thread->core;
+    return thread->seat.under.stands && thread->seat.under.stands != thread->core;
 }
 
 /* A cap that is cut leaves nobody of the task where he has no core. */
@@ -204,13 +204,13 @@ void under_cap(scheduler *s, unsigned t, uint8_t cap) {
     bool is_cut = cap < task->cap;
     task->cap = cap;
     for (size_t k = task->first; is_cut && task->is_under && k < task->first + task->limit; k++)
-        if (is_uncalled(&s->thread[k])) s->thread[k].seat.target = 0;
+        if (is_uncalled(&s->thread[k])) s->thread[k].seat.under.target = 0;
 }
 
 /* Whoever stands where he has no core stays there only under a latency-critical thread, or while
  * nobody has the core. */
 static bool may_stay(const scheduler *s, const host_thread *thread) {
-    unsigned core = thread->seat.stands - 1, has = s->on_core[core];
+    unsigned core = thread->seat.under.stands - 1, has = s->on_core[core];
     const host_task *task = &s->task[thread->task];
     if (s->is_banned[core]) return false;
     return has ? s->task[s->thread[has - 1].task].is_critical : task->cap >= task->limit;
@@ -218,30 +218,31 @@ static bool may_stay(const scheduler *s, const host_thread *thread) {
 
 bool is_clear(const scheduler *s, unsigned core, size_t of) {
     for (size_t k = 0; k < s->machine.threads; k++)
-        if (k != of && s->thread[k].seat.stands == core + 1) return false;
+        if (k != of && s->thread[k].seat.under.stands == core + 1) return false;
     return true;
 }
 
 static void take_off(scheduler *s, size_t k) {
     host_seat *seat = &s->thread[k].seat;
-    unsigned core = seat->stands - 1, has = s->on_core[core];
+    unsigned core = seat->under.stands - 1, has = s->on_core[core];
     bool is_covered = has && has - 1 != k && s->task[s->thread[has - 1].task].is_critical;
-    seat->is_told = true;
-    seat->ordered++;
+    seat->under.is_revoked = true;
+    seat->under.seqno++;
     s->counts.taken_off += is_uncalled(&s->thread[k]);
-    plan_park(s, k, core, is_covered ? seat->target : 0);
+    plan_park(s, k, core, is_covered ? seat->under.target : 0);
 }
 
 static void settle(scheduler *s, size_t k) {
     host_seat *seat = &s->thread[k].seat;
-    bool is_there = is_uncalled(&s->thread[k]) && seat->target == seat->stands;
-    if (is_there && !may_stay(s, &s->thread[k])) seat->target = 0;
-    if (seat->stands && seat->target != seat->stands && !seat->is_told) return take_off(s, k);
-    if (seat->stands || seat->target == 0 || is_under_way(seat)) return;
-    if (!is_clear(s, seat->target - 1, k)) return;
-    seat->stands = seat->target;
-    seat->ordered++;
-    plan_run(s, k, seat->target - 1);
+    host_under *under = &seat->under;
+    bool is_there = is_uncalled(&s->thread[k]) && under->target == under->stands;
+    if (is_there && !may_stay(s, &s->thread[k])) under->target = 0;
+    if (under->stands && under->target != under->stands && !under->is_revoked) return take_off(s, k);
+    if (under->stands || under->target == 0 || is_under_way(seat)) return;
+    if (!is_clear(s, under->target - 1, k)) return;
+    under->stands = under->target;
+    under->seqno++;
+    plan_run(s, k, under->target - 1);
 }
 
 static void settle_deferred(scheduler *s, size_t k) {
@@ -257,8 +258,8 @@ static void settle_deferred(scheduler *s, size_t k) {
 static bool has_company(const scheduler *s, unsigned core) {
     for (size_t k = 0; k < s->machine.threads; k++) {
         const host_seat *seat = &s->thread[k].seat;
-        bool is_there = stands_under(s, k) && seat->stands == core + 1;
-        if (is_there && !seat->is_told && seat->page.running) return true;
+        bool is_there = stands_under(s, k) && seat->under.stands == core + 1;
+        if (is_there && !seat->under.is_revoked && seat->under.page.running) return true;
     }
     return false;
 }

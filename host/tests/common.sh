@@ -1,6 +1,6 @@
 # common.sh: what the tests of host/check share: schedulers and processes of a run, and what is asked of them.
 
-child=none deaf=none daemon=none runtime=none visitor=none closer=none # processes that a test could not start are none
+spinners=() child=none deaf=none daemon=none runtime=none visitor=none closer=none # processes that a test could not start are none
 life=600 # the seconds of a process that lives until its test ends it, however slow the machine is
 
 # refuses WORDS COMMAND..: it prints one line with WORDS, ends with status 2, and leaves nothing; with judge=timed that needs
@@ -73,13 +73,13 @@ all_end() { # the processes of the test end by themselves
     wait
 }
 is_gone() { ! kill -0 "$1" 2> /dev/null; }
-stop() { # the scheduler ends when it is told to, and nothing of it is left; so do the processes that are named
+stop() { # the scheduler ends when it is told to, with status 0 or $ends_with, and nothing of it is left; so do the processes that are named
     local judge=note status
     kill -TERM $scheduler
     wait $scheduler
     status=$?
     case $status in 124 | 137) judge=timed ;; esac # timeout has ended it
-    $judge $status "$what: the scheduler's status is $status; $(tail -n 5 "$build/said")"
+    [ $status = "${ends_with-0}" ]; $judge $? "$what: the scheduler's status is $status; $(tail -n 5 "$build/said")"
     [ $# = 0 ] || kill -TERM "$@" 2> /dev/null
     all_end
     [ ! -e "$CALADAN_FOLDER/$name" ]; $judge $? "$what: the scheduler's folder is still there"
@@ -97,6 +97,16 @@ are_legal() { # each piece of the record is whole and legal
     done
 }
 end() { stop "$@"; are_legal; }
+
+# spin_on PROCESSOR NUMBER: so many loops that never end on it, until unspin.
+spin_on() {
+    local i
+    for ((i = 0; i < $2; i++)); do
+        taskset -c "$1" sh -c 'while :; do :; done' &
+        spinners+=($!)
+    done
+}
+unspin() { kill -9 "${spinners[@]}"; wait "${spinners[@]}"; spinners=(); } 2> /dev/null
 
 counter() { od -A n -v -t u8 "$counter" 2> /dev/null | awk '{ for (i = 1; i <= NF; i++) sum += $i } END { print sum + 0 }'; }
 counts_on() { local before=${1:-$(counter)}; [ "$(counter)" -gt "$before" ]; }

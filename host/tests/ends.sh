@@ -63,6 +63,53 @@ unkillable() { # nobody can be killed: a piece ends without who does not leave, 
     end $deaf $last
 }
 
+# What others take of the scheduler's processor does not lengthen its patience, nor its end: five times the patience by the
+# wall clock, and some seconds in which the scheduler has its turns and the test looks.
+crowded_scheduler() {
+    local from
+    what="a deaf process beside sixteen loops on the scheduler's processor"
+    { [ "$count" -ge 3 ] && command -v taskset > /dev/null; } || { skip "$what, for want of three processors, or of taskset"; return; }
+    start -k 500 -g 0
+    go $life "$bin/misbehave" "$name" 1 $life deaf
+    wait_for 20 only_child_of $last && deaf=$child
+    wait_for 20 counts 'actions_total{kind="grant"}' 2; timed $? "$what: it was granted no cores"
+    spin_on "${own[1]}" 16
+    go $life "$bin/load" lc -n "$name" -u 0 -k 200 -q 2000 -s $life
+    wait_for 60 counts 'actions_total{kind="revoke"}' 1; timed $? "$what: nothing was revoked"
+    wait_at_most 4 is_gone "$deaf"; timed $? "$what: it is not killed in four and a half seconds"
+    says "is killed: thread [0-9]+ did not leave core [01] in [0-9]+ ms, and ran for [0-9]+ ms of them"
+    go $life "$bin/misbehave" "$name" 1 $life deaf
+    wait_for 60 counts attached_total 3; timed $? "$what: the next one does not attach"
+    only_child_of $scheduler && daemon=$child
+    from=$SECONDS
+    kill -TERM "$daemon"
+    wait_at_most 9 is_gone "$daemon"; timed $? "$what: the scheduler has not ended after $((SECONDS - from)) s"
+    unspin
+    kill -9 "$deaf"
+    stop
+    above 1 killed
+} 2> /dev/null
+
+dumped() { # who dumps core is not killed for it, and its cores are free meanwhile
+    local folder=$build/dump size dumper
+    what="a process that dumps core"
+    mkdir -p "$folder"
+    { [ "$(cat /proc/sys/kernel/core_pattern)" = core ] && (ulimit -c unlimited); } 2> /dev/null || { skip "$what, since core files are elsewhere, or may not be long"; return; }
+    start -k 100 -g 20000
+    (cd "$folder" && ulimit -c unlimited && exec timeout -k 100 $life "$build/plain/misbehave" "$name" 1 $life dumps) > "$build/process.dump" 2>&1 &
+    dumper=$!
+    wait_for 60 counts attached_total 1; timed $? "$what: it does not attach: $(cat "$build/process.dump")"
+    go $life "$bin/load" lc -n "$name" -u 0 -k 200 -q 2000 -s $life
+    wait $dumper
+    size=$(cat "$folder"/core* | wc -c)
+    rm -rf "$folder"
+    [ "$size" -gt 530000000 ]; timed $? "$what: of its core file there are $size bytes"
+    says "process [0-9]+ of task 1 dumps core: its cores are free at once"
+    stop $last
+    exactly 0 killed
+    above 1 "dumped core"
+} 2> /dev/null
+
 told_beside_deaf() { # told_beside_deaf MILLISECONDS: $daemon is told to end, beside one that does not leave in its patience
     start -k "$1" -g 50000
     only_child_of $scheduler && daemon=$child
@@ -173,6 +220,50 @@ orphans() {
     above 1 revoke
     exactly 0 killed
 }
+
+# silent_scheduler [OPTION..]: one that is stopped shows nothing: threads go on without it, or wait, and come back to it
+silent_scheduler() {
+    local daemon after
+    for after in run wait; do
+        what="a runtime whose scheduler is stopped, and which is to $after"
+        rm -f "$counter"
+        begin -k 2000 -g 20000 "$@"
+        go $life "$bin/load" be -n "$name" -u 1 -k 200 -s $life -c "$counter" -e $after -l 200
+        wait_for 20 child_of $last && runtime=$child
+        wait_for 20 counts_on 0; timed $? "$what: it never worked"
+        wait_for 20 has_pinned "$runtime" 2; timed $? "$what: it has no two cores"
+        only_child_of $scheduler && daemon=$child
+        kill -STOP "$daemon"
+        wait_for 5 is_unpinned "$runtime"; timed $? "$what: it stays on its cores"
+        if [ $after = run ]; then wait_for 5 counts_on; else wait_for 5 is_asleep "$runtime"; fi
+        timed $? "$what: it does something else"
+        kill -CONT "$daemon"
+        wait_for 5 has_pinned "$runtime" 2; timed $? "$what: it does not come back"
+        wait_for 5 counts_on; timed $? "$what: it does not work"
+        serves 1
+        end $last
+        exactly 0 killed
+        above 1 grant
+    done
+}
+
+is_at() { [ "$(sed -n 's/^Cpus_allowed_list:[[:space:]]*//p' "/proc/$1/status")" = "$2" ]; } # is_at PID PROCESSORS
+moved() { # who moves the scheduler, or one of its clerks, does not keep it there
+    local each before
+    what="a scheduler that is moved to a processor that it manages"
+    { [ "$count" -ge 3 ] && command -v taskset > /dev/null; } || { skip "$what, for want of three processors, or of taskset"; return; }
+    start -k 1000 -g 100000
+    only_child_of $scheduler && daemon=$child
+    wait_for 20 counts passes_total 1; timed $? "$what: it does not count"
+    for each in "/proc/$daemon/task/"*; do taskset -pc "${managed#*,}" "${each##*/}" > /dev/null 2>&1; done
+    wait_for 5 is_at "$daemon" "${own[1]}"; timed $? "$what: it is left there"
+    says "the scheduler was moved to processor ${managed#*,}, and went back"
+    wait_for 5 are_elsewhere "$daemon"; timed $? "$what: a clerk is left there: $(grep Cpus_allowed_list "/proc/$daemon/task/"*/status)"
+    works
+    stop
+    above 2 "moved itself back"
+}
+are_elsewhere() { ! grep -qE "^Cpus_allowed_list:[[:space:]]*${managed#*,}\$" "/proc/$1/task/"*/status; }
 
 processors() { # without -o the scheduler stays off what it manages
     local each theirs

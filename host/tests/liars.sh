@@ -117,6 +117,20 @@ silent_guests() { # who says nothing keeps nobody waiting, however often it come
     exactly 0 killed
 }
 
+storm() { # who attaches and leaves without a pause is let in a hundred times a second at most
+    local from seconds
+    what="a process that attaches and leaves again and again"
+    start -k 2000 -g 20000
+    from=$(cut -d' ' -f1 /proc/uptime)
+    go $life "$bin/misbehave" "$name" 1 3 storms
+    wait $last; timed $? "$what: it failed: $(cat "$build/process.$processes")"
+    works
+    seconds=$(awk -v from="$from" '{ printf "%d", $1 - from + 1 }' /proc/uptime)
+    stop
+    above 3 attached
+    [ "$(said attached)" -le $((100 * seconds + 2)) ]; note $? "$what: it attached $(said attached) times in less than $seconds s"
+}
+
 punched() { # memory that is taken out of a segment would be fetched again by each pass: the kernel refuses it
     what="a process that would punch its segment away"
     begin -k 2000 -g 20000

@@ -67,6 +67,38 @@ has_child() { # a child of a process hands in a request: it is refused, and harm
     end
 }
 
+is_off_cores() { # is_off_cores NUMBER: a thread is there, and is not pinned to a managed processor
+    local cpus
+    cpus=$(sed -n 's/^Cpus_allowed_list:[[:space:]]*//p' "/proc/$1/status" 2> /dev/null)
+    [ -n "$cpus" ] && [[ ! ,$managed, == *",$cpus,"* ]]
+}
+# starts HOW..: what a thread with a core starts is not left on the core's processor: the runtime starts it elsewhere, or it
+# is put back.
+starts() {
+    local how number
+    for how; do
+        what="what is started on a core by $how"
+        start -k 2000 -g 100000
+        go $life "$bin/load" be -n "$name" -u 1 -k 200 -s $life -p $how
+        wait_for 30 grep -q "load: started" "$build/process.$processes"; timed $? "$what: nothing was started: $(cat "$build/process.$processes")"
+        number=$(sed -n 's/^load: started //p' "$build/process.$processes")
+        [ $how = exec ] && wait_for 20 grep -qx sleep "/proc/$number/comm"
+        case $how in vfork) ;; fork | rt_*) is_off_cores "$number"; timed $? "$what: it has the core's processor" ;; *)
+            wait_for 4 is_off_cores "$number"; timed $? "$what: it is left on the core's processor"
+            says "had a managed processor and no core were put elsewhere, the last one $number" ;;
+        esac
+        [ $how = thread ] || [ $how = rt_thread ] || kill -9 "$number" 2> /dev/null
+        stop $last
+        case $how in fork | rt_* | vfork) exactly 0 "put back" ;; *) above 1 "put back" ;; esac
+        exactly 0 killed
+    done
+}
+started() { # the sanitizers have a vfork and an exec of their own
+    starts rt_thread rt_spawn
+    local bin=$build/plain
+    starts thread fork spawn exec vfork
+}
+
 notices_closing() { # see host/tests/watch_test.c
     what="a runtime that has no connection any more"
     timeout 600 "$bin/watch_test" > "$build/process.watch" 2>&1; note $? "$what: $(cat "$build/process.watch")"

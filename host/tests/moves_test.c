@@ -1,9 +1,11 @@
 /* moves_test.c: in which order threads are moved, by calls of the test's own: what they find in
  * their rings comes first, then latency-critical ones are woken, then others are interrupted, then
  * the rest is woken; nobody is woken who does not sleep; a Run is not there before its thread is
- * pinned; and who cannot be pinned, or twice only slowly, is granted nothing for a while. */
+ * pinned; and who cannot be pinned, or twice only slowly, is granted nothing for a while. A mover that makes no moves
+ * is put elsewhere, and waited for no longer than some seconds. */
 #define _GNU_SOURCE
 #include <errno.h>
+#include <setjmp.h>
 #include <stdarg.h>
 #include <stdbool.h>
 #include <stdio.h>
@@ -14,6 +16,7 @@
 #include <unistd.h>
 
 static unsigned long long nanoseconds = 10000000000;
+static unsigned long long each_call; /* that many pass at each look at the clock */
 static long voluntary;
 static char said[256]; /* what was called, in order */
 static bool refuses, waits_for_it;
@@ -23,6 +26,7 @@ static unsigned long long sent(int k);
 
 static int fake_clock(clockid_t clock, struct timespec *t) {
     (void)clock;
+    nanoseconds += each_call;
     *t = (struct timespec){(time_t)(nanoseconds / 1000000000), (long)(nanoseconds % 1000000000)};
     return 0;
 }
@@ -77,8 +81,18 @@ bool stands_under(const scheduler *it, size_t k) { return it->task[it->thread[k]
 void complain(const char *format, ...) { (void)format; }
 bool start_clerk(clerk_work *work, void *with, const cpu_set_t *where) {
     (void)work, (void)with, (void)where;
-    return false;
+    return true; /* but it never runs */
 }
+static unsigned stops;
+unsigned stop_signals(void) { return stops; }
+static unsigned long long placed_at;
+bool place_clerk(clerk_work *work, const cpu_set_t *where) {
+    (void)work;
+    if (CPU_ISSET(3, where)) placed_at = nanoseconds;
+    return true;
+}
+static jmp_buf given_up;
+void fail(const char *what, const char *why) { (void)what, (void)why, longjmp(given_up, 1); }
 
 static int failed;
 static void check(bool is, const char *why) {
@@ -91,13 +105,14 @@ static void begin(void) {
     memset(&segment, 0, sizeof segment);
     s = (scheduler){.machine = {.cores = 4, .tasks = 2, .threads = 4}, .options = {.mover = -1}};
     s.task[0].is_critical = true;
+    s.task[0].segment = s.task[1].segment = &segment;
     for (int k = 0; k < 4; k++) {
         host_thread *thread = &s.thread[k];
         *thread = (host_thread){.task = k / 2, .core = (unsigned)k + 1};
         thread->seat.slot = &segment.slot[k];
-        thread->seat.sender.ring = &segment.slot[k].ring;
-        thread->seat.pinned = k == 1 ? 0 : 100 + k;
-        thread->seat.pinned_to = (unsigned)k;
+        thread->seat.pin.sender.ring = &segment.slot[k].ring;
+        thread->seat.pin.tid = k == 1 ? 0 : 100 + k;
+        thread->seat.pin.core = (unsigned)k;
         atomic_store(&segment.slot[k].tid, 100 + k);
         atomic_store(&segment.slot[k].asleep, k != 2);
     }
@@ -147,7 +162,7 @@ static void pin_slowly(int times, bool waits, unsigned long long ns) {
     takes = ns;
     for (int i = 0; i < times; i++) {
         waits_for_it = waits;
-        s.thread[1].seat.pinned = 0;
+        s.thread[1].seat.pin.tid = 0;
         plan_run(&s, 1, 1);
         carry_out(&s);
     }
@@ -167,10 +182,34 @@ static void check_slow(void) {
     check(s.counts.slow_pins == 0, "one for which nobody waited");
 }
 
+/* How long a move is waited for that a mover never makes; when it was put elsewhere is in placed_at. */
+static unsigned long long wait_for_mover(unsigned stop) {
+    begin();
+    s.options.mover = 1;
+    CPU_SET(3, &s.others);
+    check(begin_moves(&s), "no mover");
+    plan_run(&s, 0, 0);
+    carry_out(&s);
+    stops = stop, placed_at = 0, each_call = 100000;
+    volatile unsigned long long from = nanoseconds;
+    if (setjmp(given_up) == 0) wait_for_moves(&s);
+    placed_at -= from;
+    return nanoseconds - from;
+}
+
+static void check_mover(void) {
+    unsigned long long took = wait_for_mover(0);
+    check(took >= 20000000000 && took < 20100000000, "a mover that makes no moves is waited for too long, or not");
+    check(placed_at >= 1000000000 && placed_at < 1100000000, "it is not put elsewhere after a second");
+    took = wait_for_mover(2);
+    check(took < 2100000000, "told twice to end, the scheduler waits for it");
+}
+
 int main(void) {
     check_order();
     check_awake();
     check_refused();
     check_slow();
+    check_mover();
     return failed;
 }

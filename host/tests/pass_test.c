@@ -47,7 +47,7 @@ void plan_park(scheduler *it, size_t k, unsigned from, unsigned to) { (void)it, 
 void plan_nothing(scheduler *it, size_t k) { (void)it, (void)k; }
 void carry_out(scheduler *it) { (void)it; }
 void wait_for_moves(scheduler *it) { (void)it; }
-void tick(scheduler *it, uint64_t now) { (void)it, (void)now; }
+void account_time(scheduler *it, uint64_t now) { (void)it, (void)now; }
 void fail(const char *what, const char *why) { printf("%s: %s\n", what, why), exit(2); }
 void latency_decided(latency *l, uint64_t now, const latency_thread *threads, size_t count,
                      const caladan_action *actions, size_t made) {
@@ -100,11 +100,11 @@ static void check_others(void) {
     s.thread[0].seat.retry_at = now_of(&s) + 1000000;
     check(!may_be_sent_after(900000), "one that could not be pinned is granted a core before it is time");
     check(may_be_sent_after(200000), "one that could not be pinned is granted nothing for ever");
-    s.thread[0].seat.is_doubted = true;
+    s.thread[0].seat.is_refused = true;
     check(may_be_sent_after(1000) == false, "one whose look was refused is granted a core");
     check(may_be_sent_after(1000), "one whose look was kept is granted nothing");
     s.thread[0].core = 1;
-    s.thread[0].seat.is_doubted = true;
+    s.thread[0].seat.is_refused = true;
     check(may_be_sent_after(1000), "one whose look was refused cannot be told to leave its core");
     atomic_store(&segment.slot[0].tid, 0);
     s.thread[0].core = 0;

@@ -16,7 +16,8 @@ kept_apart() { # a link that was laid before, and the record of an earlier run, 
     are_legal
 }
 
-full_disk() { # it ends the record, and not the run
+full_disk() { # it ends the record, and not the run, whose status says so
+    local ends_with=3
     what="a record that cannot be written any more"
     rm -rf "$build/record"
     mkdir "$build/record"
@@ -34,6 +35,67 @@ start_limited() {
     running+=($scheduler)
     wait_for 20 has_begun
 }
+
+on_disk() { # a file is called whole only when it is on the disk with all that it has
+    local bin=$build/plain # whose memory is not looked through at the end, which needs what strace has
+    what="the disk of a whole piece"
+    command -v strace > /dev/null || { skip "$what, for want of strace"; return; }
+    wrap=(strace -f -qq -y -o "$build/calls" -e trace=fsync,rename,renameat,renameat2)
+    begin -k 1000 -g 100000 -p 1000
+    wrap=()
+    wait_for 60 has_pieces 2; timed $? "$what: there are no two pieces: $(cat "$build/said")"
+    kill -TERM "$(pgrep -P "$(pgrep -P $scheduler)")"
+    wait $scheduler; timed $? "$what: its status: $(tail -n 3 "$build/said")"
+    [ -s "$build/calls" ] || { skip "$what, for want of rights"; return; }
+    # of each piece: its file, its name, its folder
+    awk '/fsync.*piece-[0-9]+\.part>/ { file = 1; next }
+        /rename.*piece-/ { if (!file) bad = 1; file = 0; named = 1; next }
+        /fsync/ && named { named = 0; folders++ }
+        END { exit bad || named || folders < 2 }' "$build/calls"; note $? "$what: $(grep piece "$build/calls" | head -n 9)"
+    no_reports
+} 2> /dev/null
+
+removed_folder() { # nobody finds the scheduler any more: it says so
+    what="a scheduler whose folder is removed"
+    start -g 100000
+    wait_for 20 counts passes_total 1; timed $? "$what: it does not count"
+    mv "$CALADAN_FOLDER/$name" "$CALADAN_FOLDER/elsewhere"
+    says "its folder, or a socket there, was removed: nobody can attach any more"
+    mv "$CALADAN_FOLDER/elsewhere" "$CALADAN_FOLDER/$name"
+    works
+    stop
+    what="a scheduler whose socket is removed"
+    start -g 100000
+    wait_for 20 counts passes_total 1; timed $? "$what: it does not count"
+    rm "$CALADAN_FOLDER/$name/task-1"
+    says "its folder, or a socket there, was removed: nobody can attach any more"
+    stop
+}
+
+unread_summary() { # who does not read the summary keeps neither processors nor a name
+    local daemon
+    what="a scheduler whose summary nobody reads"
+    name=check$$-summary
+    rm -f "$build/unread"
+    mkfifo "$build/unread"
+    exec 8<> "$build/unread"
+    dd if=/dev/zero of="$build/unread" bs=4096 oflag=nonblock 2> /dev/null
+    timeout -k 100 $life "$bin/caladand" -n "$name" -t "$table" -c "$managed" "${own[@]}" -g 100000 >&8 2> "$build/said" &
+    scheduler=$!
+    running+=($scheduler)
+    wait_for 20 has_begun
+    only_child_of $scheduler && daemon=$child
+    kill -TERM "$daemon"
+    wait_for 10 is_not_there; timed $? "$what: its folder is still there"
+    kill -0 "$daemon" 2> /dev/null; timed $? "$what: it has ended, and nothing was shown"
+    start_as "$name" -g 100000
+    works
+    kill -9 "$daemon"
+    stop
+    exec 8<&-
+    rm "$build/unread"
+} 2> /dev/null
+is_not_there() { [ ! -e "$CALADAN_FOLDER/$name" ]; }
 
 set_back() { # the wall clock goes back by an hour, and the record is written on
     local bin=$build/plain # what is preloaded must not come before a sanitizer
@@ -96,6 +158,9 @@ installed() { # what is installed stands by itself
     [ -s "$build/prefix/share/man/man8/caladand.8" ]; note $? "$what: the manual page"
     ${CC:-cc} -pthread -I"$build/prefix/include" "$top/host/load.c" -L"$build/prefix/lib" -lcaladan_rt -lm -o "$build/prefix/load" 2> "$build/make.log"; note $? "$what: $(cat "$build/make.log")"
     refuses "there is no scheduler of that name" "$build/prefix/load" lc -n installed -u 0
+    command -v c++ > /dev/null || { skip "$what, from C++, for want of c++"; return; }
+    printf '#include <caladan_rt.h>\nint main() { return caladan_rt_why(1) == nullptr; }\n' > "$build/in_cpp.cpp"
+    c++ -Wall -Wextra -Wconversion -pedantic -Werror -pthread -I"$build/prefix/include" "$build/in_cpp.cpp" -L"$build/prefix/lib" -lcaladan_rt -o "$build/in_cpp" 2> "$build/make.log" && "$build/in_cpp"; note $? "$what, from C++: $(cat "$build/make.log")"
 }
 
 other_compiler() { # which refuses what is gcc's alone

@@ -103,6 +103,16 @@ out_of_files() { # a process ends when there is neither a file nor memory for a 
     above 2 attached
 } 2> /dev/null
 
+stops_and_starts() { # a runtime that is stopped leaves nothing, and another one may be started
+    what="a process that starts and stops its runtime, $main"
+    start -k 2000 -g 50000
+    timeout -k 5 300 "$bin/load" be -n "$name" -u 1 -k 200 -t > "$build/process.stops" 2>&1; timed $? "$what: $(cat "$build/process.stops")"
+    works
+    stop
+    exactly 6 attached
+    exactly 0 killed
+}
+
 blocked_signals() { # servers that take signals by a file block all of them before they start anything
     what="a runtime whose main thread has blocked all signals"
     start -k 1000 -g 50000

@@ -10,6 +10,7 @@ is_within() { awk -v most="$2" -v at="$(grep -oE '"max": [0-9]+' "$1" | grep -oE
 within() { is_within "$@"; timed $? "$what: a request waited for more than $2 ms: $(head -n 3 "$1")"; }
 
 slow_record() { # a disk that cannot follow ends the record, and no pass waits for it
+    local ends_with=3
     what="a record on a disk that takes one and a half seconds for each call"
     can_sleep "$build/record" 1500 || return
     begin -k 2000 -g 100000 -p 3000
@@ -30,7 +31,7 @@ slow_record() { # a disk that cannot follow ends the record, and no pass waits f
 } 2> /dev/null
 
 whole_pieces() { # what was whole when the disk could not follow is still written
-    local each last
+    local each last ends_with=3
     what="whole pieces of a record whose disk cannot follow"
     can_sleep "$build/record" 400 || return
     begin -k 2000 -g 20000 -p 100
@@ -46,7 +47,7 @@ whole_pieces() { # what was whole when the disk could not follow is still writte
 slow_but_follows() { # the next piece begins while the last one is written, and each is whole
     what="a record on a disk that takes a third of a second for each call"
     can_sleep "$build/record" 350 || return
-    begin -k 2000 -g 400000 -p 4500
+    begin -k 2000 -g 400000 -p 7500
     wrap=()
     go $life "$bin/load" be -n "$name" -u 1 -k 200 -s $life
     wait_for 60 has_pieces 2; timed $? "$what: there are no two pieces: $(cat "$build/said")"

@@ -86,7 +86,7 @@ stopped() { # one that is stopped leaves no core, and is killed for it; one that
     lc -s 1 > "$build/process.lc" 2>&1
     wait_for 20 is_gone "$child"; timed $? "$what: it was not killed"
     kill -9 "$child"
-    says "of task 1 is killed: thread [0-9]+ did not leave core [01] in [0-9]+ ms; it is stopped, by SIGSTOP or a debugger"
+    says "of task 1 is killed: thread [0-9]+ did not leave core [01] in [0-9]+ ms, and ran for [0-9]+ ms of them; it is stopped, by SIGSTOP or a debugger"
     stop
     what="a process that stands under, and is stopped"
     start -k 500 -g 20000 -u 1
@@ -113,7 +113,7 @@ frozen() { # nor does one in a frozen group, and it ends only when that is thawe
     echo FROZEN > "$group/freezer.state"
     go $life "$bin/load" lc -n "$name" -u 0 -k 200 -q 2000 -s $life
     wait_for 40 grep -q "of task 1 is written off" "$build/said"; timed $? "$what: it is not written off: $(cat "$build/said")"
-    says "of task 1 is killed: thread [0-9]+ did not leave core [01] in [0-9]+ ms; it is frozen, as docker pause does it"
+    says "of task 1 is killed: thread [0-9]+ did not leave core [01] in [0-9]+ ms, and ran for [0-9]+ ms of them; it is frozen, as docker pause does it"
     wait_for 10 counts 'actions_total{kind="grant"}' 3; timed $? "$what: the other one is granted nothing"
     kill -TERM $last
     echo THAWED > "$group/freezer.state"

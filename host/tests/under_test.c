@@ -51,7 +51,7 @@ static void begin(void) {
 
 /* The next record of the page of a thread that stands under. */
 static const caladan_look *look(size_t k, uint64_t taken, uint64_t running, uint64_t misses) {
-    caladan_look page = s.thread[k].seat.page;
+    caladan_look page = s.thread[k].seat.under.page;
     page.number++, page.taken = taken, page.running = running, page.misses = misses;
     page.started = running ? 777 : 0;
     under_look(&s, k, &page, now += 100);
@@ -122,7 +122,7 @@ static void check_empty(void) {
     s.is_banned[0] = true;
     expect("park2@0 ", "one stays on a banned core");
     expect("", "he is told again");
-    check(look(2, 2, 0, 60) && s.thread[2].seat.stands == 0, "he is not seen to have left");
+    check(look(2, 2, 0, 60) && s.thread[2].seat.under.stands == 0, "he is not seen to have left");
     begin_under();
     under_cap(&s, 1, 1);
     expect("park2@0 ", "one stays where his task's cap is cut");
@@ -150,7 +150,7 @@ static void check_others(void) {
     look(2, 2, 0, 60);
     check(is_clear(&s, 0, 4), "the other one waits when he has left");
     begin_under();
-    s.thread[3].seat.is_doubted = true; /* so that no other kernel thread of the task goes */
+    s.thread[3].seat.is_refused = true; /* so that no other kernel thread of the task goes */
     give(2, 1);
     expect("move2@1 ", "one that cannot answer is not moved");
 }
@@ -182,7 +182,7 @@ static void check_liars(void) {
         begin_under();
         caladan_look before = s.thread[2].shown;
         under_look(&s, 2, &lies[i], now += 100);
-        check(s.thread[2].seat.is_doubted, "a lie is believed");
+        check(s.thread[2].seat.is_refused, "a lie is believed");
         check(!memcmp(&before, &s.thread[2].shown, sizeof before), "a lie is shown");
     }
 }

@@ -4,6 +4,7 @@
 #define _GNU_SOURCE
 #include <errno.h>
 #include <poll.h>
+#include <signal.h>
 #include <stdio.h>
 #include <stdlib.h>
 #include <sys/socket.h>
@@ -13,8 +14,8 @@ static short shows;        /* what poll finds of the connection */
 static ssize_t reads;      /* what recv answers */
 static int polls, closed_at; /* the poll from which on it is so; before that it says nothing */
 
-static int fake_poll(struct pollfd *file, nfds_t count, int wait) {
-    (void)count, (void)wait;
+static int fake_poll(struct pollfd *file, nfds_t count, const struct timespec *wait, const sigset_t *mask) {
+    (void)count, (void)wait, (void)mask;
     if (++polls >= MOST_POLLS) printf("it does not notice it\n"), exit(1);
     file->revents = polls < closed_at ? POLLIN : shows;
     return 1;
@@ -25,7 +26,7 @@ static ssize_t fake_recv(int connection, void *to, size_t length, int how) {
     if (reads < 0) errno = EBADF;
     return reads;
 }
-#define poll fake_poll
+#define ppoll fake_poll
 #define recv fake_recv
 #include "../caladan_rt.c"
 

@@ -44,6 +44,19 @@ def test_the_head_names_what_is_offered(lab: Run, stub: Stub) -> None:
     assert lab(*words[:6], given=TABLE, view=stub(NUMBERS)).out.startswith("offered,p50,")
 
 
+def test_each_seed_has_its_row_where_that_is_asked_for(lab: Run, stub: Stub) -> None:
+    words = [*SWEEP, "--seeds", "2", "--seed", "7", "--csv", "--vary", "task.0.delay=10,20"]
+    told = lab(*words, "--by-seed", given=TABLE, view=stub(NUMBERS)).out.splitlines()
+    assert told[0].startswith("load,task.0.delay,seed,p50,p50 bound,")
+    rest = "11,,,22,,,33,,,44,,,5.555,,,41,3,2,0,40,1.234,0.000"
+    assert told[1:] == [f"0.500,{delay},{seed},{rest}" for delay in (10, 20) for seed in (7, 8)]
+    three = lab(*words, given=TABLE, view=stub(NUMBERS)).out.splitlines()
+    assert three[0].startswith("load,task.0.delay,of 2 seeds,p50,")
+    assert [it.split(",")[2] for it in three[1:]] == ["least", "median", "greatest"] * 2
+    alone = lab(*SWEEP, "--csv", "--by-seed", given=TABLE, view=stub(NUMBERS)).out.splitlines()
+    assert alone[0].startswith("load,seed,p50,") and alone[1:] == [f"0.500,1,{rest}"]
+
+
 def test_a_missed_objective(lab: Run, stub: Stub) -> None:
     told = lab(*SWEEP, "--slo", "task.0.p99=32", given=TABLE, view=stub(NUMBERS))
     assert told.status == 1

@@ -1,5 +1,5 @@
 """The scripts of examples/lab: what they print is what the program says where it is asked in another way, by its own
-words and without the package; of own_policy.py what was worked out by hand."""
+words and without the package. That of own_policy.py is in core/."""
 from __future__ import annotations
 
 import csv
@@ -10,7 +10,7 @@ import runpy
 import subprocess
 import sys
 from pathlib import Path
-from typing import Iterator
+from typing import Any, Iterator
 
 import pytest
 from conftest import TOP
@@ -136,10 +136,30 @@ def test_ten_draws(view: str) -> None:
     assert found == [[seed, one, other, other - one] for seed, one, other in zip(range(1, 11), short, long)]
 
 
-def test_own_policy() -> None:
-    core = pytest.importorskip("caladan.core")
-    try:
-        core.library_of()
-    except core.NoLibrary as fault:
-        pytest.skip(str(fault))
-    assert said("own_policy.py", "") == (SCRIPTS / "own_policy.txt").read_text()
+def test_load_step(view: str, monkeypatch: pytest.MonkeyPatch) -> None:
+    pytest.importorskip("pandas")
+    pytest.importorskip("matplotlib")
+    monkeypatch.setenv("CALADAN_VIEW", view)
+    monkeypatch.setattr(sys, "argv", ["load_step.py", "step.svg"])
+    made = runpy.run_path(str(SCRIPTS / "load_step.py"))
+    assert Path("step.svg").read_text().startswith("<?xml")
+    run, service, batch = made["run"], made["service"], made["batch"]
+    assert list(service["from [us]"]) == list(batch["from [us]"]) == [0, 500, 1000, 1500, 2000, 2500, 3000]
+    clocks = [int(it.split(b",")[1]) for it in run.input.splitlines() if it.startswith(b"turn,")]
+    rows = [it for it in csv.DictReader(asked(view, "requests", "--came", "came", given=came(run)).splitlines())
+            if it["task"] == "0"]
+    for place, first in enumerate(range(0, 3000, 500)):
+        own = [it for it in rows if first <= int(it["arrived [ticks]"]) < first + 500]
+        assert service["came"][place] == len(own) and service["p99 bound"].isna()[place]
+        part = [str(sum(clock < it for clock in clocks)) for it in (first, first + 500)]
+        told = measured(view, run.input, "--from", part[0], "--to", part[1])
+        assert service["p99 [us]"][place] == int(told["response 99 of 100"])
+    # Where ten times as many come, the service holds more cores, and the batch job fewer.
+    held, left = service["held [cores]"], batch["held [cores]"]
+    assert held[2:4].min() > 2 * held[0:2].max() and left[2:4].max() < left[0:2].min()
+
+
+def came(run: Any) -> bytes:
+    """The input of a run, of which the file `came` has when its requests came."""
+    Path("came").write_bytes(run.came)
+    return bytes(run.input)

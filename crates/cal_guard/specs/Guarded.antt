@@ -30,7 +30,7 @@ pub record IsWithin (guard : Guard) (s : Setting) (acts : List Action) : Type 0 
 abbrev pub and_then : List PassEntry → Input → List Action → List PassEntry
 and_then history input actions = history ++ record { input = input; actions = actions } ∷ []
 
--- it is so after each permitted history that leaves the state which the guard keeps
+-- it holds for every permitted history that leaves the state which the guard keeps
 abbrev pub AfterPermitted : Table → Guard → (List PassEntry → Type 0) → Type 0
 AfterPermitted table guard is = (h : List PassEntry) → IsPermittedHistory table h →
     IsStateAfter (board_in guard) h → is h

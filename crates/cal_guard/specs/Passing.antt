@@ -90,8 +90,8 @@ abbrev pub InsideOn : Table → Terms → Passing → (Setting → List Action �
 InsideOn table terms passing is = (h : Begun) (acts : List Action) →
     IsInside passing (setting_at table terms h) acts → is (setting_at table terms h) acts
 
--- it is so after each permitted history that leaves this board, of each input that the pass on these
--- terms and looks goes by
+-- it holds for every permitted history that leaves this board, and every input with these terms and
+-- looks
 abbrev pub GoingBy : Table → Terms → PassLooks → Board → (List PassEntry → Input → Type 0) → Type 0
 GoingBy table terms looks board is = (h : List PassEntry) (input : Input) →
     GoesBy table terms looks h input → IsPermittedHistory table h → IsStateAfter board h → is h input

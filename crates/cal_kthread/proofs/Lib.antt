@@ -1,3 +1,4 @@
+mod Common
 pub mod QueueMoves
 pub mod TurnLemmas
 pub mod JournalLemmas

@@ -1,13 +1,8 @@
 -- Each step on a queue keeps its rule.
-use Rattle.std.proofs.Common.{◌≡◌, ◌≢◌, ℕ, zero, suc, ◌+◌, ◌-◌, ◌<◌, List, [], ◌∷◌, ◌++◌, set, sym, refl, ap, ◌∙◌, subst, ⊎_elim, arith}
-use mathlib.Core.Option.{some, some-injective, some-ne-none}
-use lib.ListN.{get_elem?}
+use Rattle.cal_kthread.proofs.Common.{◌≡◌, ◌≢◌, ℕ, zero, suc, ◌+◌, ◌-◌, ◌<◌, List, [], ◌∷◌, ◌++◌, set, sym, refl, ap, ◌∙◌, subst, ⊎_elim, arith, some, some-injective, some-ne-none, get_elem?, at_set, at_snoc, Waiting, weigh, knows, pushed_weight, taken_weight, IdleIsEmpty, Balanced, AllTaken, TookWhatCame}
 use Rattle.crossbeam_deque.specs.Tasks.{Pushes, Takes, Finds, Forks, Merges}
-use Rattle.crossbeam_deque.proofs.Lists.{at_set, at_snoc}
 use Rattle.cal_kthread.proofs.ListSums.{weigh-append, weigh-set, weigh-one-more, member}
 use Rattle.cal_kthread.specs.declared.queue.knowledge.Knowledge.{Knowledge}
-use Rattle.cal_kthread.specs.declared.queue.waiting.Waiting.{Waiting}
-use Rattle.cal_kthread.specs.Queue.Rule.{weigh, knows, pushed_weight, taken_weight, IdleIsEmpty, Balanced, AllTaken, TookWhatCame}
 
 module _ {V : Type 0} where
   abbrev Empty : (V → ℕ) → (V → ℕ) → List V → Type 0

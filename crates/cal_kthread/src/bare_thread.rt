@@ -112,7 +112,7 @@ impl BareThread {
         self.shown()
     }
 
-    /// The last record, of which nothing more is said.
+    /// The last record. `last_record` also says that it is shaped.
     fn shown(&self) -> Record
         ensures { result ≡ last_published self.now.thread.publisher.published }
     {

@@ -2,7 +2,6 @@
 //! does nothing.
 
 ghost use Rattle.cal_kthread.specs.End.Account.{StaysSettled, DrainedIsAccounted};
-ghost use Rattle.cal_kthread.specs.Journal.Entries.{EachMayCome, FrontIsJournal, JournalByEntries};
 ghost use Rattle.cal_kthread.specs.Journal.Entries.{OthersChangeNothing, RecordShowsTaken};
 ghost use Rattle.cal_kthread.specs.End.OnePlace.{NeverIsNowhere, OnceIsInOnePlace};
 ghost use Rattle.cal_kthread.specs.Team.Turns.{TurnKeepsPlace, SamePlaceKeepsTeam};
@@ -65,23 +64,6 @@ pub fn once_is_in_one_place()
 /// Where the account holds, an id that did not arrive is nowhere.
 pub fn never_is_nowhere()
     ensures { NeverIsNowhere }
-{}
-
-/// A list that ends with an entry is a journal exactly where what is before the entry is one, after
-/// which the entry may come.
-pub fn journals_by_entries()
-    ensures { JournalByEntries }
-{}
-
-/// The front of a journal is a journal.
-pub fn front_is_journal()
-    ensures { FrontIsJournal }
-{}
-
-/// Each entry of a journal may come after those before it; so each publication may follow the one
-/// before it.
-pub fn each_may_come()
-    ensures { EachMayCome }
 {}
 
 /// The record at place n of a journal's page shows as `taken` how many commands were taken up to

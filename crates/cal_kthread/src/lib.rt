@@ -1,4 +1,5 @@
-//! Kernel threads that serve requests, steal them from one another, and publish what they do.
+//! Kernel threads that serve requests, steal them from one another, and publish what they do: of each
+//! id as many requests arrived as were served or are left at the end.
 //!
 //! A kernel thread has one end of a page, on which it publishes, the taking end of a ring, from
 //! which it takes the scheduler's commands, a queue of its own, and a thief's end of the queue of

@@ -1,3 +1,4 @@
+mod Common
 pub mod PointLemmas
 pub mod ListLemmas
 pub mod CapLemmas

@@ -1,17 +1,7 @@
 -- Delays by the queues alone.
-use Rattle.std.proofs.Common.{◌≡◌, ℕ, zero, suc, ltb, max, List, [], ◌∷◌, ◌++◌, Option, Some, None, refl, ap, ◌∙◌, arith}
-use Rattle.std.specs.Option.{option_or, unwrap_or}
+use Rattle.cal_laws.proofs.Common.{◌≡◌, ℕ, zero, suc, ltb, max, List, [], ◌∷◌, ◌++◌, Option, Some, None, refl, ap, ◌∙◌, arith, option_or, unwrap_or, Record, thread_of, limit_of, Seen, greatest_below, last_after, looks_of, to_keep_at, kept_by, Setting, kept_now, waited, record_delay, thread_delay}
 use Rattle.std.proofs.Math.Nat.{max-zero}
-use Rattle.cal_signal.specs.declared.record.Record.{Record}
-use Rattle.cal_machine.specs.TableTasks.{thread_of, limit_of}
-use Rattle.cal_policy.specs.declared.history.look.Seen.{Seen}
-use Rattle.cal_policy.specs.Pass.Choice.{greatest_below}
-use Rattle.cal_policy.specs.History.Lists.{last_after}
-use Rattle.cal_policy.specs.History.{looks_of}
 use Rattle.cal_signal.specs.Records.{zero_record}
-use Rattle.cal_policy.specs.History.Looks.{to_keep_at, kept_by}
-use Rattle.cal_policy.specs.Setting.{Setting, kept_now}
-use Rattle.cal_policy.specs.Pass.Grants.{waited, record_delay, thread_delay}
 use Rattle.cal_laws.specs.OldDelay.{HasNoneSuspended, queue_delay, ShowNoneSuspended, AreOfQueues}
 
 pub of_queue : (now : ℕ) (rec : Record) → HasNoneSuspended rec → record_delay now rec ≡ queue_delay now rec

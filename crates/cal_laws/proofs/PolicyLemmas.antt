@@ -1,10 +1,9 @@
 -- Points in the passes of each policy.
-use Rattle.std.proofs.Common.{◌≡◌, ◌≤◌, length, Some, slice_get}
-use Rattle.cal_machine.specs.Table.{IsTable}
+use Rattle.cal_laws.proofs.Common.{◌≡◌, ◌≤◌, length, Some, IsTable, Point}
+use Rattle.std.proofs.Common.{slice_get}
 use Rattle.cal_policy.specs.declared.policy.Policy.{Policy}
 use Rattle.cal_policy.specs.declared.policy.Policy.TheVariants.{Caladan, Assured}
 use Rattle.cal_policy.specs.Policies.{IsLegalBy}
-use Rattle.cal_laws.specs.Point.{Point}
 use Rattle.cal_laws.specs.Policies.{IsPointBy}
 
 -- a point in a pass of a history of the policy

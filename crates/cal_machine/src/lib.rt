@@ -1,4 +1,5 @@
-//! The machine and its tasks.
+//! The machine and its tasks: a task table is read exactly as its text says, or refused by its first
+//! fault.
 //!
 //! A `Machine` is a number of cores, two and two siblings; a `CoreSet` is a set of cores; a
 //! `Config` is the accepted task table, which says for each task what it may have and numbers the

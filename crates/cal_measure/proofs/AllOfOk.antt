@@ -1,6 +1,5 @@
 -- What is promised of a value in several clauses.
-use Rattle.std.proofs.Common.{Result, Ok, Err}
-use Rattle.std.specs.Prelude.{IfOk}
+use Rattle.cal_measure.proofs.Common.{Result, Ok, Err, IfOk}
 
 pub all_of_ok : {T E : Type 0} (r : Result T E) (P Q R All : T → Type 0) → ((value : T) → P value → Q value → R value → All value) →
     IfOk r P → IfOk r Q → IfOk r R → IfOk r All

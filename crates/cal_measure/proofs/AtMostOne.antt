@@ -1,7 +1,5 @@
 -- Where each gives one thing at most, all give no more things than they are.
-use Rattle.std.proofs.Common.{◌≤◌, ℕ, zero, suc, List, [], ◌∷◌, ◌++◌, length, arith, length-append}
-use Rattle.cal_policy.specs.History.Lists.{each_after, each_of}
-use Rattle.cal_measure.specs.Joined.{joined_below}
+use Rattle.cal_measure.proofs.Common.{◌≤◌, ℕ, zero, suc, List, [], ◌∷◌, ◌++◌, length, arith, length-append, each_after, each_of, joined_below}
 
 each_after_few : {X Y : Type 0} (f : List X → X → List Y) → ((before : List X) (x : X) → length (f before x) ≤ 1) → (before xs : List X) →
     length (each_after f before xs) ≤ length xs

@@ -1,11 +1,6 @@
 -- Counts of actions, one action more.
-use Rattle.std.proofs.Common.{◌≡◌, ◌≤◌, ◌<◌, ◌+◌, ◌^◌, ◌∙◌, ℕ, Bool, true, false, cond, List, [], ◌∷◌, ◌++◌, length, length-append, take, ap, refl, sym, arith}
+use Rattle.cal_measure.proofs.Common.{◌≡◌, ◌≤◌, ◌<◌, ◌+◌, ◌^◌, ◌∙◌, ℕ, Bool, true, false, cond, List, [], ◌∷◌, ◌++◌, length, length-append, take, ap, refl, sym, arith, each_after, each_of, Action, each_of_push, if_such, many_of, one_at_most}
 use Rattle.std.proofs.lemmas.Grind.{common_steps}
-use Rattle.cal_policy.specs.History.Lists.{each_after, each_of}
-use Rattle.cal_policy.specs.declared.history.action.Action.{Action}
-use Rattle.cal_policy.proofs.ListLemmas.OneMore.{each_of_push}
-use Rattle.cal_measure.specs.Actions.{if_such, many_of}
-use Rattle.cal_policy.proofs.ListLemmas.OneNumberMore.{one_at_most}
 
 length_if : (b : Bool) (action : Action) → length (cond b (action ∷ []) []) ≡ cond b 1 0
 length_if true action = refl

@@ -1,12 +1,7 @@
 -- What stands at each task's place, while one place after the other is brought up.
-use Rattle.std.proofs.Common.{◌++◌, ◌∷◌, [], ◌≡◌, ◌≢◌, ◌∙◌, ◌+◌, ◌<◌, ◌≤◌, ℕ, List, Some, length, get_or, set, ap, subst, sym, arith, ⊎_elim}
+use Rattle.cal_measure.proofs.Common.{◌++◌, ◌∷◌, [], ◌≡◌, ◌≢◌, ◌∙◌, ◌+◌, ◌<◌, ◌≤◌, ℕ, List, Some, length, get_or, set, ap, subst, sym, arith, ⊎_elim, cases_eq, get_or-set_same, get_or-set_other, slice_get-get_or, slice_get_within, get_or_from_slice_get, last_or_before, EachTask}
 use Rattle.std.specs.List.{slice_get}
 use Rattle.std.proofs.Math.ListN.{length-set}
-use Rattle.std.proofs.lemmas.Bool.{cases_eq}
-use Rattle.std.proofs.lemmas.List.{get_or-set_same, get_or-set_other}
-use Rattle.std.proofs.lemmas.Option.{slice_get-get_or, slice_get_within, get_or_from_slice_get}
-use Rattle.cal_machine.proofs.Last.{last_or_before}
-use Rattle.cal_measure.specs.Walk.{EachTask}
 
 -- the first i places have what is new, the others what was
 pub record AreUpTo {X : Type 0} (Old New : ℕ → X → Type 0) (i : ℕ) (rows : List X) : Type 0 where

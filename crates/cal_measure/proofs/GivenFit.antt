@@ -1,8 +1,5 @@
 -- Requests that fit a table come to its threads.
-use Rattle.std.proofs.Common.{◌<◌, ℕ, length, get_or}
-use Rattle.std.proofs.lemmas.Option.{slice_get-get_or}
-use Rattle.cal_machine.specs.Table.{Table}
-use Rattle.cal_machine.specs.TableTasks.{threads_of_table}
+use Rattle.cal_measure.proofs.Common.{◌<◌, ℕ, length, get_or, slice_get-get_or, Table, threads_of_table}
 use Rattle.cal_trace.specs.Arrivals.FitsTable.{FitsTable}
 use Rattle.cal_trace.specs.declared.arrivals.Arrival.{Arrival}
 use Rattle.cal_trace.specs.declared.arrivals.Arrivals.{Arrivals}

@@ -1,3 +1,4 @@
+mod Common
 pub mod Serving
 pub mod Steps
 pub mod Counting

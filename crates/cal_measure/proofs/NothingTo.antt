@@ -1,15 +1,8 @@
 -- Actions that count for one task at most.
-use Rattle.std.proofs.Common.{◌≡◌, ◌≢◌, ◌++◌, ◌==◌, ℕ, Bool, false, cond, List, [], ◌∷◌, ap, refl, sym, arith}
-use Rattle.std.proofs.lemmas.Bool.{and_left, ne_eqb}
-use Rattle.cal_machine.specs.Table.{Table}
-use Rattle.cal_machine.specs.TableTasks.{owner_of}
-use Rattle.cal_policy.specs.declared.history.action.Action.{Action}
-use Rattle.cal_policy.specs.declared.history.action.Action.TheVariants.{Ban, Free, Grant, Unban}
+use Rattle.cal_measure.proofs.Common.{◌≡◌, ◌≢◌, ◌++◌, ◌==◌, ℕ, Bool, false, cond, List, [], ◌∷◌, ap, refl, sym, arith, and_left, ne_eqb, Table, owner_of, Action, Ban, Free, Grant, Unban, AreActionsOf, IsNothingTo, many_of, TaskActions}
 use Rattle.cal_policy.specs.declared.history.core_class.CoreClass.TheVariants as classes
 use Rattle.cal_measure.specs.Actions as acts
-use Rattle.cal_measure.specs.Actions.{AreActionsOf, IsNothingTo, many_of}
 use Rattle.cal_measure.specs.declared.actions.LossKind.TheVariants as kinds
-use Rattle.cal_measure.specs.declared.cores.TaskActions.{TaskActions}
 use Rattle.cal_measure.proofs.Counting.{many_push}
 
 -- a count stays right with an action that is not such

@@ -1,15 +1,5 @@
 -- A history with one pass more: what was so after each pass before is so still.
-use Rattle.std.specs.Prelude.{nat_lt}
-use Rattle.std.proofs.Common.{◌≡◌, ◌∙◌, ◌+◌, ◌-◌, ◌*◌, ◌<◌, ◌≤◌, ◌++◌, ◌∷◌, [], ℕ, zero, suc, max, Bool, true, false, cond, List, Option, Some, None, length, length-append, take, take_all, slice_get, ap, refl, sym, arith}
-use Rattle.cal_machine.specs.Table.{Table}
-use Rattle.cal_policy.specs.History.{actions_of}
-use Rattle.cal_policy.specs.Board.Counts.{booked_by, held_by}
-use Rattle.cal_policy.specs.Pass.Choice.{greatest_below, sum_below}
-use Rattle.cal_policy.specs.declared.history.entry.PassEntry.{PassEntry}
-use Rattle.cal_measure.specs.Cores.{bandwidth_in, core_time, held_after, in_state_after, is_over_limit, left_after}
-use Rattle.cal_measure.specs.States.{clock_at, clock_in, count_in_state, found_congested, is_congested_at, lasts_at}
-use Rattle.cal_measure.specs.declared.states.CoreState.{CoreState}
-use Rattle.cal_measure.specs.Walk.{clock_of, last_clock, since, until_next}
+use Rattle.cal_measure.proofs.Common.{nat_lt, ◌≡◌, ◌∙◌, ◌+◌, ◌-◌, ◌*◌, ◌<◌, ◌≤◌, ◌++◌, ◌∷◌, [], ℕ, zero, suc, max, Bool, true, false, cond, List, Option, Some, None, length, length-append, take, take_all, slice_get, ap, refl, sym, arith, Table, actions_of, booked_by, held_by, greatest_below, sum_below, PassEntry, bandwidth_in, core_time, held_after, in_state_after, is_over_limit, left_after, clock_at, clock_in, count_in_state, found_congested, is_congested_at, lasts_at, CoreState, clock_of, last_clock, since, until_next}
 
 pub take_left : {X : Type 0} (xs ys : List X) (k : ℕ) → k ≤ length xs → take k (xs ++ ys) ≡ take k xs
 take_left xs ys zero le = refl

@@ -1,8 +1,6 @@
 -- What is said of each member of a list and the next one, told one member more.
-use Rattle.std.proofs.Common.{◌≡◌, ◌<◌, ◌+◌, ◌-◌, ◌∙◌, ℕ, zero, suc, List, [], ◌∷◌, ◌++◌, Option, Some, None, length, slice_get, refl, ap, sym, arith}
-use Rattle.std.proofs.lemmas.Option.{slice_get_past}
+use Rattle.cal_measure.proofs.Common.{◌≡◌, ◌<◌, ◌+◌, ◌-◌, ◌∙◌, ℕ, zero, suc, List, [], ◌∷◌, ◌++◌, Option, Some, None, length, slice_get, refl, ap, sym, arith, slice_get_past, joined_below}
 use Rattle.cal_machine.proofs.Places.{slice_get_front, slice_get_seam}
-use Rattle.cal_measure.specs.Joined.{joined_below}
 
 -- lists end to end, each of which is the same
 pub joined_same : {X : Type 0} (f g : ℕ → List X) (n : ℕ) → ((i : ℕ) → i < n → f i ≡ g i) → joined_below f n ≡ joined_below g n

@@ -1,9 +1,5 @@
 -- TimedTurns and services, one turn more.
-use Rattle.std.proofs.Common.{◌≡◌, ℕ, Bool, true, false, ◌||◌, cond, List, [], ◌∷◌, ◌++◌, Option, Some, None, ◌+◌, refl, ap, sym, ◌∙◌, arith}
-use Rattle.std.specs.Option.{is_some, option_or}
-use Rattle.cal_measure.specs.Services.{any_serves, since_service, first_at_work, begun_since, worked_in, worked_since, clocked}
-use Rattle.cal_measure.specs.Ends.{ticks_of}
-use Rattle.cal_measure.specs.declared.ends.TimedTurn.{TimedTurn}
+use Rattle.cal_measure.proofs.Common.{◌≡◌, ℕ, Bool, true, false, ◌||◌, cond, List, [], ◌∷◌, ◌++◌, Option, Some, None, ◌+◌, refl, ap, sym, ◌∙◌, arith, is_some, option_or, any_serves, since_service, first_at_work, begun_since, worked_in, worked_since, clocked, ticks_of, TimedTurn}
 use Rattle.std.proofs.Math.Bool.{or-true, or-false}
 
 or_assoc : (a b c : Bool) → (a || (b || c)) ≡ ((a || b) || c)

@@ -1,9 +1,5 @@
 -- Loops over a list, one member more.
-use Rattle.std.proofs.Common.{◌≡◌, ◌<◌, ◌+◌, ◌∙◌, ℕ, List, [], ◌∷◌, ◌++◌, length, get_or, take, subst, sym, ap, append_assoc, refl, add-one}
-use Rattle.std.proofs.lemmas.List.{take_more}
-use Rattle.cal_policy.specs.History.Lists.{each_of}
-use Rattle.cal_policy.proofs.ListLemmas.OneMore.{each_of_push}
-use Rattle.cal_measure.specs.Joined.{joined_below}
+use Rattle.cal_measure.proofs.Common.{◌≡◌, ◌<◌, ◌+◌, ◌∙◌, ℕ, List, [], ◌∷◌, ◌++◌, length, get_or, take, subst, sym, ap, append_assoc, refl, add-one, take_more, each_of, each_of_push, joined_below}
 
 -- what holds of the members so far and the next one
 pub grown : {X : Type 0} (P : List X → Type 0) (xs : List X) (i : ℕ) (d : X) → i < length xs → P (take i xs ++ get_or xs i d ∷ []) → P (take (i + 1) xs)

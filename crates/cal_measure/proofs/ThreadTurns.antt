@@ -1,17 +1,8 @@
 -- The turns of a thread so far, one turn more.
-use Rattle.std.proofs.Common.{◌≡◌, ◌≤◌, ◌+◌, ◌-◌, ◌∙◌, ℕ, List, [], ◌∷◌, ◌++◌, Option, Some, None, Bool, true, false, cond, ◌&&◌, length, slice_get, refl, ap, sym, arith, length-append}
-use Rattle.std.proofs.lemmas.List.{append-nil}
-use Rattle.cal_machine.proofs.Last.{slice_get-last}
+use Rattle.cal_measure.proofs.Common.{◌≡◌, ◌≤◌, ◌+◌, ◌-◌, ◌∙◌, ℕ, List, [], ◌∷◌, ◌++◌, Option, Some, None, Bool, true, false, cond, ◌&&◌, length, slice_get, refl, ap, sym, arith, length-append, append-nil, slice_get-last, each_of, Entry, timed_at, timed_by, timed_of, joined_below, ended_of, latest_of, turn_by, turns_of, stolen_by, suspension_at, suspension_by, suspensions_in}
 use Rattle.cal_machine.proofs.Places.{slice_get_at}
-use Rattle.cal_policy.specs.History.Lists.{each_of}
 use Rattle.cal_kthread.specs.Turn.{noted}
-use Rattle.cal_kthread.specs.declared.journal.entry.Entry.{Entry}
 use Rattle.cal_kthread.specs.declared.journal.entry.Entry.TheVariants.{Arrived, Took, Stole, Served, Yielded, Published}
-use Rattle.cal_measure.specs.Ends.{timed_at, timed_by, timed_of}
-use Rattle.cal_measure.specs.Joined.{joined_below}
-use Rattle.cal_measure.specs.ThreadWork.{ended_of, latest_of}
-use Rattle.cal_measure.specs.Turns.{turn_by, turns_of}
-use Rattle.cal_measure.specs.Work.{stolen_by, suspension_at, suspension_by, suspensions_in}
 use Rattle.cal_measure.specs.declared.turns.Turn.{Turn}
 use Rattle.cal_measure.proofs.AtMostOne.{each_few, joined_few}
 use Rattle.cal_measure.proofs.Paired.{joined_same, before_last, paired_push, paired_whole}

@@ -1,15 +1,6 @@
 -- What the turns of each thread came to, thread by thread.
-use Rattle.std.proofs.Common.{◌≡◌, ◌<◌, ◌≤◌, ◌+◌, ◌^◌, ◌∙◌, ℕ, zero, suc, List, [], ◌∷◌, ◌++◌, length, get_or, subst, refl, sym, ap, arith, length-append}
-use Rattle.std.specs.Prelude.{sum}
-use Rattle.std.proofs.lemmas.List.{append-nil}
+use Rattle.cal_measure.proofs.Common.{◌≡◌, ◌<◌, ◌≤◌, ◌+◌, ◌^◌, ◌∙◌, ℕ, zero, suc, List, [], ◌∷◌, ◌++◌, length, get_or, subst, refl, sym, ap, arith, length-append, sum, append-nil, Entry, each_of, timed_of, turns_of, stolen_by, suspensions_in, time_worked, AreTotalsOf, AreTotalsOfEach, IsWithin, IsWorkOf, ThreadTotals}
 use Rattle.std.proofs.lemmas.List.Sums.{sum_by-append}
-use Rattle.cal_kthread.specs.declared.journal.entry.Entry.{Entry}
-use Rattle.cal_policy.specs.History.Lists.{each_of}
-use Rattle.cal_measure.specs.Ends.{timed_of}
-use Rattle.cal_measure.specs.Turns.{turns_of}
-use Rattle.cal_measure.specs.Work.{stolen_by, suspensions_in, time_worked}
-use Rattle.cal_measure.specs.ThreadWork.{AreTotalsOf, AreTotalsOfEach, IsWithin, IsWorkOf}
-use Rattle.cal_measure.specs.declared.thread_work.totals.ThreadTotals.{ThreadTotals}
 use Rattle.cal_measure.specs.declared.work.TaskWork.{TaskWork}
 
 -- what stands at a place is of the journal there

@@ -1,16 +1,7 @@
 -- The parts of the machine's core time make the whole.
-use Rattle.std.proofs.Common.{◌≡◌, ◌+◌, ◌*◌, ℕ, zero, suc, Bool, true, false, cond, List, length, take, refl, sym, arith}
-use Rattle.cal_machine.specs.Table.{Table}
-use Rattle.cal_policy.specs.History.{actions_of, holder_of, is_banned}
-use Rattle.cal_policy.specs.Pass.Choice.{count_below, sum_below}
-use Rattle.cal_policy.specs.declared.board.holders.Holder.{Holder}
+use Rattle.cal_measure.proofs.Common.{◌≡◌, ◌+◌, ◌*◌, ℕ, zero, suc, Bool, true, false, cond, List, length, take, refl, sym, arith, Table, actions_of, holder_of, is_banned, count_below, sum_below, Holder, Action, PassEntry, AreMachineCores, MakeTheWhole, in_state_after, is_in_state, lasts_at, CoreState}
 use Rattle.cal_policy.specs.declared.board.holders.Holder.TheVariants.{Free, Held, Leaving}
-use Rattle.cal_policy.specs.declared.history.action.Action.{Action}
-use Rattle.cal_policy.specs.declared.history.entry.PassEntry.{PassEntry}
-use Rattle.cal_measure.specs.Cores.{AreMachineCores, MakeTheWhole, in_state_after}
-use Rattle.cal_measure.specs.States.{is_in_state, lasts_at}
 use Rattle.cal_measure.specs.declared.cores.MachineCores.{MachineCores}
-use Rattle.cal_measure.specs.declared.states.CoreState.{CoreState}
 use Rattle.cal_measure.specs.declared.states.CoreState.TheVariants as states
 
 abbrev one : CoreState → Holder → Bool → ℕ

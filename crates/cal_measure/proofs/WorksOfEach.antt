@@ -1,11 +1,6 @@
 -- What the turns of each thread come to, while one after the other ends.
-use Rattle.std.proofs.Common.{◌≡◌, ◌∙◌, ℕ, List, [], ◌∷◌, ◌++◌, length, subst, refl, sym, arith, append_assoc}
-use Rattle.std.specs.List.{AllZip}
-use Rattle.std.proofs.lemmas.List.{append-nil}
-use Rattle.cal_kthread.specs.declared.journal.entry.Entry.{Entry}
-use Rattle.cal_measure.specs.ThreadWork.{AreTotalsOf, AreTotalsOfEach, IsThreadWorkOf}
+use Rattle.cal_measure.proofs.Common.{◌≡◌, ◌∙◌, ℕ, List, [], ◌∷◌, ◌++◌, length, subst, refl, sym, arith, append_assoc, AllZip, append-nil, Entry, AreTotalsOf, AreTotalsOfEach, IsThreadWorkOf, ThreadTotals}
 use Rattle.cal_measure.specs.declared.thread_work.ThreadWork.{ThreadWork}
-use Rattle.cal_measure.specs.declared.thread_work.totals.ThreadTotals.{ThreadTotals}
 
 -- one more at the end of both
 pub zip_more : {X Y : Type 0} (R : X → Y → Type 0) (xs : List X) (ys : List Y) (x : X) (y : Y) → AllZip R xs ys → R x y → AllZip R (xs ++ x ∷ []) (ys ++ y ∷ [])

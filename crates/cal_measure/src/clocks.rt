@@ -18,7 +18,7 @@ pub struct ArrivalClocks {
 }
 
 /// The clock of the last turn; 0 where there is none.
-pub fn last_clock(turns: &[u64]) -> u64
+pub(crate) fn last_clock(turns: &[u64]) -> u64
     ensures { result ≡ last_clock turns.now }
 {
     match turns.get(turns.len().saturating_sub(1)) {

@@ -1,10 +1,9 @@
 //! The numbers of a run, and its spans: how long each task's requests took, how many cores it had and
-//! why it lost them; and who had which core from which pass to which.
+//! why it lost them; and who had which core from which pass to which. Each number is that of its
+//! definition over the run's journals and history (`specs/`).
 //!
-//! The numbers are defined over the journals and the history of a run (`specs/`), and each one is
-//! proved to be that of its definition. What is measured, and how, is Doranjei's. Who had which
-//! core, and which cores were banned, are the spans of a history and its bans (`spans`), which two
-//! trackers follow.
+//! What is measured, and how, is Doranjei's. Who had which core, and which cores were banned, are the
+//! spans of a history and its bans (`spans`), which two trackers follow.
 #![tactic(auto)]
 
 mod actions;
@@ -26,7 +25,7 @@ mod walk;
 mod work;
 
 pub use actions::LossKind;
-pub use clocks::{ArrivalClocks, last_clock, run_end, turns_last};
+pub use clocks::{ArrivalClocks, run_end, turns_last};
 pub use cores::{MachineCores, TaskActions, TaskCores};
 pub use ended_run::EndedRun;
 pub use ends::{TimedTurn, timed_of};
@@ -40,7 +39,7 @@ pub use spans::laws::{
 };
 pub use spans::span::{Left, Span};
 pub use spans::tracking::Tracker;
-pub use spread::{Spread, Time, spread_of};
+pub use spread::{Spread, Time};
 pub use states::{CoreState, is_congested, task_delay};
 pub use thread_work::ThreadWork;
 pub use thread_work::each::{end_works, open_works};

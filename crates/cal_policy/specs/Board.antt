@@ -67,7 +67,7 @@ granted_in h c = slice_index_or h.granted c None
 abbrev pub holder_in : Holding → ℕ → Holder
 holder_in h c = slice_index_or h.holders c holders.Free
 
--- who has this core, as it is kept; of no core nobody
+-- the core's holder on the board; nobody if there is no core
 abbrev pub holder_at : Holding → Option ℕ → Holder
 holder_at h None = holders.Free
 holder_at h (Some c) = holder_in h c

@@ -1,5 +1,6 @@
-//! The one-thread policy: what a pass of the scheduler does, decided from the whole history so far
-//! or from a Book that keeps the state after the history, and the audit of a history against it.
+//! The one-thread policy: a pass of the scheduler appends exactly the actions of its definition,
+//! decided from the whole history so far or from a Book that keeps the state after the history; and
+//! an audit gives a history exactly the verdict of the definitions.
 //!
 //! The rules are after Caladan's core allocator and its controllers; the exact ones, and how looks
 //! are judged, are Doranjei's.

@@ -23,7 +23,7 @@ IsFitShown last next = IsShaped next.rec × IsShownAfter last next
 abbrev pub shown_of : ℕ × Record → Shown
 shown_of look = record { number = look.0; rec = look.1 }
 
--- what the last of these looks found, where this was found before them
+-- what the last of these looks found; what was found before them, if there are none
 abbrev pub found_from : Shown → List (ℕ × Record) → Shown
 found_from last [] = last
 found_from last (l ∷ ls) = found_from (shown_of l) ls

@@ -1,12 +1,11 @@
-//! The signals of kernel threads: records, and the pages that carry them from the thread that
-//! publishes to one observer or two.
+//! The signals of kernel threads: a look at a page gives a whole record that was published, with its
+//! place, and none older than the last look gave; or it is busy. Pages carry records from the thread
+//! that publishes to one observer or two.
 //!
 //! A page is a seqlock on `atomic_table`: a version word and a record's words. The version is `2i`
 //! while record `i` is the last one, and `2i + 1` while the next one is being written. Publishing
-//! and looking wait for nobody, and there are no locks. A look gives a whole record that was
-//! published, with its place, and no record older than the last look gave; or it is busy. That is
-//! the textbook seqlock; the words of a record, what it may be and the calls in steps are
-//! Doranjei's.
+//! and looking wait for nobody, and there are no locks. That is the textbook seqlock; the words of a
+//! record, what it may be and the calls in steps are Doranjei's.
 //!
 //! Not promised: that a look beside a publisher succeeds, or any order between two observers.
 #![tactic(auto)]

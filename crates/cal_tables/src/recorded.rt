@@ -39,7 +39,7 @@ pub enum Recorded {
     },
 }
 
-/// The numbers of the cores in the history over which a walk went. Fails only when out of memory.
+/// The core numbers of the walked history. Fails only when out of memory.
 pub(crate) fn numbers_of_walk(alloc: Global, walk: &Walk) -> Result<HistoryNumbers, AllocError>
     requires { length walk.now.times.items ≡ length walk.now.actions.items }
     ensures { IfOk result (λ numbers. (table : Table) (history : List EntryOf) →

@@ -28,7 +28,7 @@ pub enum Refusal {
     NoAction = 17,
     /// A number is no judgement of its look.
     NoJudgement = 19,
-    /// No page can show that the thread is gone.
+    /// No page can show any more that the thread is gone: `caladan_gone`.
     Lost = 21,
     /// No policy has this number.
     NoPolicy = 22,

@@ -26,7 +26,7 @@ pub struct ServedRequests {
 }
 
 impl ServedRequests {
-    /// Of none.
+    /// No request served yet.
     fn none(alloc: Global) -> ServedRequests
         ensures { AreServed [] result }
     {

@@ -1,25 +1,5 @@
 -- From what each thread keeps of its work to the account of the team.
-use Rattle.std.proofs.Common.{◌≡◌, ℕ, suc, ◌+◌, ◌<◌, ◌&&◌, Bool, true, false, nat_eq, Option, option_map, option_to_list, List, [], ◌∷◌, ◌++◌, map, length, set, sym, refl, ap, ◌∙◌, subst, arith}
-use Rattle.std.proofs.lemmas.Bool.{eq-eqb, eqb-true}
-use Rattle.std.proofs.lemmas.List.{length_push}
-use mathlib.Core.Option.{some}
-use lib.ListN.{get_elem?}
-use Rattle.crossbeam_deque.proofs.Lists.{at_map}
-use Rattle.cal_machine.specs.declared.request.Request.{Request}
-use Rattle.cal_kthread.specs.Turn.Agreement.{IsJournalOf, held}
-use Rattle.cal_kthread.specs.Turn.Thread.{ThreadView}
-use Rattle.cal_kthread.specs.declared.turn.current.Current.{Current}
-use Rattle.cal_kthread.specs.declared.journal.entry.Entry.{Entry}
-use Rattle.cal_kthread.specs.declared.turn.sources.Source.{Source}
-use Rattle.cal_kthread.specs.declared.queue.waiting.Waiting.{Waiting}
-use Rattle.cal_kthread.specs.End.Account.{IsAccounted, KeepsItsWork, IsSettled, IsDrained, Gathers, HasArrived, stripped, taken_of, stolen_weight, handed_of, kept_of, sources_at, times, names_of, requests_of, waiting_names, StaysSettled}
-use Rattle.cal_kthread.specs.End.HandingOut.{HandsOutSome}
-use Rattle.cal_kthread.specs.Journal.{arrivals_of, served_of}
-use Rattle.cal_kthread.specs.Places.{Each, one_if}
-use Rattle.cal_kthread.specs.Queue.{QueueId}
-use Rattle.cal_kthread.specs.Queue.Rule.{weigh, TookWhatCame}
-use Rattle.cal_kthread.specs.End.Rest.{EndView, RestView, HandsOut, HandsOutOf, to_hand_out}
-use Rattle.cal_kthread.specs.Team.{Place, place_of_rest, thief_place, lent, lent_to}
+use Rattle.cal_kthread.proofs.Common.{◌≡◌, ℕ, suc, ◌+◌, ◌<◌, ◌&&◌, Bool, true, false, nat_eq, Option, option_map, option_to_list, List, [], ◌∷◌, ◌++◌, map, length, set, sym, refl, ap, ◌∙◌, subst, arith, eq-eqb, eqb-true, length_push, some, get_elem?, at_map, Request, IsJournalOf, held, ThreadView, Current, Entry, Source, Waiting, IsAccounted, KeepsItsWork, IsSettled, IsDrained, Gathers, HasArrived, stripped, taken_of, stolen_weight, handed_of, kept_of, sources_at, times, names_of, requests_of, waiting_names, StaysSettled, HandsOutSome, arrivals_of, served_of, Each, one_if, QueueId, weigh, TookWhatCame, EndView, RestView, HandsOut, HandsOutOf, to_hand_out, Place, place_of_rest, thief_place, lent, lent_to}
 use Rattle.cal_kthread.proofs.ListSums.{weigh-append, weigh-set, weigh-one-more, weigh-map, weigh-each, weigh-plus, member, heavy, each-set, map-append, map-at, within, at-get_or}
 use Rattle.cal_kthread.proofs.TeamLemmas.Gathering.{place, sources_of}
 

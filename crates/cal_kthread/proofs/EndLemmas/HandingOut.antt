@@ -1,15 +1,5 @@
 -- What one end hands out, request by request, and what a team's ends hand out, one after the other.
-use Rattle.std.proofs.Common.{◌≡◌, ◌≢◌, ℕ, zero, suc, ◌+◌, ◌<◌, ◌≤◌, List, [], ◌∷◌, ◌++◌, map, length, take, set, sym, refl, ap, ◌∙◌, subst, ⊎_elim, arith}
-use Rattle.std.proofs.lemmas.List.{length-set, take_all}
-use mathlib.Core.Option.{some, some-ne-none}
-use lib.ListN.{get_elem?}
-use Rattle.crossbeam_deque.proofs.Lists.{at_map, at_set}
-use Rattle.cal_machine.specs.declared.request.Request.{Request}
-use Rattle.cal_kthread.specs.End.Account.{IsAccounted, IsDrained, IsSettled, requests_of, stripped}
-use Rattle.cal_kthread.specs.End.HandingOut.{HandedOutNothing, HandsOutSome, RunView, left_of, run_of}
-use Rattle.cal_kthread.specs.Places.{Each}
-use Rattle.cal_kthread.specs.End.Rest.{EndView, RestView, HandsOut, HandsOutOf}
-use Rattle.cal_kthread.specs.declared.queue.waiting.Waiting.{Waiting}
+use Rattle.cal_kthread.proofs.Common.{◌≡◌, ◌≢◌, ℕ, zero, suc, ◌+◌, ◌<◌, ◌≤◌, List, [], ◌∷◌, ◌++◌, map, length, take, set, sym, refl, ap, ◌∙◌, subst, ⊎_elim, arith, length-set, take_all, some, some-ne-none, get_elem?, at_map, at_set, Request, IsAccounted, IsDrained, IsSettled, requests_of, stripped, HandedOutNothing, HandsOutSome, RunView, left_of, run_of, Each, EndView, RestView, HandsOut, HandsOutOf, Waiting}
 use Rattle.cal_kthread.proofs.EndLemmas.Account.{accounted, moved, still-settled}
 use Rattle.cal_kthread.proofs.ListSums.{map-append, map-at, map-set-like, within}
 

@@ -1,16 +1,6 @@
 -- An id that arrived once stands in one place, and one that did not arrive nowhere.
-use Rattle.std.proofs.Common.{◌≡◌, ℕ, zero, suc, ◌+◌, ◌<◌, ◌≤◌, nat_eq, Bool, true, false, Option, Some, None, List, [], ◌∷◌, refl, ap, ◌∙◌, subst, inl, inr, arith}
-use Rattle.std.specs.Prelude.{option_to_list}
-use Rattle.std.specs.List.{slice_get, filter_map, cons_option}
-use Rattle.std.proofs.lemmas.Bool.{eq-eqb, eqb-true}
-use Rattle.cal_machine.specs.declared.request.Request.{Request}
-use Rattle.cal_kthread.specs.declared.journal.entry.Entry.{Entry}
-use Rattle.cal_kthread.specs.declared.journal.entry.Entry.TheVariants.{Arrived, Took, Stole, Served, Yielded, Published}
-use Rattle.cal_kthread.specs.End.Account.{IsAccounted, names_of, times}
-use Rattle.cal_kthread.specs.Journal.{served_in, served_of}
+use Rattle.cal_kthread.proofs.Common.{◌≡◌, ℕ, zero, suc, ◌+◌, ◌<◌, ◌≤◌, nat_eq, Bool, true, false, Option, Some, None, List, [], ◌∷◌, refl, ap, ◌∙◌, subst, inl, inr, arith, option_to_list, slice_get, filter_map, cons_option, eq-eqb, eqb-true, Request, Entry, Arrived, Took, Stole, Served, Yielded, Published, IsAccounted, names_of, times, served_in, served_of, one_if, weigh}
 use Rattle.cal_kthread.specs.End.OnePlace.{ServedAt, LeftAt, Nowhere, Once, StandsInOnePlace, OnceIsInOnePlace, NeverIsNowhere}
-use Rattle.cal_kthread.specs.Places.{one_if}
-use Rattle.cal_kthread.specs.Queue.Rule.{weigh}
 use Rattle.cal_kthread.proofs.ListSums.{weigh-map}
 
 module _ {T : Type 0} where

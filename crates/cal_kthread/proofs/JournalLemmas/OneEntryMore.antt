@@ -1,12 +1,5 @@
 -- A journal with one more entry.
-use Rattle.std.proofs.Common.{◌≡◌, ◌+◌, ◌≤◌, Option, Some, None, List, [], ◌∷◌, ◌++◌, length, refl, sym, ap, subst, ◌∙◌, append_assoc, append-nil, arith}
-use Rattle.std.specs.Prelude.{option_to_list}
-use Rattle.std.specs.List.{filter_map, cons_option}
-use Rattle.cal_signal.specs.declared.record.Record.{Record}
-use Rattle.cal_signal.specs.Pages.{Chain, last_from, IsPage, page_of}
-use Rattle.cal_signal.specs.Records.{MayFollow, zero_record}
-use Rattle.cal_kthread.specs.declared.journal.entry.Entry.{Entry}
-use Rattle.cal_kthread.specs.Journal.{State, changed_by, state_from, state_after, StandAfter, MayStand}
+use Rattle.cal_kthread.proofs.Common.{◌≡◌, ◌+◌, ◌≤◌, Option, Some, None, List, [], ◌∷◌, ◌++◌, length, refl, sym, ap, subst, ◌∙◌, append_assoc, append-nil, arith, option_to_list, filter_map, cons_option, Record, Chain, last_from, IsPage, page_of, MayFollow, zero_record, Entry, State, changed_by, state_from, state_after, StandAfter, MayStand}
 
 -- what one more member adds to a list of answers
 pub filter_map-push : {X Y : Type 0} (h : X → Option Y) (xs : List X) (x : X) → filter_map h (xs ++ x ∷ []) ≡ filter_map h xs ++ option_to_list (h x)

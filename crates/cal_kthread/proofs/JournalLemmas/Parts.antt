@@ -1,55 +1,7 @@
 -- Parts of a journal, and what its records show of the entries before them.
-use Rattle.std.proofs.Common.{◌≡◌, ℕ, ◌+◌, zero, suc, Option, Some, None, IfSome, List, [], ◌∷◌, ◌++◌, length, refl, sym, ap, subst, ◌∙◌, append_assoc, append-nil, arith}
-use Rattle.std.specs.Prelude.{option_to_list}
-use Rattle.std.specs.List.{slice_get, cons_option}
-use Rattle.std.proofs.lemmas.List.Elements.{filter_map-append}
-use Rattle.cal_signal.specs.declared.record.Record.{Record}
-use Rattle.cal_signal.specs.Pages.{Chain, IsPage, last_from, last_published, page_of}
-use Rattle.cal_signal.specs.Records.{MayFollow, zero_record}
-use Rattle.cal_kthread.specs.declared.journal.entry.Entry.{Entry}
-use Rattle.cal_kthread.specs.declared.journal.entry.Entry.TheVariants.{Arrived, Took, Stole, Served, Yielded, Published}
-use Rattle.cal_kthread.specs.Journal.{State, first_state, changed_by, state_from, state_after, record_in, records_of, commands_of, StandAfter, IsJournal}
-use Rattle.cal_kthread.specs.Journal.Entries.{MayCome, up_to, steps_of, JournalByEntries, FrontIsJournal, EachMayCome, RecordShowsTaken, OthersChangeNothing}
-use Rattle.cal_kthread.proofs.JournalLemmas.OneEntryMore.{each-push, filter_map-push, page-push, state_after-push}
-
--- parts of what may stand and of a page
-pub stand-split : (before xs ys : List Entry) → StandAfter before (xs ++ ys) → StandAfter before xs × StandAfter (before ++ xs) ys
-stand-split before [] ys all = (tt, subst (λ b. StandAfter b ys) (sym (append-nil before)) all)
-stand-split before (x ∷ xs) ys all = let both = stand-split (before ++ x ∷ []) xs ys all.1 in
-    ((all.0, both.0), subst (λ b. StandAfter b ys) (append_assoc before (x ∷ []) xs) both.1)
-
-pub chain-split : (z : Record) (rs ss : List Record) → Chain MayFollow z (rs ++ ss) → Chain MayFollow z rs × Chain MayFollow (last_from z rs) ss
-chain-split z [] ss chain = (tt, chain)
-chain-split z (r ∷ rs) ss chain = let both = chain-split r rs ss chain.1 in ((chain.0, both.0), both.1)
-
-page-split : (front rest : List Entry) → IsJournal (front ++ rest)
-    → Chain MayFollow zero_record (records_of front) × Chain MayFollow (last_published (records_of front)) (records_of rest)
-page-split front rest is = chain-split zero_record (records_of front) (records_of rest)
-    (subst (λ rs. Chain MayFollow zero_record rs) (filter_map-append record_in front rest) is.page.1)
-
-pub front-is-journal : FrontIsJournal
-front-is-journal front rest is = record { each = (stand-split [] front rest is.each).0; page = (refl, (page-split front rest is).0) }
-
-pub each-may-come : EachMayCome
-each-may-come before entry after is =
-    ((stand-split [] before (entry ∷ after) is.each).1.0, first (record_in entry) (last_published (records_of before)) (records_of after) (page-split before (entry ∷ after) is).1)
-  where
-    first : (o : Option Record) (z : Record) (rs : List Record) → Chain MayFollow z (cons_option o rs) → IfSome o (λ rec. MayFollow z rec)
-    first None z rs chain = tt
-    first (Some r) z rs chain = chain.0
-
-more-page : (o : Option Record) (rs : List Record) → IsPage (page_of rs) → IfSome o (λ rec. MayFollow (last_published rs) rec) → IsPage (page_of (rs ++ option_to_list o))
-more-page None rs page may = subst (λ l. IsPage (page_of l)) (sym (append-nil rs)) page
-more-page (Some r) rs page may = page-push rs r page may
-
-pub one-entry-more : (before : List Entry) (entry : Entry) → IsJournal before → MayCome before entry → IsJournal (before ++ entry ∷ [])
-one-entry-more before entry is may = record {
-  each = each-push before entry is.each may.0;
-  page = subst (λ l. IsPage (page_of l)) (sym (filter_map-push record_in before entry)) (more-page (record_in entry) (records_of before) is.page may.1);
-}
-
-pub by-entries : JournalByEntries
-by-entries before entry = (λ is. (front-is-journal before (entry ∷ []) is, each-may-come before entry [] is), one-entry-more before entry)
+use Rattle.cal_kthread.proofs.Common.{◌≡◌, ℕ, ◌+◌, zero, suc, Some, List, [], ◌∷◌, ◌++◌, length, refl, sym, ap, ◌∙◌, append_assoc, arith, slice_get, Record, last_from, zero_record, Entry, Arrived, Took, Stole, Served, Yielded, Published, State, first_state, changed_by, state_from, state_after, records_of, commands_of, StandAfter}
+use Rattle.cal_kthread.specs.Journal.Entries.{up_to, steps_of, RecordShowsTaken, OthersChangeNothing}
+use Rattle.cal_kthread.proofs.JournalLemmas.OneEntryMore.{state_after-push}
 
 -- one command more for each Took
 taken-from : (s : State) (xs : List Entry) → (state_from s xs).taken ≡ s.taken + length (commands_of xs)

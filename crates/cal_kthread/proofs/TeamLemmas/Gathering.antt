@@ -1,16 +1,5 @@
 -- One thief gives its share back: what moves between the ends of a team, and what stays.
-use Rattle.std.proofs.Common.{◌≡◌, ◌≢◌, ℕ, ◌+◌, ◌<◌, List, [], ◌∷◌, ◌++◌, map, length, set, get_or, sym, refl, ap, ◌∙◌, subst, arith}
-use Rattle.std.proofs.lemmas.List.{get_or-set_other, get_or-set_same, map-set, length-map}
-use mathlib.Core.Option.{some}
-use lib.ListN.{get_elem?}
-use Rattle.crossbeam_deque.proofs.Lists.{at_map}
-use Rattle.cal_kthread.specs.End.Account.{Gathers, stripped, taken_of, stolen_weight, sources_at}
-use Rattle.cal_kthread.specs.declared.turn.sources.Source.{Source}
-use Rattle.cal_kthread.specs.declared.queue.waiting.Waiting.{Waiting}
-use Rattle.cal_kthread.specs.Queue.{QueueId}
-use Rattle.cal_kthread.specs.Queue.Rule.{weigh}
-use Rattle.cal_kthread.specs.End.Rest.{EndView, RestView}
-use Rattle.cal_kthread.specs.Team.{IsTeam, Place, place_of_rest, thief_place, queues_of}
+use Rattle.cal_kthread.proofs.Common.{◌≡◌, ◌≢◌, ℕ, ◌+◌, ◌<◌, List, [], ◌∷◌, ◌++◌, map, length, set, get_or, sym, refl, ap, ◌∙◌, subst, arith, get_or-set_other, get_or-set_same, map-set, length-map, some, get_elem?, at_map, Gathers, stripped, taken_of, stolen_weight, sources_at, Source, Waiting, QueueId, weigh, EndView, RestView, IsTeam, Place, place_of_rest, thief_place, queues_of}
 use Rattle.cal_kthread.proofs.TeamLemmas.Shares.{returned}
 use Rattle.cal_kthread.proofs.ListSums.{weigh-append, weigh-set, weigh-one-more, map-set-like, map-append, map-at, within, at-get_or}
 

@@ -1,19 +1,5 @@
 -- A share that goes to a new thief keeps a team, and the agreement of its threads.
-use Rattle.std.proofs.Common.{◌≡◌, ◌≢◌, ℕ, ◌+◌, ◌-◌, ◌<◌, nat_eq, List, [], ◌∷◌, ◌++◌, map, length, set, get_or, sym, refl, ap, ◌∙◌, subst, ⊎_elim, arith}
-use Rattle.std.proofs.lemmas.Bool.{eq-eqb, ne_eqb}
-use Rattle.std.proofs.lemmas.List.{get_or-set_other, get_or-set_same, map-set}
-use mathlib.Core.Option.{some}
-use lib.ListN.{get_elem?}
-use Rattle.crossbeam_deque.proofs.Lists.{at_set, at_snoc, at_map}
-use Rattle.cal_kthread.specs.Turn.Agreement.{IsJournalOf}
-use Rattle.cal_kthread.specs.Team.Linking.{Lends, StoleNothing, unlinked, numbers_at, shares_at, thieves_of}
-use Rattle.cal_kthread.specs.Places.{Each, one_if}
-use Rattle.cal_kthread.specs.Queue.{QueueId}
-use Rattle.cal_kthread.specs.Queue.Rule.{weigh}
-use Rattle.cal_kthread.specs.Team.{Place, IsTeam, lent, lent_to, queues_of, place_of, thief_place}
-use Rattle.cal_kthread.specs.Turn.Thread.{KernelView, ThreadView}
-use Rattle.cal_kthread.specs.declared.journal.entry.Entry.{Entry}
-use Rattle.cal_kthread.specs.declared.turn.sources.Source.{Source}
+use Rattle.cal_kthread.proofs.Common.{◌≡◌, ◌≢◌, ℕ, ◌+◌, ◌-◌, ◌<◌, nat_eq, List, [], ◌∷◌, ◌++◌, map, length, set, get_or, sym, refl, ap, ◌∙◌, subst, ⊎_elim, arith, eq-eqb, ne_eqb, get_or-set_other, get_or-set_same, map-set, some, get_elem?, at_set, at_snoc, at_map, IsJournalOf, Lends, StoleNothing, unlinked, numbers_at, shares_at, thieves_of, Each, one_if, QueueId, weigh, Place, IsTeam, lent, lent_to, queues_of, place_of, thief_place, KernelView, ThreadView, Entry, Source}
 use Rattle.cal_kthread.proofs.ListSums.{weigh-set, weigh-one-more, each-set, map-set-like, map-append, within, at-get_or}
 
 pub robs-agree : (journal : List Entry) (t u : ThreadView) (v : Source) → v.thief.had ≡ [] → IsJournalOf journal t → u ≡ record t { sources = t.sources ++ v ∷ [] } → IsJournalOf journal u

@@ -1,21 +1,8 @@
 -- A new team: thread after thread is opened, and task after task is linked.
-use Rattle.std.proofs.Common.{◌≡◌, ℕ, zero, suc, ◌+◌, ◌-◌, ◌<◌, ◌≤◌, nat_eq, List, [], ◌∷◌, ◌++◌, map, length, take, drop, sym, refl, ap, ◌∙◌, subst, ⊎_elim, arith}
+use Rattle.cal_kthread.proofs.Common.{◌≡◌, ℕ, zero, suc, ◌+◌, ◌-◌, ◌<◌, ◌≤◌, nat_eq, List, [], ◌∷◌, ◌++◌, map, length, take, drop, sym, refl, ap, ◌∙◌, subst, ⊎_elim, arith, some, some-ne-none, get_elem?, at_map, at_snoc, SenderView, ObserverView, Links, IsLinked, StoleNothing, unlinked, numbers_at, shares_at, thieves_of, AreOpened, Each, one_if, QueueId, Place, IsTeam, lent, lent_to, thief_place, KernelView, IsFresh, Source, weigh}
 use native.Mathlib.Decide.{ℕ_discrete}
-use mathlib.Core.Option.{some, some-ne-none}
-use lib.ListN.{get_elem?}
-use Rattle.crossbeam_deque.proofs.Lists.{at_map, at_snoc}
-use Rattle.cal_command.specs.Rings.{SenderView}
 use Rattle.cal_machine.specs.Tasks.{first_thread, task_at}
 use Rattle.cal_machine.specs.declared.task.Task.{Task}
-use Rattle.cal_signal.specs.Ends.{ObserverView}
-use Rattle.cal_kthread.specs.Team.Linking.{Links, IsLinked, StoleNothing, unlinked, numbers_at, shares_at, thieves_of}
-use Rattle.cal_kthread.specs.Team.Opening.{AreOpened}
-use Rattle.cal_kthread.specs.Places.{Each, one_if}
-use Rattle.cal_kthread.specs.Queue.{QueueId}
-use Rattle.cal_kthread.specs.Team.{Place, IsTeam, lent, lent_to, thief_place}
-use Rattle.cal_kthread.specs.Turn.Thread.{KernelView, IsFresh}
-use Rattle.cal_kthread.specs.declared.turn.sources.Source.{Source}
-use Rattle.cal_kthread.specs.Queue.Rule.{weigh}
 use Rattle.cal_kthread.proofs.ListSums.{map-append, map-at, same-through, at-get_or, within}
 use Rattle.cal_machine.proofs.ThreadNumbers.{first_next}
 use Rattle.cal_signal.proofs.Parting.{at_grown}

@@ -1,9 +1,6 @@
 -- Round by round each thread of a task gets its thieves.
-use Rattle.std.proofs.Common.{◌≡◌, ◌≢◌, ℕ, zero, suc, ◌+◌, ◌-◌, ◌<◌, ◌≤◌, ◌⊎◌, if◌then◌else◌, List, [], ◌∷◌, ◌++◌, sym, ap, ◌∙◌, subst, inl, inr, ⊎_elim, arith}
-use Rattle.std.proofs.lemmas.Bool.{lt-ltb, le-ltb}
+use Rattle.cal_kthread.proofs.Common.{◌≡◌, ◌≢◌, ℕ, zero, suc, ◌+◌, ◌-◌, ◌<◌, ◌≤◌, ◌⊎◌, if◌then◌else◌, List, [], ◌∷◌, ◌++◌, sym, ap, ◌∙◌, subst, inl, inr, ⊎_elim, arith, lt-ltb, le-ltb, Lends, IsLinked, wrapped, next_threads, numbers_at, shares_at, KernelView}
 use native.Mathlib.Decide.{ℕ_discrete, dec_le}
-use Rattle.cal_kthread.specs.Team.Linking.{Lends, IsLinked, wrapped, next_threads, numbers_at, shares_at}
-use Rattle.cal_kthread.specs.Turn.Thread.{KernelView}
 
 pub wraps : (count n : ℕ) → ((n < count) × (wrapped count n ≡ n)) ⊎ ((count ≤ n) × (wrapped count n ≡ n - count))
 wraps count n = elim (dec_le count n) [

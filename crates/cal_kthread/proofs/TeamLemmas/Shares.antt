@@ -1,13 +1,5 @@
 -- A thief that gives its share back leaves a team.
-use Rattle.std.proofs.Common.{◌≡◌, ◌≢◌, ℕ, ◌+◌, nat_eq, List, [], ◌∷◌, ◌++◌, set, sym, refl, ap, ◌∙◌, subst, ⊎_elim, arith}
-use Rattle.std.proofs.lemmas.Bool.{eq-eqb, ne_eqb}
-use mathlib.Core.Option.{some}
-use lib.ListN.{get_elem?}
-use Rattle.crossbeam_deque.proofs.Lists.{at_set, at_longer}
-use Rattle.cal_kthread.specs.Places.{Each, one_if}
-use Rattle.cal_kthread.specs.Queue.{QueueId}
-use Rattle.cal_kthread.specs.Queue.Rule.{weigh}
-use Rattle.cal_kthread.specs.Team.{Place, IsTeam, lent, lent_to, queues_of}
+use Rattle.cal_kthread.proofs.Common.{◌≡◌, ◌≢◌, ℕ, ◌+◌, nat_eq, List, [], ◌∷◌, ◌++◌, set, sym, refl, ap, ◌∙◌, subst, ⊎_elim, arith, eq-eqb, ne_eqb, some, get_elem?, at_set, at_longer, Each, one_if, QueueId, weigh, Place, IsTeam, lent, lent_to, queues_of}
 use Rattle.cal_kthread.proofs.ListSums.{weigh-set, weigh-one-more, each-set, map-set-like}
 
 module _ (places : List Place) (k : ℕ) (p : Place) (kept : List (ℕ × QueueId)) (n : ℕ) (q : QueueId) (g : Place) where

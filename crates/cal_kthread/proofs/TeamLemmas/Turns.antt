@@ -1,19 +1,7 @@
 -- A turn keeps its thread's place in its team, its page and its ring: it changes no shares and no
 -- thieves.
-use Rattle.std.proofs.Common.{◌≡◌, ℕ, zero, suc, Bool, true, false, Option, Some, None, List, [], ◌∷◌, map, sym, refl, ap, ◌∙◌, subst}
-use Rattle.cal_machine.specs.declared.command.Command.{Command}
-use Rattle.cal_machine.specs.declared.request.Request.{Request}
-use Rattle.cal_command.specs.Rings.{RingId, TakerView}
-use Rattle.cal_signal.specs.Ends.{PublisherView}
-use Rattle.cal_kthread.specs.declared.turn.current.Current.{Current}
-use Rattle.cal_kthread.specs.declared.turn.sources.Source.{Source}
-use Rattle.cal_kthread.specs.declared.queue.waiting.Waiting.{Waiting}
-use Rattle.cal_kthread.specs.Queue.{QueueId, QueueView}
-use Rattle.cal_kthread.specs.Team.{IsTeam, Place, place_of, thief_place}
+use Rattle.cal_kthread.proofs.Common.{◌≡◌, ℕ, zero, suc, Bool, true, false, Option, Some, None, List, [], ◌∷◌, map, sym, refl, ap, ◌∙◌, subst, Command, Request, RingId, TakerView, PublisherView, Current, Source, Waiting, QueueId, QueueView, IsTeam, Place, place_of, thief_place, TurnOnAllIsTurn, TurnOnKeepsPlace, core_in_turn, does_work, provided_if, worked_if, turned_if, ThreadView, KernelView, Answers, arrived, taken, robbed, provided, worked_on, fronted}
 use Rattle.cal_kthread.specs.Team.Turns.{TurnKeepsPlace, SamePlaceKeepsTeam}
-use Rattle.cal_kthread.specs.Turn.OnCores.{TurnOnAllIsTurn, TurnOnKeepsPlace, core_in_turn, does_work, provided_if, worked_if, turned_if}
-use Rattle.cal_kthread.specs.Turn.Thread.{ThreadView, KernelView}
-use Rattle.cal_kthread.specs.Turn.{Answers, arrived, taken, robbed, provided, worked_on, fronted}
 use Rattle.cal_kthread.proofs.ListSums.{map-set-like}
 
 -- a thief that stole is at the same queue

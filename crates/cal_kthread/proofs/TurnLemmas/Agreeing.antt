@@ -1,25 +1,6 @@
 -- Each step of a turn keeps a thread and its journal in agreement.
-use Rattle.std.proofs.Common.{◌≡◌, ℕ, ◌+◌, ◌-◌, ◌<◌, min, Bool, true, false, nat_le, if◌then◌else◌, is_some, Option, Some, None, IfSome, List, [], ◌∷◌, ◌++◌, length, map, refl, sym, ap, subst, ◌∙◌, zero, suc, append-nil, arith}
-use Rattle.std.specs.Prelude.{option_to_list, option_map}
-use Rattle.std.proofs.lemmas.List.{length_push, map-append}
-use Rattle.cal_machine.specs.declared.command.Command.{Command}
-use Rattle.cal_machine.specs.declared.request.Request.{Request}
-use Rattle.cal_command.specs.Rings.{TakerView}
-use Rattle.cal_signal.specs.Ends.{PublisherView}
-use Rattle.cal_signal.specs.Pages.{IsPage, page_of, last_published}
-use Rattle.cal_signal.specs.Records.{MayFollow}
-use Rattle.cal_kthread.specs.declared.turn.current.Current.{Current}
-use Rattle.cal_kthread.specs.declared.journal.entry.Entry.{Entry}
-use Rattle.cal_kthread.specs.declared.journal.entry.Entry.TheVariants.{Arrived, Took, Stole, Served, Yielded}
-use Rattle.cal_kthread.specs.declared.turn.sources.Source.{Source}
-use Rattle.cal_kthread.specs.declared.queue.waiting.Waiting.{Waiting}
-use Rattle.cal_kthread.specs.Turn.Agreement.{IsJournalOf, HasServed, state_of, held, had_weight}
-use Rattle.cal_kthread.specs.Journal.{State, MayStand, changed_by, record_in, records_of, command_in, arrival_in, served_in, served_of, core_after}
-use Rattle.cal_signal.specs.Records.{running_word}
+use Rattle.cal_kthread.proofs.Common.{◌≡◌, ℕ, ◌+◌, ◌-◌, ◌<◌, min, Bool, true, false, nat_le, if◌then◌else◌, is_some, Option, Some, None, IfSome, List, [], ◌∷◌, ◌++◌, length, map, refl, sym, ap, subst, ◌∙◌, zero, suc, append-nil, arith, option_to_list, option_map, length_push, map-append, Command, Request, TakerView, PublisherView, IsPage, page_of, last_published, MayFollow, running_word, Current, Entry, Arrived, Took, Stole, Served, Yielded, Source, Waiting, IsJournalOf, HasServed, state_of, held, had_weight, State, MayStand, changed_by, record_in, records_of, command_in, arrival_in, served_in, served_of, core_after, weigh, QueueView, ThreadView}
 use Rattle.cal_signal.specs.declared.record.TheConstants.{MOST_MISSES}
-use Rattle.cal_kthread.specs.Queue.Rule.{weigh}
-use Rattle.cal_kthread.specs.Queue.{QueueView}
-use Rattle.cal_kthread.specs.Turn.Thread.{ThreadView}
 use Rattle.cal_kthread.specs.Turn as turn
 use Rattle.cal_kthread.proofs.JournalLemmas.OneEntryMore.{filter_map-push, state_after-push, each-push, page-push}
 use Rattle.cal_kthread.proofs.ListSums.{weigh-append}

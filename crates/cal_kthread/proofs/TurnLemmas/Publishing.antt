@@ -1,12 +1,6 @@
 -- The record of a turn is never refused.
-use Rattle.std.proofs.Common.{◌≡◌, ℕ, ◌<◌, ◌≤◌, Option, Some, None, IfSome, List, [], ◌∷◌, ◌++◌, refl, arith}
+use Rattle.cal_kthread.proofs.Common.{◌≡◌, ℕ, ◌<◌, ◌≤◌, Option, Some, None, IfSome, List, [], ◌∷◌, ◌++◌, refl, arith, Record, Chain, IsPage, last_published, last_from, page_of, IsShaped, MayFollow, zero_record, running_word, ThreadView, IsThread, shown}
 use Rattle.cal_machine.specs.declared.machine.TheConstants.{MOST_CORES}
-use Rattle.cal_signal.specs.declared.record.Record.{Record}
-use Rattle.cal_signal.specs.Pages.{Chain, IsPage, last_published, last_from, page_of}
-use Rattle.cal_signal.specs.Records.{IsShaped, MayFollow, zero_record}
-use Rattle.cal_signal.specs.Records.{running_word}
-use Rattle.cal_kthread.specs.Turn.Thread.{ThreadView, IsThread}
-use Rattle.cal_kthread.specs.Turn.{shown}
 
 running_bound : (core : Option ℕ) → IfSome core (λ c. c < MOST_CORES) → running_word core ≤ MOST_CORES
 running_bound None within = omega arith

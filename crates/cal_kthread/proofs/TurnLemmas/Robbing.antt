@@ -1,8 +1,5 @@
 -- One of the others is robbed.
-use Rattle.std.proofs.Common.{◌≡◌, ℕ, zero, suc, ◌<◌, List, [], ◌∷◌, ◌++◌, length, get_or, set, ap, refl, arith}
-use Rattle.cal_kthread.specs.declared.turn.sources.Source.{Source}
-use Rattle.cal_kthread.specs.declared.queue.waiting.Waiting.{Waiting}
-use Rattle.cal_kthread.specs.Turn.{robbed, number_at}
+use Rattle.cal_kthread.proofs.Common.{◌≡◌, ℕ, zero, suc, ◌<◌, List, [], ◌∷◌, ◌++◌, length, get_or, set, ap, refl, arith, Source, Waiting, robbed, number_at}
 
 -- the thread that was robbed, with what it was robbed of
 abbrev pub loser : Source → Waiting → Source

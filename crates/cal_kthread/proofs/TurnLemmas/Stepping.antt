@@ -1,17 +1,5 @@
 -- What a step makes of its fields is what its definition gives.
-use Rattle.std.proofs.Common.{◌≡◌, ℕ, ◌+◌, Option, Some, None, true, false, ◌&&◌, not, is_some, if◌then◌else◌, List, [], ◌∷◌, ◌++◌, length, ap, sym, ◌∙◌}
-use Rattle.std.proofs.lemmas.List.{length_push}
-use Rattle.cal_machine.specs.declared.command.Command.{Command}
-use Rattle.cal_command.specs.Rings.{TakerView}
-use Rattle.cal_kthread.specs.declared.turn.current.Current.{Current}
-use Rattle.cal_kthread.specs.declared.journal.entry.Entry.{Entry}
-use Rattle.cal_kthread.specs.declared.journal.entry.Entry.TheVariants.{Took, Stole}
-use Rattle.cal_kthread.specs.declared.turn.sources.Source.{Source}
-use Rattle.cal_kthread.specs.declared.queue.waiting.Waiting.{Waiting}
-use Rattle.cal_kthread.specs.Journal.{core_after}
-use Rattle.cal_kthread.specs.Queue.{QueueView}
-use Rattle.cal_kthread.specs.Turn.Thread.{ThreadView}
-use Rattle.cal_kthread.specs.Turn.{taken, provided, begins, without_next, current_after, queue_after, next_of, begun, robbed, number_at}
+use Rattle.cal_kthread.proofs.Common.{◌≡◌, ℕ, ◌+◌, Option, Some, None, true, false, ◌&&◌, not, is_some, if◌then◌else◌, List, [], ◌∷◌, ◌++◌, length, ap, sym, ◌∙◌, length_push, Command, TakerView, Current, Entry, Took, Stole, Source, Waiting, core_after, QueueView, ThreadView, taken, provided, begins, without_next, current_after, queue_after, next_of, begun, robbed, number_at}
 
 abbrev pub Stepped : Type 0
 Stepped = ThreadView × Option Entry

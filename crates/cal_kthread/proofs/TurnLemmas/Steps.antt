@@ -1,14 +1,5 @@
 -- The steps of a turn, one after the other.
-use Rattle.std.proofs.Common.{◌≡◌, ℕ, ◌<◌, Bool, true, false, Option, Some, IfSome, List, length, sym, ap, subst, ◌∙◌}
-use Rattle.cal_machine.specs.declared.request.Request.{Request}
-use Rattle.cal_signal.specs.Pages.{last_published}
-use Rattle.cal_signal.specs.Records.{MayFollow}
-use Rattle.cal_kthread.specs.declared.journal.entry.Entry.{Entry}
-use Rattle.cal_kthread.specs.declared.queue.waiting.Waiting.{Waiting}
-use Rattle.cal_kthread.specs.Turn.Agreement.{IsJournalOf}
-use Rattle.cal_kthread.specs.Turn.Thread.{ThreadView, KernelView}
-use Rattle.cal_kthread.specs.Turn.OnCores.{provided_if, worked_if, turned_if}
-use Rattle.cal_kthread.specs.Turn.{Answers, arrived, taken, fronted, shown, published, noted}
+use Rattle.cal_kthread.proofs.Common.{◌≡◌, ℕ, ◌<◌, Bool, true, false, Option, Some, IfSome, List, length, sym, ap, subst, ◌∙◌, Request, last_published, MayFollow, Entry, Waiting, IsJournalOf, ThreadView, KernelView, provided_if, worked_if, turned_if, Answers, arrived, taken, fronted, shown, published, noted}
 use Rattle.cal_kthread.proofs.TurnLemmas.Agreeing.{arrives, takes, provides, works, fronts, publishes}
 
 abbrev Stepped : Type 0

@@ -1,27 +1,6 @@
 -- What turns add to a journal.
-use Rattle.std.proofs.Common.{◌≡◌, ℕ, ◌+◌, ◌*◌, ◌≤◌, Bool, true, false, nat_le, if◌then◌else◌, Option, Some, None, IfSome, List, [], ◌∷◌, ◌++◌, length, map, length-append, refl, sym, ap, subst, ◌∙◌, append_assoc, append-nil, arith}
-use Rattle.std.specs.Prelude.{option_map, option_to_list}
-use Rattle.std.specs.List.{filter_map, cons_option}
-use Rattle.std.proofs.lemmas.List.{map-append}
+use Rattle.cal_kthread.proofs.Common.{◌≡◌, ℕ, ◌+◌, ◌*◌, ◌≤◌, Bool, true, false, nat_le, if◌then◌else◌, Option, Some, None, IfSome, List, [], ◌∷◌, ◌++◌, length, map, length-append, refl, sym, ap, subst, ◌∙◌, append_assoc, append-nil, arith, option_map, option_to_list, filter_map, cons_option, map-append, Command, Request, TakerView, PublisherView, Record, Current, Entry, Arrived, Served, Published, TurnEntries, Source, Waiting, arrival_in, arrivals_of, record_in, records_of, QueueView, ThreadView, KernelView, provided_if, worked_if, turned_if, Answers, arrived, taken, provided, worked_on, served, shown, noted, arrival, taking, theft, work, publication, entries_of, IsOneTurn, Given, AreTurns, OneTurnMore, TurnsAddUp}
 use Rattle.std.proofs.lemmas.List.Elements.{filter_map-append}
-use Rattle.cal_machine.specs.declared.command.Command.{Command}
-use Rattle.cal_machine.specs.declared.request.Request.{Request}
-use Rattle.cal_command.specs.Rings.{TakerView}
-use Rattle.cal_signal.specs.Ends.{PublisherView}
-use Rattle.cal_signal.specs.declared.record.Record.{Record}
-use Rattle.cal_kthread.specs.declared.turn.current.Current.{Current}
-use Rattle.cal_kthread.specs.declared.journal.entry.Entry.{Entry}
-use Rattle.cal_kthread.specs.declared.journal.entry.Entry.TheVariants.{Arrived, Served, Published}
-use Rattle.cal_kthread.specs.declared.turn.entries.TurnEntries.{TurnEntries}
-use Rattle.cal_kthread.specs.declared.turn.sources.Source.{Source}
-use Rattle.cal_kthread.specs.declared.queue.waiting.Waiting.{Waiting}
-use Rattle.cal_kthread.specs.Journal.{arrival_in, arrivals_of, record_in, records_of}
-use Rattle.cal_kthread.specs.Queue.{QueueView}
-use Rattle.cal_kthread.specs.Turn.Thread.{ThreadView, KernelView}
-use Rattle.cal_kthread.specs.Turn.OnCores.{provided_if, worked_if, turned_if}
-use Rattle.cal_kthread.specs.Turn.{Answers, arrived, taken, provided, worked_on, served, shown, noted}
-use Rattle.cal_kthread.specs.Turn.Entries.{arrival, taking, theft, work, publication, entries_of}
-use Rattle.cal_kthread.specs.Turn.Turns.{IsOneTurn, Given, AreTurns, OneTurnMore, TurnsAddUp}
 use Rattle.cal_kthread.proofs.TeamLemmas.Turns.{Kept, kept, unpublished}
 
 -- what a step puts into the journal is neither an arrival nor a publication

@@ -1,21 +1,12 @@
--- Journals entry by entry: parts of one, one entry more, and what a record shows of the entries
--- before it.
+-- Parts of a journal, and what a record shows of the entries before it.
 use Rattle.std.specs.Prelude.{◌≡◌, ℕ, zero, suc, Bool, true, false}
-use Rattle.std.specs.Prelude.{Some, IfSome, List, [], ◌∷◌, ◌++◌, length}
+use Rattle.std.specs.Prelude.{Some, List, [], ◌∷◌, length}
 use Rattle.std.specs.List.{filter, slice_get}
 use Rattle.cal_signal.specs.declared.record.Record.{Record}
 use Rattle.cal_signal.specs.Pages.{last_published, page_of}
-use Rattle.cal_signal.specs.Records.{MayFollow}
 use Rattle.cal_kthread.specs.declared.journal.entry.Entry.{Entry}
 use Rattle.cal_kthread.specs.declared.journal.entry.Entry.TheVariants.{Took, Yielded, Published}
-use Rattle.cal_kthread.specs.Journal.{IsJournal, MayStand, commands_of}
-use Rattle.cal_kthread.specs.Journal.{record_in, records_of, state_after}
-
--- An entry may come after these ones: it may stand there, and a record may follow the last one
--- before it.
-abbrev pub MayCome : List Entry → Entry → Type 0
-MayCome before entry = MayStand before entry
-    × IfSome (record_in entry) (λ rec. MayFollow (last_published (records_of before)) rec)
+use Rattle.cal_kthread.specs.Journal.{IsJournal, commands_of, records_of, state_after}
 
 -- of n publications those that are still to come after this entry
 abbrev pub still_after : Entry → ℕ → ℕ
@@ -42,22 +33,6 @@ is_step _ = false
 
 abbrev pub steps_of : List Entry → List Entry
 steps_of = filter is_step
-
--- The law of one entry: a journal's entry may come after those before it, which are a journal; and
--- an entry that may come after a journal makes one.
-abbrev pub JournalByEntries : Type 0
-JournalByEntries = (before : List Entry) (entry : Entry)
-    → (IsJournal (before ++ entry ∷ []) → IsJournal before × MayCome before entry)
-    × (IsJournal before → MayCome before entry → IsJournal (before ++ entry ∷ []))
-
--- The law of parts: the front of a journal is one, and each entry of it may come after those before
--- it.
-abbrev pub FrontIsJournal : Type 0
-FrontIsJournal = (front rest : List Entry) → IsJournal (front ++ rest) → IsJournal front
-
-abbrev pub EachMayCome : Type 0
-EachMayCome = (before : List Entry) (entry : Entry) (after : List Entry) →
-    IsJournal (before ++ entry ∷ after) → MayCome before entry
 
 -- The law of what a record shows: the record at place n of the page has as `taken` how many
 -- commands were taken up to the n-th publication; and of those entries it is the last record.

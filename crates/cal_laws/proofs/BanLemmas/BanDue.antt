@@ -1,25 +1,9 @@
 -- When a ban is due, and why a core is taken for one, in words of their own.
-use Rattle.std.proofs.Common.{◌≡◌, ◌≢◌, ℕ, ◌+◌, ◌-◌, ◌<◌, true, not, ◌&&◌, eqb, ltb, List, [], ◌∷◌, ◌++◌, Some, refl, sym, ap, ◌∙◌, subst, arith}
-use Rattle.std.proofs.lemmas.Bool.{ltb-true, eqb-true, eqb-false, and_parts, not-true}
-use Rattle.std.proofs.lemmas.Option.{cond_some}
-use Rattle.cal_signal.specs.declared.record.Record.{Record}
-use Rattle.cal_machine.specs.Machine.{sibling_of}
-use Rattle.cal_machine.specs.TableTasks.{owner_of, request_of, is_latency_critical}
-use Rattle.cal_policy.specs.declared.history.action.Action.{Action}
-use Rattle.cal_policy.specs.declared.history.action.Action.TheVariants.{Ban}
+use Rattle.cal_laws.proofs.Common.{◌≡◌, ◌≢◌, ℕ, ◌+◌, ◌-◌, ◌<◌, true, not, ◌&&◌, eqb, ltb, List, [], ◌∷◌, ◌++◌, Some, refl, sym, ap, ◌∙◌, subst, arith, ltb-true, eqb-true, eqb-false, and_parts, not-true, cond_some, Record, sibling_of, owner_of, request_of, is_latency_critical, Action, Ban, Holder, holder_of, is_banned, is_held, is_over, Setting, so_far, kept_now, has_room, runs_too_long, may_be_emptied, too_long_on, may_ban_beside, ActionIsOneMore, IsOverWithRoom, MayBeEmpty, IsDue, IsForBan, some_then}
 use Rattle.cal_policy.specs.declared.board.holders.Placement as placements
-use Rattle.cal_policy.specs.declared.board.holders.Holder.{Holder}
 use Rattle.cal_policy.specs.declared.board.holders.Holder.TheVariants as holders
-use Rattle.cal_policy.specs.History.{holder_of, is_banned}
-use Rattle.cal_policy.specs.Board.Counts.{is_held, is_over}
-use Rattle.cal_policy.specs.Setting.{Setting, so_far, kept_now, has_room}
-use Rattle.cal_policy.specs.Pass.Bans.{runs_too_long, may_be_emptied, too_long_on, may_ban_beside}
-use Rattle.cal_policy.specs.Laws.{ActionIsOneMore}
 use Rattle.cal_policy.specs.Pass.Made as made
-use Rattle.cal_laws.specs.Bans.{IsOverWithRoom, MayBeEmpty, IsDue}
-use Rattle.cal_laws.specs.Cause.{IsForBan}
 use Rattle.cal_laws.proofs.ExclusionLemmas.SameHolders.{SameHolders, holders_after, held_same}
-use Rattle.cal_machine.proofs.Booleans.{some_then}
 
 -- what a record shows that runs too long
 record ShowsTooLong (now : ℕ) (rec : Record) (c limit : ℕ) : Type 0 where

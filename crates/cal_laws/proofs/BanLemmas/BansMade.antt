@@ -1,27 +1,7 @@
 -- Where the third part of a pass ends: what is made before it, and what comes after.
-use Rattle.std.proofs.Common.{◌≡◌, ℕ, ◌<◌, ◌≤◌, zero, suc, Bool, true, false, cond, ◌&&◌, nat_lt, List, [], ◌∷◌, ◌++◌, length, take, Option, Some, None, refl, sym, ap, ◌∙◌, arith, append_assoc, subst, length-append}
-use Rattle.std.specs.List.{slice_get}
-use Rattle.cal_machine.specs.Machine.{sibling_of}
-use Rattle.cal_machine.specs.TableTasks.{is_latency_critical, thread_of}
+use Rattle.cal_laws.proofs.Common.{◌≡◌, ℕ, ◌<◌, ◌≤◌, zero, suc, Bool, true, false, cond, ◌&&◌, nat_lt, List, [], ◌∷◌, ◌++◌, length, take, Option, Some, None, refl, sym, ap, ◌∙◌, arith, append_assoc, subst, length-append, slice_get, sibling_of, is_latency_critical, thread_of, Action, Free, Unban, Revoke, Grant, BannedFor, Candidate, CoreClass, class_number, is_idle, in_turn, holder_of, ban_of, is_held, lowest_below, Setting, so_far, kept_now, shows_left, free_at, frees, still_shows, unban_for, unban_at, unbans, ban_due, ban_for, bans_at, bans, victim_of, core_to_lose, cut_at, cut_of, rise_of, is_capped, bandwidth_part, is_congested, may_book, thread_choice, choice_of, grant_of, grant_at, grant_of_kind_at, grants_of_kind, pass_of, Point, IsPoint, setting_at, made_at}
 use Rattle.cal_machine.specs.declared.task.Kind.TheVariants as kinds
-use Rattle.cal_policy.specs.declared.history.action.Action.{Action}
-use Rattle.cal_policy.specs.declared.history.action.Action.TheVariants.{Free, Unban, Revoke, Grant}
 use Rattle.cal_policy.specs.declared.history.action.Cause.TheVariants as causes
-use Rattle.cal_policy.specs.declared.board.bans.BannedFor.{BannedFor}
-use Rattle.cal_policy.specs.declared.pass.choice.Candidate.{Candidate}
-use Rattle.cal_policy.specs.declared.history.core_class.CoreClass.{CoreClass}
-use Rattle.cal_policy.specs.History.CoreClasses.{class_number, is_idle}
-use Rattle.cal_policy.specs.History.Lists.{in_turn}
-use Rattle.cal_policy.specs.History.{holder_of, ban_of}
-use Rattle.cal_policy.specs.Board.Counts.{is_held}
-use Rattle.cal_policy.specs.Pass.Choice.{lowest_below}
-use Rattle.cal_policy.specs.Setting.{Setting, so_far, kept_now}
-use Rattle.cal_policy.specs.Pass.Frees.{shows_left, free_at, frees}
-use Rattle.cal_policy.specs.Pass.Bans.{still_shows, unban_for, unban_at, unbans, ban_due, ban_for, bans_at, bans}
-use Rattle.cal_policy.specs.Pass.Bandwidth.{victim_of, core_to_lose, cut_at, cut_of, rise_of, is_capped, bandwidth_part}
-use Rattle.cal_policy.specs.Pass.Grants.{is_congested, may_book, thread_choice, choice_of, grant_of, grant_at, grant_of_kind_at, grants_of_kind}
-use Rattle.cal_policy.specs.Pass.{pass_of}
-use Rattle.cal_laws.specs.Point.{Point, IsPoint, setting_at, made_at}
 use Rattle.cal_laws.specs.DueBans.{is_up_to_bans, BansAreMade, ComesToBans}
 use Rattle.cal_laws.proofs.PointLemmas.PassKeeps.{unbanned_of}
 

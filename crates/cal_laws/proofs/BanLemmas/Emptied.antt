@@ -1,36 +1,10 @@
 -- A banned core is held only between its ban and its revocation.
-use Rattle.std.proofs.Common.{◌≡◌, ℕ, ◌+◌, ◌≤◌, zero, suc, Bool, true, false, cond, eqb, List, [], ◌∷◌, ◌++◌, length, take, Option, Some, None, refl, sym, ap, ◌∙◌, arith, append_assoc, subst, ⊎_elim}
-use Rattle.std.specs.List.{slice_get}
-use Rattle.std.specs.Option.{unwrap_or, is_some}
-use Rattle.std.proofs.Math.Seq.{take-length}
-use Rattle.std.proofs.lemmas.Bool.{eqb-true, both_ways}
-use Rattle.std.proofs.lemmas.List.{append-nil, take_all}
-use Rattle.std.proofs.lemmas.Option.{slice_get_cases, slice_get_within}
-use Rattle.cal_machine.specs.Machine.{sibling_of}
-use Rattle.cal_machine.specs.Table.{Table}
-use Rattle.cal_policy.specs.declared.history.action.Action.{Action}
-use Rattle.cal_policy.specs.declared.history.action.Action.TheVariants.{Free, Unban, Ban, Revoke, Cap, Grant}
-use Rattle.cal_policy.specs.declared.history.action.Cause.{Cause}
+use Rattle.cal_laws.proofs.Common.{◌≡◌, ℕ, ◌+◌, ◌≤◌, zero, suc, Bool, true, false, cond, eqb, List, [], ◌∷◌, ◌++◌, length, take, Option, Some, None, refl, sym, ap, ◌∙◌, arith, append_assoc, subst, ⊎_elim, slice_get, unwrap_or, is_some, take-length, eqb-true, both_ways, append-nil, take_all, slice_get_cases, slice_get_within, sibling_of, Table, Action, Free, Unban, Ban, Revoke, Cap, Grant, Cause, PassEntry, BannedFor, Holder, actions_of, holder_of, holder_made, last_placement, left_by, placed, ban_of, ban_made, is_banned, is_held, Setting, setting_of, so_far, kept_now, shows_left, free_at, frees, still_shows, unban_for, unban_at, ban_due, ban_for, pass_of, IsLegal, EachAfter, ActionIsOneMore, ChosenIsOfLeastClass, Point, IsPoint, setting_at, made_at, actions_at, next_at, NoneHeld, IsJustBanned, each_at, so_far_push}
 use Rattle.cal_policy.specs.declared.history.action.Cause.TheVariants as causes
-use Rattle.cal_policy.specs.declared.history.entry.PassEntry.{PassEntry}
-use Rattle.cal_policy.specs.declared.board.bans.BannedFor.{BannedFor}
 use Rattle.cal_policy.specs.declared.board.holders.Placement as placements
-use Rattle.cal_policy.specs.declared.board.holders.Holder.{Holder}
 use Rattle.cal_policy.specs.declared.board.holders.Holder.TheVariants as holders
-use Rattle.cal_policy.specs.History.{actions_of, holder_of, holder_made, last_placement, left_by, placed, ban_of, ban_made, is_banned}
-use Rattle.cal_policy.specs.Board.Counts.{is_held}
-use Rattle.cal_policy.specs.Setting.{Setting, setting_of, so_far, kept_now}
-use Rattle.cal_policy.specs.Pass.Frees.{shows_left, free_at, frees}
-use Rattle.cal_policy.specs.Pass.Bans.{still_shows, unban_for, unban_at, ban_due, ban_for}
-use Rattle.cal_policy.specs.Pass.{pass_of, IsLegal}
-use Rattle.cal_policy.specs.Pass.Made.{EachAfter}
-use Rattle.cal_policy.specs.Laws.{ActionIsOneMore, ChosenIsOfLeastClass}
-use Rattle.cal_laws.specs.Point.{Point, IsPoint, setting_at, made_at, actions_at, next_at}
-use Rattle.cal_laws.specs.Bans.{NoneHeld, IsJustBanned}
 use Rattle.cal_laws.proofs.PointLemmas.PassKeeps.{IsKeptInPass, nothing_more, in_turn_keeps, unbanned_of, pass_keeps}
 use Rattle.cal_laws.proofs.PointLemmas.EachAction.{actions_more}
-use Rattle.cal_policy.proofs.ListLemmas.EachAfter.{each_at}
-use Rattle.cal_policy.proofs.PassLemmas.Fits.{so_far_push}
 
 -- an action that leaves no banned core held: it bans no held core and grants no banned one
 abbrev pub Spares : List Action → Action → Type 0

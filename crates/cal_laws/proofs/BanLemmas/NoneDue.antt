@@ -1,31 +1,9 @@
 -- After the third part of a pass no ban is due.
-use Rattle.std.proofs.Common.{◌≡◌, ◌≢◌, ℕ, ◌+◌, ◌-◌, ◌<◌, ◌≤◌, zero, suc, Bool, true, false, not, ◌&&◌, cond, eqb, ltb, List, [], ◌∷◌, ◌++◌, Option, Some, None, refl, sym, ap, ◌∙◌, arith, append_assoc, subst, ⊎_elim}
-use Rattle.std.specs.Option.{unwrap_or, is_some}
-use Rattle.std.proofs.lemmas.Bool.{eqb-true, eq-eqb, and_from, both_ways, cases_lt}
-use Rattle.std.proofs.lemmas.Bool.Decides.{nat_tests}
-use Rattle.std.proofs.lemmas.List.{append-nil}
-use Rattle.cal_signal.specs.declared.record.Record.{Record}
-use Rattle.cal_machine.specs.Machine.{sibling_of}
-use Rattle.cal_machine.specs.TableTasks.{owner_of, request_of, is_latency_critical}
-use Rattle.cal_machine.proofs.Booleans.{unwrap_if}
-use Rattle.cal_policy.specs.declared.history.action.Action.{Action}
-use Rattle.cal_policy.specs.declared.history.action.Action.TheVariants.{Ban, Revoke}
-use Rattle.cal_policy.specs.declared.history.action.Cause.{Cause}
+use Rattle.cal_laws.proofs.Common.{◌≡◌, ◌≢◌, ℕ, ◌+◌, ◌-◌, ◌<◌, ◌≤◌, zero, suc, Bool, true, false, not, ◌&&◌, cond, eqb, ltb, List, [], ◌∷◌, ◌++◌, Option, Some, None, refl, sym, ap, ◌∙◌, arith, append_assoc, subst, ⊎_elim, unwrap_or, is_some, eqb-true, eq-eqb, and_from, both_ways, cases_lt, nat_tests, append-nil, Record, sibling_of, owner_of, request_of, is_latency_critical, unwrap_if, Action, Ban, Revoke, Cause, BannedFor, Holder, in_turn, holder_of, left_by, last_placement, ban_of, is_banned, is_held, is_over, held_by, Setting, so_far, kept_now, has_room, runs_too_long, may_be_emptied, too_long_on, may_ban_beside, ban_due, ban_for, bans_at, ActionIsOneMore, so_far_push, Point, IsPoint, setting_at, actions_at, MayBeEmpty, RunsTooLong, IsDue, BannedAreEmptiedAtOnce}
 use Rattle.cal_policy.specs.declared.history.action.Cause.TheVariants as causes
-use Rattle.cal_policy.specs.declared.board.bans.BannedFor.{BannedFor}
 use Rattle.cal_policy.specs.declared.board.holders.Placement as placements
-use Rattle.cal_policy.specs.declared.board.holders.Holder.{Holder}
 use Rattle.cal_policy.specs.declared.board.holders.Holder.TheVariants as holders
-use Rattle.cal_policy.specs.History.Lists.{in_turn}
-use Rattle.cal_policy.specs.History.{holder_of, left_by, last_placement, ban_of, is_banned}
-use Rattle.cal_policy.specs.Board.Counts.{is_held, is_over, held_by}
-use Rattle.cal_policy.specs.Setting.{Setting, so_far, kept_now, has_room}
-use Rattle.cal_policy.specs.Pass.Bans.{runs_too_long, may_be_emptied, too_long_on, may_ban_beside, ban_due, ban_for, bans_at}
-use Rattle.cal_policy.specs.Laws.{ActionIsOneMore}
-use Rattle.cal_policy.proofs.PassLemmas.Fits.{so_far_push}
 use Rattle.cal_policy.proofs.PassLemmas.Pairs.{so_far_more, after_ban}
-use Rattle.cal_laws.specs.Point.{Point, IsPoint, setting_at, actions_at}
-use Rattle.cal_laws.specs.Bans.{MayBeEmpty, RunsTooLong, IsDue, BannedAreEmptiedAtOnce}
 use Rattle.cal_laws.specs.DueBans.{BansAreMade, NoBanIsLeftDue}
 use Rattle.cal_laws.proofs.CapLemmas.Held.{held_revoked}
 use Rattle.cal_laws.proofs.ExclusionLemmas.SameHolders.{held_same}

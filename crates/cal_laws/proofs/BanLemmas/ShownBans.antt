@@ -1,28 +1,9 @@
 -- After a pass each ban is still shown.
-use Rattle.std.proofs.Common.{◌≡◌, ◌⊎◌, inl, inr, ℕ, ◌+◌, ◌<◌, zero, suc, Bool, true, false, cond, eqb, List, [], ◌∷◌, ◌++◌, take, Option, Some, None, refl, sym, ap, ◌∙◌, arith, append_assoc, subst, ⊎_elim}
-use Rattle.std.specs.Option.{unwrap_or}
-use Rattle.std.proofs.lemmas.Bool.{eqb-true, eq-eqb, and_parts, cases_lt}
-use Rattle.std.proofs.lemmas.List.{append-nil, take_all}
-use Rattle.std.proofs.lemmas.Option.{slice_get_cases}
-use Rattle.cal_machine.specs.Machine.{sibling_of}
-use Rattle.cal_policy.specs.declared.history.action.Action.{Action}
-use Rattle.cal_policy.specs.declared.history.action.Action.TheVariants.{Unban, Ban, Revoke, Cap, Grant}
+use Rattle.cal_laws.proofs.Common.{◌≡◌, ◌⊎◌, inl, inr, ℕ, ◌+◌, ◌<◌, zero, suc, Bool, true, false, cond, eqb, List, [], ◌∷◌, ◌++◌, take, Option, Some, None, refl, sym, ap, ◌∙◌, arith, append_assoc, subst, ⊎_elim, unwrap_or, eqb-true, eq-eqb, and_parts, cases_lt, append-nil, take_all, slice_get_cases, sibling_of, Action, Unban, Ban, Revoke, Cap, Grant, BannedFor, in_turn, holder_of, ban_of, ban_made, is_held, Setting, so_far, kept_now, frees, still_shows, unban_for, unban_at, ban_due, ban_for, pass_of, ActionIsOneMore, ChosenIsOfLeastClass, Point, IsPoint, setting_at, actions_at, next_at, IsShown, so_far_push}
 use Rattle.cal_policy.specs.declared.history.action.Cause.TheVariants as causes
-use Rattle.cal_policy.specs.declared.board.bans.BannedFor.{BannedFor}
-use Rattle.cal_policy.specs.History.Lists.{in_turn}
-use Rattle.cal_policy.specs.History.{holder_of, ban_of, ban_made}
-use Rattle.cal_policy.specs.Board.Counts.{is_held}
-use Rattle.cal_policy.specs.Setting.{Setting, so_far, kept_now}
-use Rattle.cal_policy.specs.Pass.Frees.{frees}
-use Rattle.cal_policy.specs.Pass.Bans.{still_shows, unban_for, unban_at, ban_due, ban_for}
-use Rattle.cal_policy.specs.Pass.{pass_of}
-use Rattle.cal_policy.specs.Laws.{ActionIsOneMore, ChosenIsOfLeastClass}
-use Rattle.cal_laws.specs.Point.{Point, IsPoint, setting_at, actions_at, next_at}
-use Rattle.cal_laws.specs.Bans.{IsShown}
 use Rattle.cal_laws.proofs.BanLemmas.BanDue.{is_due}
 use Rattle.cal_laws.proofs.PointLemmas.PassKeeps.{IsKeptInPass, nothing_more, pass_keeps}
 use Rattle.cal_machine.proofs.Siblings.{sibling_back}
-use Rattle.cal_policy.proofs.PassLemmas.Fits.{so_far_push}
 
 -- each ban of the cores below n is shown
 record AreShown (s : Setting) (acts : List Action) (n : ℕ) : Type 0 where

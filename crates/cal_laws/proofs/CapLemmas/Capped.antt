@@ -1,29 +1,7 @@
 -- A best-effort task holds no more than its cap, but for the moment between its cut and the
 -- revocation.
-use Rattle.std.proofs.Common.{◌≡◌, ℕ, ◌+◌, ◌-◌, ◌≤◌, ◌⊎◌, zero, suc, Bool, true, false, cond, eqb, nat_lt, List, [], ◌∷◌, ◌++◌, length, take, Some, None, refl, sym, ap, ◌∙◌, arith, inl, inr, subst, append_assoc, ⊎_elim, length-append}
-use Rattle.std.specs.List.{slice_get}
-use Rattle.std.proofs.Math.Seq.{take-length}
-use Rattle.std.proofs.lemmas.Bool.{and_parts, eqb-true}
-use Rattle.std.proofs.lemmas.List.{append-nil}
-use Rattle.std.proofs.lemmas.Option.{slice_get_cases, slice_get_within}
-use Rattle.cal_machine.specs.Laws.{ThreadsAreOfTheirTask}
-use Rattle.cal_machine.specs.Table.{Table, IsTable}
-use Rattle.cal_machine.specs.TableTasks.{owner_of, is_latency_critical}
-use Rattle.cal_policy.specs.declared.history.action.Action.{Action}
-use Rattle.cal_policy.specs.declared.history.action.Action.TheVariants.{Free, Unban, Ban, Revoke, Cap, Grant}
+use Rattle.cal_laws.proofs.Common.{◌≡◌, ℕ, ◌+◌, ◌-◌, ◌≤◌, ◌⊎◌, zero, suc, Bool, true, false, cond, eqb, nat_lt, List, [], ◌∷◌, ◌++◌, length, take, Some, None, refl, sym, ap, ◌∙◌, arith, inl, inr, subst, append_assoc, ⊎_elim, length-append, slice_get, take-length, and_parts, eqb-true, append-nil, slice_get_cases, slice_get_within, ThreadsAreOfTheirTask, Table, IsTable, owner_of, is_latency_critical, Action, Free, Unban, Ban, Revoke, Cap, Grant, PassEntry, actions_of, holder_of, count_below, is_held_for, held_by, cap_of, Setting, setting_of, so_far, is_held_with_room, can_lose, IsLegal, IsRevokedForBandwidth, IsCapCut, IsCapRise, IsSound, LegalIsSound, ActionIsOneMore, ChosenHasWaitedLongest, Point, IsPoint, setting_at, made_at, MayBookMore, held_le_booked, take_next}
 use Rattle.cal_policy.specs.declared.history.action.Cause.TheVariants as causes
-use Rattle.cal_policy.specs.declared.history.entry.PassEntry.{PassEntry}
-use Rattle.cal_policy.specs.History.{actions_of, holder_of}
-use Rattle.cal_policy.specs.Pass.Choice.{count_below}
-use Rattle.cal_policy.specs.Board.Counts.{is_held_for, held_by, cap_of}
-use Rattle.cal_policy.specs.Setting.{Setting, setting_of, so_far, is_held_with_room}
-use Rattle.cal_policy.specs.Pass.Bandwidth.{can_lose}
-use Rattle.cal_policy.specs.Pass.{IsLegal}
-use Rattle.cal_policy.specs.Pass.Made.{IsRevokedForBandwidth, IsCapCut, IsCapRise}
-use Rattle.cal_policy.specs.Pass.Steady.{IsSound}
-use Rattle.cal_policy.specs.Laws.{LegalIsSound, ActionIsOneMore, ChosenHasWaitedLongest}
-use Rattle.cal_laws.specs.Point.{Point, IsPoint, setting_at, made_at}
-use Rattle.cal_laws.specs.Limits.{MayBookMore}
 use Rattle.cal_laws.proofs.ListLemmas.Below.{highest_is}
 use Rattle.cal_laws.proofs.ExclusionLemmas.SameHolders.{held_same}
 use Rattle.cal_laws.proofs.CapLemmas.Followed.{AllFollowed, pass_followed, revocation_next}
@@ -31,8 +9,6 @@ use Rattle.cal_laws.proofs.ChoiceLemmas.Granted.{grant_facts, books}
 use Rattle.cal_laws.proofs.CapLemmas.Held.{held_freed, held_revoked, held_lost, held_granted, held_elsewhere, cap_same, cap_new}
 use Rattle.cal_laws.proofs.PointLemmas.EachAction.{actions_more}
 use Rattle.cal_laws.proofs.CauseLemmas.Revoked.{takes_held, after_cap}
-use Rattle.cal_policy.proofs.PassLemmas.Fits.{held_le_booked}
-use Rattle.cal_machine.proofs.Last.{take_next}
 
 abbrev pub Within : Table → List Action → ℕ → Type 0
 Within table x t = held_by table x t ≤ cap_of table x t

@@ -1,14 +1,5 @@
 -- Why a cap is set, in words of its own.
-use Rattle.std.proofs.Common.{◌≡◌, ℕ, ◌<◌, ◌⊎◌, true, not, ltb, List, length, sym, subst, arith, inl, inr}
-use Rattle.std.proofs.lemmas.Bool.{ltb-true, ltb-false, lt-ltb, and_parts, and_from, not-true, not_from_false}
-use Rattle.cal_machine.specs.Table.{IsTable}
-use Rattle.cal_machine.specs.TableTasks.{limit_of, is_latency_critical}
-use Rattle.cal_policy.specs.declared.history.action.Action.{Action}
-use Rattle.cal_policy.specs.Board.Counts.{cap_of}
-use Rattle.cal_policy.specs.Setting.{Setting, so_far}
-use Rattle.cal_policy.specs.Pass.Bandwidth.{is_capped}
-use Rattle.cal_policy.specs.Laws.{VictimHasMostMisses}
-use Rattle.cal_policy.specs.Pass.Made.{IsCapCut, IsCapRise}
+use Rattle.cal_laws.proofs.Common.{◌≡◌, ℕ, ◌<◌, ◌⊎◌, true, not, ltb, List, length, sym, subst, arith, inl, inr, ltb-true, ltb-false, lt-ltb, and_parts, and_from, not-true, not_from_false, IsTable, limit_of, is_latency_critical, Action, cap_of, Setting, so_far, is_capped, VictimHasMostMisses, IsCapCut, IsCapRise}
 use Rattle.cal_laws.specs.Caps.{IsVictimsCap, IsCapped, IsRaisedCap}
 use Rattle.cal_laws.proofs.ListLemmas.Below.{lowest_is}
 use Rattle.cal_laws.proofs.CauseLemmas.Losing.{most_misses, has_misses}

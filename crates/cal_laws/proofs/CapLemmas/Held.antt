@@ -1,20 +1,8 @@
 -- How one more action changes what a task holds and its cap.
-use Rattle.std.proofs.Common.{◌≡◌, ℕ, ◌+◌, ◌<◌, ◌≤◌, Bool, true, false, cond, eqb, List, [], ◌∷◌, ◌++◌, Option, Some, None, refl, sym, ap, ◌∙◌, arith}
-use Rattle.std.specs.Option.{unwrap_or, option_or}
-use Rattle.std.proofs.lemmas.Bool.Decides.{nat_tests}
-use Rattle.cal_machine.specs.Table.{Table}
-use Rattle.cal_machine.specs.TableTasks.{owner_of, limit_of}
-use Rattle.cal_policy.specs.declared.history.action.Action.{Action}
-use Rattle.cal_policy.specs.declared.history.action.Action.TheVariants.{Free, Revoke, Grant}
-use Rattle.cal_policy.specs.declared.history.action.Cause.{Cause}
+use Rattle.cal_laws.proofs.Common.{◌≡◌, ℕ, ◌+◌, ◌<◌, ◌≤◌, Bool, true, false, cond, eqb, List, [], ◌∷◌, ◌++◌, Option, Some, None, refl, sym, ap, ◌∙◌, arith, unwrap_or, option_or, nat_tests, Table, owner_of, limit_of, Action, Free, Revoke, Grant, Cause, Holder, holder_of, left_by, last_placement, placed, cap_made, last_cap, is_held_for, is_booked_for, held_by, cap_of, ActionIsOneMore, unwrap_if}
 use Rattle.cal_policy.specs.declared.board.holders.Placement as placements
-use Rattle.cal_policy.specs.declared.board.holders.Holder.{Holder}
 use Rattle.cal_policy.specs.declared.board.holders.Holder.TheVariants as holders
-use Rattle.cal_policy.specs.History.{holder_of, left_by, last_placement, placed, cap_made, last_cap}
-use Rattle.cal_policy.specs.Board.Counts.{is_held_for, is_booked_for, held_by, cap_of}
-use Rattle.cal_policy.specs.Laws.{ActionIsOneMore}
 use Rattle.cal_policy.proofs.ListLemmas.Counted.{count_less}
-use Rattle.cal_machine.proofs.Booleans.{unwrap_if}
 use Rattle.cal_policy.proofs.ListLemmas.Counted.{count_le_one, count_le}
 use Rattle.cal_policy.proofs.PassLemmas.Steady.{granted_holder}
 

@@ -1,14 +1,6 @@
 -- Each revocation is for what its cause says.
-use Rattle.std.proofs.Common.{ℕ, List}
-use Rattle.cal_machine.specs.Table.{IsTable}
-use Rattle.cal_policy.specs.declared.history.action.Action.{Action}
-use Rattle.cal_policy.specs.declared.history.action.Action.TheVariants.{Revoke}
-use Rattle.cal_policy.specs.declared.history.action.Cause.{Cause}
+use Rattle.cal_laws.proofs.Common.{ℕ, List, IsTable, Action, Revoke, Cause, Setting, ChosenIsOfLeastClass, VictimHasMostMisses, ActionIsOneMore, IsMade, HasCause}
 use Rattle.cal_policy.specs.declared.history.action.Cause.TheVariants as causes
-use Rattle.cal_policy.specs.Setting.{Setting}
-use Rattle.cal_policy.specs.Laws.{ChosenIsOfLeastClass, VictimHasMostMisses, ActionIsOneMore}
-use Rattle.cal_policy.specs.Pass.Made.{IsMade}
-use Rattle.cal_laws.specs.Cause.{HasCause}
 use Rattle.cal_laws.proofs.BanLemmas.BanDue.{ban_cause}
 use Rattle.cal_laws.proofs.CauseLemmas.Losing.{bandwidth_cause}
 use Rattle.cal_laws.proofs.CauseLemmas.Preempting.{task_cause}

@@ -1,23 +1,8 @@
 -- The task that loses a core to the bandwidth limit, and the core that it loses, in words of their
 -- own.
-use Rattle.std.proofs.Common.{◌≡◌, ℕ, ◌-◌, ◌<◌, ◌≤◌, true, not, ◌&&◌, eqb, List, [], ◌∷◌, ◌++◌, length, Option, Some, None, refl, sym, ap, ◌∙◌, subst, arith, ⊎_elim}
-use Rattle.std.specs.Option.{is_some}
-use Rattle.std.proofs.lemmas.Bool.{ltb-true, eqb-true, eq-eqb, and_parts, and_from, cond-true, cases_lt, not-true, not_from_false}
-use Rattle.std.proofs.lemmas.Option.{MatchOption-at_some, cond_some}
-use Rattle.cal_machine.specs.Table.{IsTable}
-use Rattle.cal_machine.specs.TableTasks.{owner_of, guaranteed_of, is_latency_critical}
-use Rattle.cal_policy.specs.declared.history.action.Action.{Action}
-use Rattle.cal_policy.specs.declared.history.action.Action.TheVariants.{Cap}
+use Rattle.cal_laws.proofs.Common.{◌≡◌, ℕ, ◌-◌, ◌<◌, ◌≤◌, true, not, ◌&&◌, eqb, List, [], ◌∷◌, ◌++◌, length, Option, Some, None, refl, sym, ap, ◌∙◌, subst, arith, ⊎_elim, is_some, ltb-true, eqb-true, eq-eqb, and_parts, and_from, cond-true, cases_lt, not-true, not_from_false, MatchOption-at_some, cond_some, IsTable, owner_of, guaranteed_of, is_latency_critical, Action, Cap, Holder, holder_of, is_held_for, held_by, Setting, so_far, has_room, is_held_with_room, can_lose, core_to_lose, task_misses, victim_rank, victim_of, HasMostMisses, VictimHasMostMisses, ActionIsOneMore, IsCut, IsRevokedForBandwidth, CanLose, IsCandidate, HasMisses, IsForBandwidth}
 use Rattle.cal_policy.specs.declared.pass.choice.Candidate as chosen
-use Rattle.cal_policy.specs.declared.board.holders.Holder.{Holder}
 use Rattle.cal_policy.specs.declared.board.holders.Holder.TheVariants as holders
-use Rattle.cal_policy.specs.History.{holder_of}
-use Rattle.cal_policy.specs.Board.Counts.{is_held_for, held_by}
-use Rattle.cal_policy.specs.Setting.{Setting, so_far, has_room, is_held_with_room}
-use Rattle.cal_policy.specs.Pass.Bandwidth.{can_lose, core_to_lose, task_misses, victim_rank, victim_of}
-use Rattle.cal_policy.specs.Laws.{HasMostMisses, VictimHasMostMisses, ActionIsOneMore}
-use Rattle.cal_policy.specs.Pass.Made.{IsCut, IsRevokedForBandwidth}
-use Rattle.cal_laws.specs.Cause.{CanLose, IsCandidate, HasMisses, IsForBandwidth}
 use Rattle.cal_laws.proofs.ListLemmas.Below.{highest_is, highest_found}
 use Rattle.cal_laws.proofs.ListLemmas.Counted.{count_some}
 use Rattle.cal_laws.proofs.CauseLemmas.Revoked.{nothing_guaranteed}

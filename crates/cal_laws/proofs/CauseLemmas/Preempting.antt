@@ -1,13 +1,5 @@
 -- Why a core is preempted for a task, in words of its own.
-use Rattle.std.proofs.Common.{ℕ, nat_lt, List, sym, subst}
-use Rattle.std.proofs.lemmas.Bool.{ltb-true, and_parts}
-use Rattle.cal_machine.specs.TableTasks.{limit_of}
-use Rattle.cal_policy.specs.declared.history.action.Action.{Action}
-use Rattle.cal_policy.specs.Board.Counts.{booked_by}
-use Rattle.cal_policy.specs.Setting.{Setting, so_far}
-use Rattle.cal_policy.specs.Laws.{ChosenIsOfLeastClass}
-use Rattle.cal_policy.specs.Pass.Made.{IsPreempted}
-use Rattle.cal_laws.specs.Cause.{IsForTask}
+use Rattle.cal_laws.proofs.Common.{ℕ, nat_lt, List, sym, subst, ltb-true, and_parts, limit_of, Action, booked_by, Setting, so_far, ChosenIsOfLeastClass, IsPreempted, IsForTask}
 use Rattle.cal_laws.proofs.ChoiceLemmas.Chosen.{least_class, least_possible}
 use Rattle.cal_laws.proofs.ChoiceLemmas.Classes.{of_its_class, preemptible_of}
 

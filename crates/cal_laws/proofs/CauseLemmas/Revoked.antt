@@ -1,42 +1,18 @@
 -- What stands where a core is revoked: a thread with room holds it, whose task holds more than it
 -- is guaranteed.
-use Rattle.std.proofs.Common.{◌≡◌, ℕ, ◌<◌, ◌⊎◌, Bool, true, false, ◌&&◌, not, cond, eqb, ltb, nat_lt, List, [], ◌∷◌, ◌++◌, length, Option, Some, None, refl, sym, ap, ◌∙◌, arith, inl, inr, subst, append_assoc, ⊎_elim}
-use Rattle.std.specs.Option.{MatchOption}
-use Rattle.std.proofs.lemmas.Bool.{and_parts, ltb-true, not-true, cases_lt}
-use Rattle.std.proofs.lemmas.List.{get_or_past}
-use Rattle.std.proofs.lemmas.List.Elements.{All-get_or}
-use Rattle.std.proofs.lemmas.Bool.Decides.{nat_tests}
-use Rattle.cal_machine.specs.Table.{Table, IsTable, IsTask}
+use Rattle.cal_laws.proofs.Common.{◌≡◌, ℕ, ◌<◌, ◌⊎◌, Bool, true, false, ◌&&◌, not, cond, eqb, ltb, nat_lt, List, [], ◌∷◌, ◌++◌, length, Option, Some, None, refl, sym, ap, ◌∙◌, arith, inl, inr, subst, append_assoc, ⊎_elim, MatchOption, and_parts, ltb-true, not-true, cases_lt, get_or_past, All-get_or, nat_tests, Table, IsTable, IsTask, sibling_of, owner_of, guaranteed_of, is_latency_critical, is_critical_kind, Action, Ban, Revoke, Cap, Cause, Candidate, CoreClass, Holder, actions_of, holder_of, is_banned, is_held, is_held_for, held_by, booked_by, is_over, Setting, so_far, has_room, is_held_with_room, may_ban_beside, may_be_emptied, too_long_on, can_lose, victim_of, victim_rank, task_misses, class_by, preempt_class, may_preempt, is_granted_in, none_leaves_for, class_of, fits_state, names_table, IsMade, IsRevokedForBan, IsRevokedForBandwidth, IsPreempted, ActionIsOneMore, ChosenIsOfLeastClass, VictimHasMostMisses, HasMostMisses, some_then}
 use Rattle.cal_machine.specs.Tasks.{task_at, no_task}
-use Rattle.cal_machine.specs.Machine.{sibling_of}
 use Rattle.cal_machine.specs.declared.task.Task.{Task}
 use Rattle.cal_machine.specs.declared.task.Kind.{Kind}
 use Rattle.cal_machine.specs.declared.task.Kind.TheVariants.{LatencyCritical, BestEffort}
-use Rattle.cal_machine.specs.TableTasks.{owner_of, guaranteed_of, is_latency_critical, is_critical_kind}
-use Rattle.cal_policy.specs.declared.history.action.Action.{Action}
-use Rattle.cal_policy.specs.declared.history.action.Action.TheVariants.{Ban, Revoke, Cap}
-use Rattle.cal_policy.specs.declared.history.action.Cause.{Cause}
 use Rattle.cal_policy.specs.declared.history.action.Cause.TheVariants as causes
-use Rattle.cal_policy.specs.declared.pass.choice.Candidate.{Candidate}
-use Rattle.cal_policy.specs.declared.history.core_class.CoreClass.{CoreClass}
 use Rattle.cal_policy.specs.declared.history.core_class.CoreClass.TheVariants as classes
 use Rattle.cal_policy.specs.declared.board.holders.Placement as placements
-use Rattle.cal_policy.specs.declared.board.holders.Holder.{Holder}
 use Rattle.cal_policy.specs.declared.board.holders.Holder.TheVariants as holders
-use Rattle.cal_policy.specs.History.{actions_of, holder_of, is_banned}
-use Rattle.cal_policy.specs.Board.Counts.{is_held, is_held_for, held_by, booked_by, is_over}
-use Rattle.cal_policy.specs.Setting.{Setting, so_far, has_room, is_held_with_room}
-use Rattle.cal_policy.specs.Pass.Bans.{may_ban_beside, may_be_emptied, too_long_on}
-use Rattle.cal_policy.specs.Pass.Bandwidth.{can_lose, victim_of, victim_rank, task_misses}
-use Rattle.cal_policy.specs.Pass.Grants.{class_by, preempt_class, may_preempt, is_granted_in, none_leaves_for, class_of}
-use Rattle.cal_policy.specs.Judgement.Orderly.{fits_state, names_table}
-use Rattle.cal_policy.specs.Pass.Made.{IsMade, IsRevokedForBan, IsRevokedForBandwidth, IsPreempted}
-use Rattle.cal_policy.specs.Laws.{ActionIsOneMore, ChosenIsOfLeastClass, VictimHasMostMisses, HasMostMisses}
 use Rattle.cal_laws.proofs.ListLemmas.Below.{highest_is}
 use Rattle.cal_laws.proofs.ChoiceLemmas.Chosen.{least_class}
 use Rattle.cal_laws.proofs.ListLemmas.Counted.{count_some}
 use Rattle.cal_laws.proofs.ExclusionLemmas.SameHolders.{held_same}
-use Rattle.cal_machine.proofs.Booleans.{some_then}
 use Rattle.cal_policy.proofs.PassLemmas.RevokedStay.{held_by_one}
 
 -- the core is held by a thread whose ring has room, and its task holds more than it is guaranteed

@@ -1,18 +1,5 @@
 -- What is chosen for a task, in words of its own.
-use Rattle.std.proofs.Common.{◌≡◌, ℕ, ◌<◌, true, ◌&&◌, eqb, List, length, Some, None, refl, ap, arith, inl, inr, ⊎_elim}
-use Rattle.std.proofs.lemmas.Bool.{eqb-true, eq-eqb, and_parts, and_from, cond-true, cases_lt}
-use Rattle.std.proofs.lemmas.Option.{MatchOption-at_some, cond_some}
-use Rattle.cal_machine.specs.Laws.{ThreadsAreOfTheirTask}
-use Rattle.cal_machine.specs.TableTasks.{limit_of, thread_of, owner_of}
-use Rattle.cal_policy.specs.declared.history.action.Action.{Action}
-use Rattle.cal_policy.specs.declared.pass.choice.Candidate.{Candidate}
-use Rattle.cal_policy.specs.declared.history.core_class.CoreClass.{CoreClass}
-use Rattle.cal_policy.specs.History.CoreClasses.{class_number, is_idle}
-use Rattle.cal_policy.specs.Board.Counts.{cores_of_thread}
-use Rattle.cal_policy.specs.Setting.{Setting, so_far, has_room}
-use Rattle.cal_policy.specs.Pass.Grants.{thread_delay, thread_rank, thread_choice, class_of, choice_of}
-use Rattle.cal_policy.specs.Laws.{HasWaitedLongest, IsOfLeastClass, ChosenHasWaitedLongest, ChosenIsOfLeastClass}
-use Rattle.cal_policy.specs.Pass.Made.{IsChosen, IsGranted}
+use Rattle.cal_laws.proofs.Common.{◌≡◌, ℕ, ◌<◌, true, ◌&&◌, eqb, List, length, Some, None, refl, ap, arith, inl, inr, ⊎_elim, eqb-true, eq-eqb, and_parts, and_from, cond-true, cases_lt, MatchOption-at_some, cond_some, ThreadsAreOfTheirTask, limit_of, thread_of, owner_of, Action, Candidate, CoreClass, class_number, is_idle, cores_of_thread, Setting, so_far, has_room, thread_delay, thread_rank, thread_choice, class_of, choice_of, HasWaitedLongest, IsOfLeastClass, ChosenHasWaitedLongest, ChosenIsOfLeastClass, IsChosen, IsGranted}
 use Rattle.cal_laws.specs.Choice.{IsFreeWithRoom, HasGreatestDelay, HasThread, IsPossible, IsLessPair, IsLeastPossible, IsBestGrant}
 use Rattle.cal_laws.proofs.ChoiceLemmas.Classes.{of_its_class, class_from}
 use Rattle.cal_machine.proofs.ThreadNumbers.{next_le}

@@ -1,26 +1,11 @@
 -- The class that a pass takes for a core, and the class that the core is of.
-use Rattle.std.proofs.Common.{◌≡◌, ◌≢◌, ◌⊎◌, ℕ, ◌<◌, Bool, true, false, cond, not, ◌&&◌, eqb, nat_lt, zero, suc, List, Option, Some, None, refl, sym, ap, ◌∙◌, arith, inl, inr, ⊎_elim}
-use Rattle.std.proofs.lemmas.Bool.{ltb-true, lt-ltb, eqb-true, eqb-false, eq-eqb, ne_eqb, and_parts, and_from, not-true, not_from_true, not_from_false, cond-true, cond-false, both_ways, false_from_ne_true}
-use Rattle.std.proofs.lemmas.Option.{cond_some, same_Some}
-use Rattle.cal_machine.specs.Machine.{sibling_of}
-use Rattle.cal_machine.specs.Table.{Table}
-use Rattle.cal_machine.specs.TableTasks.{owner_of, guaranteed_of, is_latency_critical}
-use Rattle.cal_policy.specs.declared.history.action.Action.{Action}
-use Rattle.cal_policy.specs.declared.history.core_class.CoreClass.{CoreClass}
+use Rattle.cal_laws.proofs.Common.{◌≡◌, ◌≢◌, ◌⊎◌, ℕ, ◌<◌, Bool, true, false, cond, not, ◌&&◌, eqb, nat_lt, zero, suc, List, Option, Some, None, refl, sym, ap, ◌∙◌, arith, inl, inr, ⊎_elim, ltb-true, lt-ltb, eqb-true, eqb-false, eq-eqb, ne_eqb, and_parts, and_from, not-true, not_from_true, not_from_false, cond-true, cond-false, both_ways, false_from_ne_true, cond_some, same_Some, sibling_of, Table, owner_of, guaranteed_of, is_latency_critical, Action, CoreClass, is_idle, Holder, holder_of, last_thread, is_banned, is_held_for, held_by, booked_by, is_over, count_below, Setting, so_far, has_room, leaves_for, none_leaves_for, is_granted_in, is_thread_for, idle_class, preempt_class, may_preempt, class_by, class_of, some_then, some_else}
 use Rattle.cal_policy.specs.declared.history.core_class.CoreClass.TheVariants as classes
-use Rattle.cal_policy.specs.History.CoreClasses.{is_idle}
 use Rattle.cal_policy.specs.declared.history.action.Cause.TheVariants as causes
 use Rattle.cal_policy.specs.declared.board.holders.Placement as placements
-use Rattle.cal_policy.specs.declared.board.holders.Holder.{Holder}
 use Rattle.cal_policy.specs.declared.board.holders.Holder.TheVariants as holders
-use Rattle.cal_policy.specs.History.{holder_of, last_thread, is_banned}
-use Rattle.cal_policy.specs.Board.Counts.{is_held_for, held_by, booked_by, is_over}
-use Rattle.cal_policy.specs.Pass.Choice.{count_below}
-use Rattle.cal_policy.specs.Setting.{Setting, so_far, has_room}
-use Rattle.cal_policy.specs.Pass.Grants.{leaves_for, none_leaves_for, is_granted_in, is_thread_for, idle_class, preempt_class, may_preempt, class_by, class_of}
 use Rattle.cal_laws.specs.Choice.{IsIdle, IsHeldBy, WentLastTo, MayBePreempted, CriticalMayBePreempted, IsPreemptible, IsOfClass}
 use Rattle.cal_laws.proofs.ListLemmas.Counted.{count_none}
-use Rattle.cal_machine.proofs.Booleans.{some_then, some_else}
 
 -- who holds a core, and to whom it went last
 held_for : (table : Table) (x : List Action) (t c : ℕ) (h : Holder) → holder_of x c ≡ h → is_held_for table t h ≡ true → IsHeldBy table x t c

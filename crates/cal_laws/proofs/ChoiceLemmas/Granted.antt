@@ -1,23 +1,7 @@
 -- What stands where a core is granted: its thread is one of the task's, and its ring has room.
-use Rattle.std.proofs.Common.{◌≡◌, ℕ, ◌<◌, Bool, true, false, ◌&&◌, ◌||◌, eqb, ltb, nat_lt, List, Some, ap, ◌∙◌}
-use Rattle.std.proofs.lemmas.Bool.{and_parts, ltb-true, eqb-true}
-use Rattle.cal_machine.specs.Table.{Table}
-use Rattle.cal_machine.specs.Laws.{ThreadsAreOfTheirTask}
-use Rattle.cal_machine.specs.TableTasks.{owner_of, limit_of, threads_of_table, is_latency_critical}
-use Rattle.cal_policy.specs.declared.history.action.Action.{Action}
-use Rattle.cal_policy.specs.declared.history.action.Action.TheVariants.{Grant}
+use Rattle.cal_laws.proofs.Common.{◌≡◌, ℕ, ◌<◌, Bool, true, false, ◌&&◌, ◌||◌, eqb, ltb, nat_lt, List, Some, ap, ◌∙◌, and_parts, ltb-true, eqb-true, Table, ThreadsAreOfTheirTask, owner_of, limit_of, threads_of_table, is_latency_critical, Action, Grant, Holder, holder_of, is_free, cores_of_thread, booked_by, cap_of, placement_of, Setting, so_far, has_room, may_book, fits_state, IsGranted, ChosenHasWaitedLongest, MayBookMore}
 use Rattle.cal_policy.specs.declared.board.holders.Placement as placements
-use Rattle.cal_policy.specs.declared.board.holders.Holder.{Holder}
 use Rattle.cal_policy.specs.declared.board.holders.Holder.TheVariants as holders
-use Rattle.cal_policy.specs.History.{holder_of}
-use Rattle.cal_policy.specs.Board.Counts.{is_free, cores_of_thread, booked_by, cap_of}
-use Rattle.cal_policy.specs.Board.{placement_of}
-use Rattle.cal_policy.specs.Setting.{Setting, so_far, has_room}
-use Rattle.cal_policy.specs.Pass.Grants.{may_book}
-use Rattle.cal_policy.specs.Judgement.Orderly.{fits_state}
-use Rattle.cal_policy.specs.Pass.Made.{IsGranted}
-use Rattle.cal_policy.specs.Laws.{ChosenHasWaitedLongest}
-use Rattle.cal_laws.specs.Limits.{MayBookMore}
 use Rattle.cal_laws.proofs.ChoiceLemmas.Chosen.{longest, greatest_delay, chosen_owner}
 
 -- the thread is one of the task's, and its ring has room

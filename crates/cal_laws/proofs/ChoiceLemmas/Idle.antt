@@ -1,15 +1,7 @@
 -- A grant that fits the state is of a free core, to a thread that neither holds nor leaves any
 -- core.
-use Rattle.std.proofs.Common.{◌≡◌, ℕ, true, List, refl}
-use Rattle.cal_machine.specs.Table.{Table}
-use Rattle.cal_policy.specs.declared.history.action.Action.{Action}
-use Rattle.cal_policy.specs.declared.history.action.Action.TheVariants.{Grant}
-use Rattle.cal_policy.specs.declared.board.holders.Holder.{Holder}
+use Rattle.cal_laws.proofs.Common.{◌≡◌, ℕ, true, List, refl, Table, Action, Grant, Holder, holder_of, is_free, is_with, fits_state, GoesToIdle}
 use Rattle.cal_policy.specs.declared.board.holders.Holder.TheVariants as holders
-use Rattle.cal_policy.specs.History.{holder_of}
-use Rattle.cal_policy.specs.Board.Counts.{is_free, is_with}
-use Rattle.cal_policy.specs.Judgement.Orderly.{fits_state}
-use Rattle.cal_laws.specs.Exclusion.{GoesToIdle}
 use Rattle.cal_laws.proofs.ListLemmas.Counted.{count_none}
 use Rattle.cal_laws.proofs.ChoiceLemmas.Granted.{gives_free}
 

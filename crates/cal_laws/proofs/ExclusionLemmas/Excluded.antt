@@ -1,32 +1,11 @@
 -- Each action of a pass keeps threads on one core each, by the last Run that was sent to them.
-use Rattle.std.proofs.Common.{◌≡◌, ◌≢◌, ℕ, ◌<◌, ◌≤◌, Bool, true, false, cond, eqb, List, [], ◌∷◌, ◌++◌, length, take, Some, None, refl, sym, ap, ◌∙◌, arith, subst, append_assoc}
-use Rattle.std.specs.Option.{option_map}
-use Rattle.std.proofs.lemmas.List.{append-nil}
-use Rattle.std.proofs.lemmas.Bool.Decides.{nat_tests}
-use Rattle.cal_machine.specs.declared.command.Command.{Command}
-use Rattle.cal_machine.specs.declared.command.Command.TheVariants.{Run, Park}
-use Rattle.cal_machine.specs.Table.{Table}
-use Rattle.cal_policy.specs.declared.history.action.Action.{Action}
-use Rattle.cal_policy.specs.declared.history.action.Action.TheVariants.{Free, Unban, Ban, Revoke, Cap, Grant}
-use Rattle.cal_policy.specs.declared.history.action.Cause.{Cause}
-use Rattle.cal_policy.specs.declared.history.entry.PassEntry.{PassEntry}
+use Rattle.cal_laws.proofs.Common.{◌≡◌, ◌≢◌, ℕ, ◌<◌, ◌≤◌, Bool, true, false, cond, eqb, List, [], ◌∷◌, ◌++◌, length, take, Some, None, refl, sym, ap, ◌∙◌, arith, subst, append_assoc, option_map, append-nil, nat_tests, Command, Run, Park, Table, Action, Free, Unban, Ban, Revoke, Cap, Grant, Cause, PassEntry, Holder, actions_of, holder_of, last_placement, last_thread, commands_to, command_to, placed, left_by, is_with, cores_of_thread, placement_of, setting_of, IsSteady, ActionIsOneMore, LastThreadIsPlaced, Point, actions_at, IsSafe, IsSafeHistory, IsSafePoint, HaveOneCore, WasRun, IsByLastRun, unwrap_if}
 use Rattle.cal_policy.specs.declared.board.holders.Placement as placements
-use Rattle.cal_policy.specs.declared.board.holders.Holder.{Holder}
 use Rattle.cal_policy.specs.declared.board.holders.Holder.TheVariants as holders
-use Rattle.cal_policy.specs.History.{actions_of, holder_of, last_placement, last_thread, commands_to, command_to, placed, left_by}
-use Rattle.cal_policy.specs.Board.Counts.{is_with, cores_of_thread}
-use Rattle.cal_policy.specs.Board.{placement_of}
-use Rattle.cal_policy.specs.Setting.{setting_of}
-use Rattle.cal_policy.specs.Pass.Steady.{IsSteady}
-use Rattle.cal_policy.specs.Laws.{ActionIsOneMore, LastThreadIsPlaced}
-use Rattle.cal_laws.specs.Point.{Point, actions_at}
-use Rattle.cal_laws.specs.Safe.{IsSafe, IsSafeHistory, IsSafePoint}
-use Rattle.cal_laws.specs.Exclusion.{HaveOneCore, WasRun, IsByLastRun}
 use Rattle.cal_laws.proofs.PointLemmas.EachAction.{always, after_passes}
 use Rattle.cal_laws.proofs.ListLemmas.Counted.{count_none}
 use Rattle.cal_laws.proofs.CauseLemmas.Revoked.{TakesHeld, takes_held}
 use Rattle.cal_laws.proofs.ChoiceLemmas.Granted.{gives_free}
-use Rattle.cal_machine.proofs.Booleans.{unwrap_if}
 use Rattle.cal_policy.proofs.PassLemmas.Steady.{free_place}
 use Rattle.cal_policy.proofs.HistoryLemmas.FreshCores.{eqb_swap}
 

@@ -1,18 +1,8 @@
 -- At a safe place a core is freed only where its thread was shown to have left it.
-use Rattle.std.proofs.Common.{◌≡◌, ◌<◌, ℕ, true, List, Some, leb, eqb, ltb, not, refl}
-use Rattle.std.proofs.lemmas.Bool.{and_parts, leb-true, eqb-true, ltb-true}
-use Rattle.cal_policy.specs.declared.history.action.Action.{Action}
-use Rattle.cal_policy.specs.declared.history.action.Action.TheVariants.{Free}
+use Rattle.cal_laws.proofs.Common.{◌≡◌, ◌<◌, ℕ, true, List, Some, leb, eqb, ltb, not, refl, and_parts, leb-true, eqb-true, ltb-true, Action, Free, Holder, holder_of, placement_of, is_free, Setting, so_far, kept_now, has_left, shows_left, IsSafe}
 use Rattle.cal_policy.specs.declared.board.holders.Placement as placements
-use Rattle.cal_policy.specs.declared.board.holders.Holder.{Holder}
 use Rattle.cal_policy.specs.declared.board.holders.Holder.TheVariants as holders
-use Rattle.cal_policy.specs.History.{holder_of}
-use Rattle.cal_policy.specs.Board.{placement_of}
-use Rattle.cal_policy.specs.Board.Counts.{is_free}
-use Rattle.cal_policy.specs.Setting.{Setting, so_far, kept_now}
-use Rattle.cal_policy.specs.Pass.Frees.{has_left, shows_left}
 use Rattle.cal_laws.specs.Acknowledged.{HasBeenLeft}
-use Rattle.cal_laws.specs.Safe.{IsSafe}
 
 left_by : (s : Setting) (acts : List Action) (core : ℕ) (p : placements.Placement) → core < s.table.cores → placement_of (holder_of (so_far s acts) core) ≡ Some p →
     has_left (kept_now s p.thread) p.number ≡ true → HasBeenLeft s acts core

@@ -1,14 +1,6 @@
 -- Actions that name no holder leave the cores where they are.
-use Rattle.std.proofs.Common.{◌≡◌, ℕ, List, [], ◌∷◌, ◌++◌, None, ap, ◌∙◌}
-use Rattle.std.specs.Option.{unwrap_or}
-use Rattle.cal_machine.specs.Table.{Table}
-use Rattle.cal_policy.specs.declared.history.action.Action.{Action}
-use Rattle.cal_policy.specs.History.{holder_of, holder_made}
-use Rattle.cal_policy.specs.Board.Counts.{is_held_for, held_by}
-use Rattle.cal_policy.specs.Setting.{Setting, so_far}
-use Rattle.cal_policy.specs.Laws.{ActionIsOneMore}
+use Rattle.cal_laws.proofs.Common.{◌≡◌, ℕ, List, [], ◌∷◌, ◌++◌, None, ap, ◌∙◌, unwrap_or, Table, Action, holder_of, holder_made, is_held_for, held_by, Setting, so_far, ActionIsOneMore, so_far_push}
 use Rattle.cal_laws.proofs.ListLemmas.Below.{count_same}
-use Rattle.cal_policy.proofs.PassLemmas.Fits.{so_far_push}
 
 -- two lists of actions after which each core is with the same thread
 abbrev pub SameHolders : List Action → List Action → Type 0

@@ -1,27 +1,11 @@
 -- Runs that were sent stand until they are left.
-use Rattle.std.proofs.Common.{◌≡◌, ℕ, ◌+◌, ◌<◌, ◌≤◌, ◌⊎◌, zero, suc, Bool, true, false, cond, eqb, List, [], ◌∷◌, ◌++◌, length, take, Option, Some, None, refl, sym, ap, ◌∙◌, arith, inl, inr, subst, append_assoc, ⊎_elim}
-use Rattle.std.specs.List.{slice_get}
-use Rattle.std.proofs.lemmas.Bool.{eqb-true}
-use Rattle.std.proofs.lemmas.Bool.Decides.{nat_tests}
-use Rattle.cal_machine.specs.declared.command.Command.{Command}
-use Rattle.cal_machine.specs.declared.command.Command.TheVariants.{Run, Park}
-use Rattle.cal_machine.specs.Table.{Table}
-use Rattle.cal_policy.specs.declared.history.action.Action.{Action}
-use Rattle.cal_policy.specs.declared.history.action.Action.TheVariants.{Free, Unban, Ban, Revoke, Cap, Grant}
-use Rattle.cal_policy.specs.declared.history.entry.PassEntry.{PassEntry}
+use Rattle.cal_laws.proofs.Common.{◌≡◌, ℕ, ◌+◌, ◌<◌, ◌≤◌, ◌⊎◌, zero, suc, Bool, true, false, cond, eqb, List, [], ◌∷◌, ◌++◌, length, take, Option, Some, None, refl, sym, ap, ◌∙◌, arith, inl, inr, subst, append_assoc, ⊎_elim, slice_get, eqb-true, nat_tests, Command, Run, Park, Table, Action, Free, Unban, Ban, Revoke, Cap, Grant, PassEntry, actions_of, holder_of, commands_to, command_to, sends, last_thread, placed, placement_of, Setting, setting_of, so_far, ActionIsOneMore, Point, actions_at, IsSafe, EachAction, IsSafeHistory, IsSafePoint, unwrap_if}
 use Rattle.cal_policy.specs.declared.board.holders.Placement as placements
 use Rattle.cal_policy.specs.declared.board.holders.Holder.TheVariants as holders
-use Rattle.cal_policy.specs.History.{actions_of, holder_of, commands_to, command_to, sends, last_thread, placed}
-use Rattle.cal_policy.specs.Board.{placement_of}
-use Rattle.cal_policy.specs.Setting.{Setting, setting_of, so_far}
-use Rattle.cal_policy.specs.Laws.{ActionIsOneMore}
-use Rattle.cal_laws.specs.Point.{Point, actions_at}
-use Rattle.cal_laws.specs.Safe.{IsSafe, EachAction, IsSafeHistory, IsSafePoint}
 use Rattle.cal_laws.specs.Runs.{IsRunOf, IsThereBy, WasLeft, RunsStand}
 use Rattle.cal_laws.proofs.ChoiceLemmas.Granted.{gives_free}
 use Rattle.cal_laws.proofs.KeptLemmas.OnCore.{IsShownOff, IsFreed, stays}
 use Rattle.cal_laws.proofs.PointLemmas.EachAction.{always, after_passes}
-use Rattle.cal_machine.proofs.Booleans.{unwrap_if}
 use Rattle.cal_machine.proofs.Places.{slice_get_parts}
 
 -- the action is safe, and it is the next one at a point of the history where the setting and the

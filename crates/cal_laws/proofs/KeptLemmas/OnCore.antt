@@ -1,34 +1,13 @@
 -- Where a kept record shows its thread on a core, the thread has that core.
-use Rattle.std.proofs.Common.{◌≡◌, ◌≢◌, ℕ, ◌+◌, ◌-◌, ◌≤◌, ◌⊎◌, zero, suc, Bool, true, false, cond, eqb, leb, List, [], ◌∷◌, ◌++◌, length, take, Option, Some, None, refl, sym, ap, ◌∙◌, arith, inl, inr, subst, ⊎_elim}
-use Rattle.std.specs.List.{slice_get}
-use Rattle.std.specs.Option.{unwrap_or, option_and_then}
-use Rattle.std.proofs.Math.Seq.{take-length}
-use Rattle.std.proofs.lemmas.Bool.{and_parts, eqb-true, leb-true}
-use Rattle.std.proofs.lemmas.Option.{slice_get_cases, slice_get_within}
-use Rattle.cal_machine.specs.Table.{Table}
-use Rattle.cal_signal.specs.declared.record.Record.{Record}
-use Rattle.cal_policy.specs.declared.history.action.Action.{Action}
-use Rattle.cal_policy.specs.declared.history.action.Action.TheVariants.{Free, Unban, Ban, Revoke, Cap, Grant}
-use Rattle.cal_policy.specs.declared.history.entry.PassEntry.{PassEntry}
-use Rattle.cal_policy.specs.declared.history.look.Seen.{Seen}
+use Rattle.cal_laws.proofs.Common.{◌≡◌, ◌≢◌, ℕ, ◌+◌, ◌-◌, ◌≤◌, ◌⊎◌, zero, suc, Bool, true, false, cond, eqb, leb, List, [], ◌∷◌, ◌++◌, length, take, Option, Some, None, refl, sym, ap, ◌∙◌, arith, inl, inr, subst, ⊎_elim, slice_get, unwrap_or, option_and_then, take-length, and_parts, eqb-true, leb-true, slice_get_cases, slice_get_within, Table, Record, Action, Free, Unban, Ban, Revoke, Cap, Grant, PassEntry, Seen, Holder, actions_of, looks_of, holder_of, holder_made, last_placement, left_by, placed, placement_of, kept_by, record_to_keep, Setting, setting_of, so_far, kept_now, shows_left, has_left, ActionIsOneMore, LookIsOneMore, Point, setting_at, actions_at, IsSafe, IsSafeHistory, IsSafePoint, unwrap_if}
 use Rattle.cal_policy.specs.declared.history.look.Seen.TheVariants.{Whole, Busy, Ahead, Foreign}
 use Rattle.cal_policy.specs.declared.board.holders.Placement as placements
-use Rattle.cal_policy.specs.declared.board.holders.Holder.{Holder}
 use Rattle.cal_policy.specs.declared.board.holders.Holder.TheVariants as holders
-use Rattle.cal_policy.specs.History.{actions_of, looks_of, holder_of, holder_made, last_placement, left_by, placed}
-use Rattle.cal_policy.specs.Board.{placement_of}
-use Rattle.cal_policy.specs.History.Looks.{kept_by, record_to_keep}
-use Rattle.cal_policy.specs.Setting.{Setting, setting_of, so_far, kept_now}
-use Rattle.cal_policy.specs.Pass.Frees.{shows_left, has_left}
 use Rattle.cal_policy.specs.Judgement.Judging.{IsInput}
-use Rattle.cal_policy.specs.Laws.{ActionIsOneMore, LookIsOneMore}
-use Rattle.cal_laws.specs.Point.{Point, setting_at, actions_at}
-use Rattle.cal_laws.specs.Safe.{IsSafe, IsSafeHistory, IsSafePoint}
 use Rattle.cal_laws.specs.Kept.{IsOnItsCore}
 use Rattle.cal_laws.proofs.ChoiceLemmas.Granted.{gives_free, free_nobody}
 use Rattle.cal_laws.proofs.PointLemmas.EachAction.{actions_more, within_pass}
 use Rattle.cal_laws.proofs.KeptLemmas.Truth.{fresh, looks_more}
-use Rattle.cal_machine.proofs.Booleans.{unwrap_if}
 
 -- the kept record of a core's thread has taken the Run that put it there, and shows it on no core
 pub record IsShownOff (s : Setting) (p : placements.Placement) : Type 0 where

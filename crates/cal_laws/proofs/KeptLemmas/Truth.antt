@@ -1,31 +1,11 @@
 -- What a kept record says was so when it was kept.
-use Rattle.std.proofs.Common.{◌≡◌, ◌≢◌, ℕ, ◌+◌, ◌-◌, ◌<◌, ◌≤◌, zero, suc, Bool, true, false, ◌&&◌, not, cond, eqb, leb, ltb, List, [], ◌∷◌, ◌++◌, length, take, Option, Some, None, refl, sym, ap, ◌∙◌, arith, subst, ⊎_elim}
-use Rattle.std.specs.List.{slice_get}
-use Rattle.std.specs.Option.{unwrap_or, option_and_then}
-use Rattle.std.proofs.lemmas.Bool.{and_parts, ltb-false, leb-true, eqb-true}
-use Rattle.std.proofs.lemmas.Bool.Decides.{nat_tests}
-use Rattle.std.proofs.lemmas.List.{map-append}
-use Rattle.std.proofs.lemmas.Option.{slice_get_cases, slice_get_within}
-use Rattle.cal_machine.specs.Table.{Table}
-use Rattle.cal_signal.specs.declared.record.Record.{Record}
-use Rattle.cal_policy.specs.declared.history.action.Action.{Action}
-use Rattle.cal_policy.specs.declared.history.entry.PassEntry.{PassEntry}
-use Rattle.cal_policy.specs.declared.history.look.Seen.{Seen}
+use Rattle.cal_laws.proofs.Common.{◌≡◌, ◌≢◌, ℕ, ◌+◌, ◌-◌, ◌<◌, ◌≤◌, zero, suc, Bool, true, false, ◌&&◌, not, cond, eqb, leb, ltb, List, [], ◌∷◌, ◌++◌, length, take, Option, Some, None, refl, sym, ap, ◌∙◌, arith, subst, ⊎_elim, slice_get, unwrap_or, option_and_then, and_parts, ltb-false, leb-true, eqb-true, nat_tests, map-append, slice_get_cases, slice_get_within, Table, Record, Action, PassEntry, Seen, Holder, actions_of, looks_of, holder_of, sent_to, placement_of, kept_by, record_to_keep, kept_now, LookIsOneMore, Point, setting_at, made_at, IsSafeHistory, IsSafePoint, take_next}
 use Rattle.cal_policy.specs.declared.history.look.Seen.TheVariants.{Whole, Busy, Ahead, Foreign}
-use Rattle.cal_policy.specs.declared.board.holders.Holder.{Holder}
 use Rattle.cal_policy.specs.declared.board.holders.Holder.TheVariants as holders
-use Rattle.cal_policy.specs.History.{actions_of, looks_of, holder_of, sent_to}
-use Rattle.cal_policy.specs.Board.{placement_of}
-use Rattle.cal_policy.specs.History.Looks.{kept_by, record_to_keep}
-use Rattle.cal_policy.specs.Setting.{kept_now}
 use Rattle.cal_policy.specs.Judgement.Judging.{IsInput, is_acknowledged_by, is_foreign}
-use Rattle.cal_policy.specs.Laws.{LookIsOneMore}
 use Rattle.cal_policy.proofs.HistoryLemmas.OneMore.{sent_grows}
-use Rattle.cal_laws.specs.Point.{Point, setting_at, made_at}
-use Rattle.cal_laws.specs.Safe.{IsSafeHistory, IsSafePoint}
 use Rattle.cal_laws.specs.Kept.{IsOnItsCore, WasKeptOnCore, IsTrueRecord}
 use Rattle.cal_laws.proofs.PointLemmas.EachAction.{actions_more}
-use Rattle.cal_machine.proofs.Last.{take_next}
 
 -- what is known of a record that the looks before pass n let be kept
 pub record IsTrueBefore (table : Table) (history : List PassEntry) (k n : ℕ) (rec : Record) : Type 0 where

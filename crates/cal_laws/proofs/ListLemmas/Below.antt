@@ -1,7 +1,5 @@
 -- Counts among the numbers below n, and the highest and the lowest of those that pass.
-use Rattle.std.proofs.Common.{◌≡◌, ℕ, ◌<◌, ◌≤◌, ◌⊎◌, zero, suc, Bool, true, false, cond, Option, Some, None, refl, sym, subst, arith, inl, inr, ⊎_elim}
-use Rattle.std.specs.Option.{is_some}
-use Rattle.cal_policy.specs.Pass.Choice.{count_below, highest_below, first_or, lowest_below}
+use Rattle.cal_laws.proofs.Common.{◌≡◌, ℕ, ◌<◌, ◌≤◌, ◌⊎◌, zero, suc, Bool, true, false, cond, Option, Some, None, refl, sym, subst, arith, inl, inr, ⊎_elim, is_some, count_below, highest_below, first_or, lowest_below}
 use Rattle.cal_policy.proofs.PassLemmas.Best.{cases_eq_lt}
 
 -- tests that agree count as many

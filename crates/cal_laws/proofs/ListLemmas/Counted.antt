@@ -1,6 +1,5 @@
 -- How counts and choices among the numbers below n go with their tests.
-use Rattle.std.proofs.Common.{◌≡◌, ℕ, ◌<◌, ◌≤◌, Bool, true, false, cond, refl, arith}
-use Rattle.cal_policy.specs.Pass.Choice.{count_below}
+use Rattle.cal_laws.proofs.Common.{◌≡◌, ℕ, ◌<◌, ◌≤◌, Bool, true, false, cond, refl, arith, count_below}
 use Rattle.cal_policy.proofs.ListLemmas.Counted.{one_when}
 use Rattle.cal_policy.proofs.ListLemmas.OneNumberMore.{count_within}
 

@@ -1,46 +1,15 @@
 -- A pass sends each thread at most one command.
-use Rattle.std.proofs.Common.{◌≡◌, ◌≢◌, ℕ, ◌+◌, ◌*◌, ◌<◌, ◌≤◌, ◌⊎◌, zero, suc, Bool, true, false, not, ◌&&◌, cond, eqb, ltb, List, [], ◌∷◌, ◌++◌, length, take, Option, Some, None, refl, sym, ap, ◌∙◌, arith, inl, inr, subst, append_assoc, ⊎_elim, length-append}
-use Rattle.std.specs.List.{slice_get}
-use Rattle.std.specs.Option.{is_some, option_map, option_or}
-use Rattle.std.proofs.lemmas.Bool.{eqb-true, ltb-true, and_parts}
-use Rattle.std.proofs.lemmas.Bool.Decides.{nat_tests}
-use Rattle.std.proofs.lemmas.List.{append-nil}
-use Rattle.std.proofs.lemmas.List.Elements.{All-pop}
-use Rattle.std.proofs.lemmas.Option.{slice_get_cases}
-use Rattle.cal_machine.specs.declared.command.Command.{Command}
-use Rattle.cal_machine.specs.declared.command.Command.TheVariants.{Run, Park}
-use Rattle.cal_machine.specs.Laws.{ThreadsAreOfTheirTask}
-use Rattle.cal_machine.specs.Table.{Table, IsTable}
-use Rattle.cal_policy.specs.declared.history.action.Action.{Action}
-use Rattle.cal_policy.specs.declared.history.action.Action.TheVariants.{Free, Unban, Ban, Revoke, Cap, Grant}
-use Rattle.cal_policy.specs.declared.history.action.Cause.{Cause}
+use Rattle.cal_laws.proofs.Common.{◌≡◌, ◌≢◌, ℕ, ◌+◌, ◌*◌, ◌<◌, ◌≤◌, ◌⊎◌, zero, suc, Bool, true, false, not, ◌&&◌, cond, eqb, ltb, List, [], ◌∷◌, ◌++◌, length, take, Option, Some, None, refl, sym, ap, ◌∙◌, arith, inl, inr, subst, append_assoc, ⊎_elim, length-append, slice_get, is_some, option_map, option_or, eqb-true, ltb-true, and_parts, nat_tests, append-nil, All-pop, slice_get_cases, Command, Run, Park, ThreadsAreOfTheirTask, Table, IsTable, Action, Free, Unban, Ban, Revoke, Cap, Grant, Cause, PassEntry, actions_of, holder_of, last_placement, last_thread, commands_to, command_to, sent_to, sends, placed, placement_made, left_by, is_banned, is_free, is_held, is_with, cores_of_thread, placement_of, Setting, setting_of, so_far, is_granted_in, names_table, IsLegal, IsMade, EachAfter, IsPreempted, IsSound, LegalIsSound, ActionIsOneMore, LastThreadIsPlaced, ChosenHasWaitedLongest, ChosenIsOfLeastClass, Point, IsPoint, actions_at, HaveOneCore, turn_of, unwrap_if, each_at, take_next}
 use Rattle.cal_policy.specs.declared.history.action.Cause.TheVariants as causes
-use Rattle.cal_policy.specs.declared.history.entry.PassEntry.{PassEntry}
 use Rattle.cal_policy.specs.declared.board.holders.Placement as placements
 use Rattle.cal_policy.specs.declared.board.holders.Holder.TheVariants as holders
-use Rattle.cal_policy.specs.History.{actions_of, holder_of, last_placement, last_thread, commands_to, command_to, sent_to, sends, placed, placement_made, left_by, is_banned}
-use Rattle.cal_policy.specs.Board.Counts.{is_free, is_held, is_with, cores_of_thread}
-use Rattle.cal_policy.specs.Board.{placement_of}
-use Rattle.cal_policy.specs.Setting.{Setting, setting_of, so_far}
-use Rattle.cal_policy.specs.Pass.Grants.{is_granted_in}
-use Rattle.cal_policy.specs.Judgement.Orderly.{names_table}
-use Rattle.cal_policy.specs.Pass.{IsLegal}
-use Rattle.cal_policy.specs.Pass.Made.{IsMade, EachAfter, IsPreempted}
-use Rattle.cal_policy.specs.Pass.Steady.{IsSound}
-use Rattle.cal_policy.specs.Laws.{LegalIsSound, ActionIsOneMore, LastThreadIsPlaced, ChosenHasWaitedLongest, ChosenIsOfLeastClass}
-use Rattle.cal_laws.specs.Point.{Point, IsPoint, actions_at}
-use Rattle.cal_laws.specs.Exclusion.{HaveOneCore}
-use Rattle.cal_laws.specs.Turns.{turn_of}
 use Rattle.cal_laws.proofs.ListLemmas.Counted.{count_none}
 use Rattle.cal_laws.proofs.ExclusionLemmas.Excluded.{excludes_at, on_other, last_loser}
 use Rattle.cal_laws.proofs.ChoiceLemmas.Granted.{gives_free, free_nobody}
 use Rattle.cal_laws.proofs.PointLemmas.EachAction.{legal_safe, safe_point}
 use Rattle.cal_laws.proofs.CauseLemmas.Revoked.{takes_held, preempted_before_pass}
 use Rattle.cal_laws.proofs.OneEachLemmas.Turns.{Below, IsInTurn, pass_in_turn}
-use Rattle.cal_machine.proofs.Booleans.{unwrap_if}
-use Rattle.cal_policy.proofs.ListLemmas.EachAfter.{each_at}
 use Rattle.cal_policy.proofs.HistoryLemmas.FreshCores.{eqb_swap}
-use Rattle.cal_machine.proofs.Last.{take_next}
 
 -- the thread was sent its command of this pass, by one of the actions acts: it is on a core, which
 -- it is leaving or was granted in this pass

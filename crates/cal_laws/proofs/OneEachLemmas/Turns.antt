@@ -1,36 +1,9 @@
 -- Each action of a pass comes in its turn.
-use Rattle.std.proofs.Common.{◌≡◌, ℕ, ◌+◌, ◌*◌, ◌-◌, ◌<◌, ◌≤◌, suc, zero, Bool, true, false, ◌&&◌, cond, nat_lt, List, [], ◌∷◌, ◌++◌, length, Option, Some, None, refl, sym, ap, ◌∙◌, arith, subst, append_assoc}
-use Rattle.std.specs.List.{All}
-use Rattle.std.proofs.lemmas.List.{append-nil}
-use Rattle.std.proofs.lemmas.List.Elements.{All-nil, All-push, All-weaker}
-use Rattle.cal_machine.specs.Machine.{sibling_of}
-use Rattle.cal_machine.specs.Laws.{ThreadsAreOfTheirTask}
-use Rattle.cal_machine.specs.Table.{Table}
-use Rattle.cal_machine.specs.TableTasks.{is_latency_critical, thread_of}
-use Rattle.cal_policy.specs.declared.history.action.Action.{Action}
-use Rattle.cal_policy.specs.declared.history.action.Action.TheVariants.{Free, Unban, Ban, Revoke, Cap, Grant}
+use Rattle.cal_laws.proofs.Common.{◌≡◌, ℕ, ◌+◌, ◌*◌, ◌-◌, ◌<◌, ◌≤◌, suc, zero, Bool, true, false, ◌&&◌, cond, nat_lt, List, [], ◌∷◌, ◌++◌, length, Option, Some, None, refl, sym, ap, ◌∙◌, arith, subst, append_assoc, All, append-nil, All-nil, All-push, All-weaker, sibling_of, ThreadsAreOfTheirTask, Table, is_latency_critical, thread_of, Action, Free, Unban, Ban, Revoke, Cap, Grant, BannedFor, Candidate, CoreClass, class_number, is_idle, in_turn, holder_of, ban_of, is_held, held_by, lowest_below, Setting, so_far, kept_now, shows_left, free_at, frees, still_shows, unban_for, unban_at, unbans, ban_due, ban_for, bans_at, bans, victim_of, core_to_lose, cut_at, cut_of, rise_of, is_capped, bandwidth_part, is_congested, may_book, thread_choice, choice_of, grant_of, grant_at, grant_of_kind_at, grants_of_kind, pass_of, EachAfter, ChosenHasWaitedLongest, turn_of, place_of_task, each_append}
 use Rattle.cal_policy.specs.declared.history.action.Cause.TheVariants as causes
-use Rattle.cal_policy.specs.declared.board.bans.BannedFor.{BannedFor}
-use Rattle.cal_policy.specs.declared.pass.choice.Candidate.{Candidate}
-use Rattle.cal_policy.specs.declared.history.core_class.CoreClass.{CoreClass}
-use Rattle.cal_policy.specs.History.CoreClasses.{class_number, is_idle}
-use Rattle.cal_policy.specs.History.Lists.{in_turn}
-use Rattle.cal_policy.specs.History.{holder_of, ban_of}
-use Rattle.cal_policy.specs.Board.Counts.{is_held, held_by}
-use Rattle.cal_policy.specs.Pass.Choice.{lowest_below}
-use Rattle.cal_policy.specs.Setting.{Setting, so_far, kept_now}
-use Rattle.cal_policy.specs.Pass.Frees.{shows_left, free_at, frees}
-use Rattle.cal_policy.specs.Pass.Bans.{still_shows, unban_for, unban_at, unbans, ban_due, ban_for, bans_at, bans}
-use Rattle.cal_policy.specs.Pass.Bandwidth.{victim_of, core_to_lose, cut_at, cut_of, rise_of, is_capped, bandwidth_part}
 use Rattle.cal_machine.specs.declared.task.Kind.TheVariants as kinds
-use Rattle.cal_policy.specs.Pass.Grants.{is_congested, may_book, thread_choice, choice_of, grant_of, grant_at, grant_of_kind_at, grants_of_kind}
-use Rattle.cal_policy.specs.Pass.{pass_of}
-use Rattle.cal_policy.specs.Pass.Made.{EachAfter}
-use Rattle.cal_policy.specs.Laws.{ChosenHasWaitedLongest}
-use Rattle.cal_laws.specs.Turns.{turn_of, place_of_task}
 use Rattle.cal_laws.proofs.ChoiceLemmas.Chosen.{chosen_owner}
 use Rattle.cal_machine.proofs.Siblings.{sibling_back}
-use Rattle.cal_policy.proofs.ListLemmas.EachAfter.{each_append}
 
 -- each member of xs is so after those before it, and all of them together leave Q
 pub record Goes {X : Type 0} (P : List X → X → Type 0) (Q : List X → Type 0) (before xs : List X) : Type 0 where

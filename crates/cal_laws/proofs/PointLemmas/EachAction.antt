@@ -1,21 +1,6 @@
 -- What holds at every point of a history, for each action keeps it.
-use Rattle.std.proofs.Common.{◌≡◌, ℕ, ◌+◌, ◌≤◌, zero, suc, List, [], ◌∷◌, ◌++◌, length, take, Some, sym, ap, ◌∙◌, arith, subst, append_assoc, ⊎_elim}
-use Rattle.std.specs.List.{slice_get}
-use Rattle.std.proofs.Math.Seq.{take-length}
-use Rattle.std.proofs.lemmas.List.{append-nil}
+use Rattle.cal_laws.proofs.Common.{◌≡◌, ℕ, ◌+◌, ◌≤◌, zero, suc, List, [], ◌∷◌, ◌++◌, length, take, Some, sym, ap, ◌∙◌, arith, subst, append_assoc, ⊎_elim, slice_get, take-length, append-nil, slice_get_cases, slice_get_within, Table, Action, Free, Unban, Ban, Revoke, Cap, Grant, PassEntry, actions_of, Setting, setting_of, so_far, IsSteady, IsSound, LegalIsSteady, LegalIsSound, Point, IsPoint, actions_at, setting_at, made_at, next_at, FreesWhatWasLeft, IsSafe, EachAction, IsSafePoint, LegalIsSafe, take_next}
 use Rattle.std.proofs.lemmas.Grind.{flat_map-append}
-use Rattle.std.proofs.lemmas.Option.{slice_get_cases, slice_get_within}
-use Rattle.cal_machine.specs.Table.{Table}
-use Rattle.cal_policy.specs.declared.history.action.Action.{Action}
-use Rattle.cal_policy.specs.declared.history.action.Action.TheVariants.{Free, Unban, Ban, Revoke, Cap, Grant}
-use Rattle.cal_policy.specs.declared.history.entry.PassEntry.{PassEntry}
-use Rattle.cal_policy.specs.History.{actions_of}
-use Rattle.cal_policy.specs.Setting.{Setting, setting_of, so_far}
-use Rattle.cal_policy.specs.Pass.Steady.{IsSteady, IsSound}
-use Rattle.cal_policy.specs.Laws.{LegalIsSteady, LegalIsSound}
-use Rattle.cal_laws.specs.Point.{Point, IsPoint, actions_at, setting_at, made_at, next_at}
-use Rattle.cal_laws.specs.Safe.{FreesWhatWasLeft, IsSafe, EachAction, IsSafePoint, LegalIsSafe}
-use Rattle.cal_machine.proofs.Last.{take_next}
 
 -- the actions of one pass more
 pub actions_more : (history : List PassEntry) (p : ℕ) (entry : PassEntry) → slice_get history p ≡ Some entry →

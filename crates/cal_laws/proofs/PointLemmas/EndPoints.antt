@@ -1,11 +1,5 @@
 -- The end of a history, and what stands there.
-use Rattle.std.proofs.Common.{◌≡◌, ℕ, ◌+◌, ◌-◌, ◌<◌, List, [], ◌∷◌, ◌++◌, length, take, Some, None, refl, sym, ap, ◌∙◌, arith, ⊎_elim}
-use Rattle.std.specs.List.{slice_get}
-use Rattle.std.proofs.Math.Seq.{take-length}
-use Rattle.std.proofs.lemmas.Option.{slice_get_cases}
-use Rattle.cal_machine.specs.Table.{Table}
-use Rattle.cal_policy.specs.declared.history.entry.PassEntry.{PassEntry}
-use Rattle.cal_policy.specs.History.{actions_of}
+use Rattle.cal_laws.proofs.Common.{◌≡◌, ℕ, ◌+◌, ◌-◌, ◌<◌, List, [], ◌∷◌, ◌++◌, length, take, Some, None, refl, sym, ap, ◌∙◌, arith, ⊎_elim, slice_get, take-length, slice_get_cases, Table, PassEntry, actions_of}
 use Rattle.cal_laws.specs.Ends.{end_of, IsEnd, EndsArePoints}
 use Rattle.cal_laws.proofs.PointLemmas.EachAction.{actions_more}
 

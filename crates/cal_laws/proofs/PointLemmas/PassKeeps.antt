@@ -1,26 +1,7 @@
 -- What each action of the parts of a pass keeps up, the pass keeps up.
-use Rattle.std.proofs.Common.{◌≡◌, ℕ, ◌+◌, ◌-◌, ◌<◌, zero, suc, Bool, true, false, cond, ◌&&◌, nat_lt, List, [], ◌∷◌, ◌++◌, length, Option, Some, None, refl, sym, arith, append_assoc, subst}
-use Rattle.std.proofs.lemmas.List.{append-nil}
-use Rattle.cal_machine.specs.TableTasks.{thread_of, is_latency_critical}
-use Rattle.cal_policy.specs.declared.history.action.Action.{Action}
-use Rattle.cal_policy.specs.declared.history.action.Action.TheVariants.{Revoke, Cap, Grant}
-use Rattle.cal_policy.specs.declared.history.action.Cause.{Cause}
+use Rattle.cal_laws.proofs.Common.{◌≡◌, ℕ, ◌+◌, ◌-◌, ◌<◌, zero, suc, Bool, true, false, cond, ◌&&◌, nat_lt, List, [], ◌∷◌, ◌++◌, length, Option, Some, None, refl, sym, arith, append_assoc, subst, append-nil, thread_of, is_latency_critical, Action, Revoke, Cap, Grant, Cause, Candidate, CoreClass, class_number, is_idle, in_turn, lowest_below, held_by, cap_of, is_banned, Setting, so_far, frees, unbans, bans_at, bans, core_to_lose, victim_of, cut_at, cut_of, rise_of, is_capped, bandwidth_part, is_congested, may_book, thread_choice, choice_of, grant_of, grant_at, grant_of_kind_at, grants_of_kind, pass_of, ChosenIsOfLeastClass}
 use Rattle.cal_policy.specs.declared.history.action.Cause.TheVariants as causes
-use Rattle.cal_policy.specs.declared.pass.choice.Candidate.{Candidate}
-use Rattle.cal_policy.specs.declared.history.core_class.CoreClass.{CoreClass}
-use Rattle.cal_policy.specs.History.CoreClasses.{class_number, is_idle}
-use Rattle.cal_policy.specs.History.Lists.{in_turn}
-use Rattle.cal_policy.specs.Pass.Choice.{lowest_below}
-use Rattle.cal_policy.specs.Board.Counts.{held_by, cap_of}
-use Rattle.cal_policy.specs.History.{is_banned}
-use Rattle.cal_policy.specs.Setting.{Setting, so_far}
-use Rattle.cal_policy.specs.Pass.Frees.{frees}
-use Rattle.cal_policy.specs.Pass.Bans.{unbans, bans_at, bans}
-use Rattle.cal_policy.specs.Pass.Bandwidth.{core_to_lose, victim_of, cut_at, cut_of, rise_of, is_capped, bandwidth_part}
 use Rattle.cal_machine.specs.declared.task.Kind.TheVariants as kinds
-use Rattle.cal_policy.specs.Pass.Grants.{is_congested, may_book, thread_choice, choice_of, grant_of, grant_at, grant_of_kind_at, grants_of_kind}
-use Rattle.cal_policy.specs.Pass.{pass_of}
-use Rattle.cal_policy.specs.Laws.{ChosenIsOfLeastClass}
 use Rattle.cal_laws.proofs.ChoiceLemmas.Chosen.{least_class}
 use Rattle.cal_laws.proofs.ChoiceLemmas.Classes.{of_its_class, idle_unbanned}
 

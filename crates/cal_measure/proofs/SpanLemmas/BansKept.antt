@@ -1,15 +1,7 @@
 -- What one more action makes of what is kept of the bans.
-use Rattle.std.proofs.Common.{◌≡◌, ◌<◌, ◌==◌, ◌∙◌, ℕ, List, [], ◌∷◌, ◌++◌, length, Option, Some, None, if◌then◌else◌, slice_set, inl, inr, refl, sym, ap}
-use Rattle.std.specs.Option.{option_or, unwrap_or}
-use Rattle.std.proofs.lemmas.Bool.Decides.{eqb_tells}
-use Rattle.cal_policy.proofs.ListLemmas.OneMore.{last_of_push}
-use Rattle.cal_policy.proofs.HistoryLemmas.OneMore.{ban_push}
-use Rattle.cal_policy.specs.History.{ban_of, ban_made}
+use Rattle.cal_measure.proofs.Common.{◌≡◌, ◌<◌, ◌==◌, ◌∙◌, ℕ, List, [], ◌∷◌, ◌++◌, length, Option, Some, None, if◌then◌else◌, slice_set, inl, inr, refl, sym, ap, option_or, unwrap_or, eqb_tells, last_of_push, ban_push, ban_of, ban_made, Action, Free, Unban, Ban, Revoke, Cap, Grant, Move, actions_in, made_in}
 use Rattle.cal_policy.specs.declared.board.bans.BannedFor.{BannedFor}
-use Rattle.cal_policy.specs.declared.history.action.Action.{Action}
-use Rattle.cal_policy.specs.declared.history.action.Action.TheVariants.{Free, Unban, Ban, Revoke, Cap, Grant}
 use Rattle.cal_measure.specs.Spans.Bans.{AreBans, ban_at, ban_by, banned, banned_by, last_banned}
-use Rattle.cal_measure.specs.Spans.{Move, actions_in, made_in}
 use Rattle.cal_measure.specs.declared.spans.bans.BanSpan.{BanSpan}
 use Rattle.cal_measure.proofs.SpanLemmas.StaysKept.{actions_push, written}
 

@@ -1,29 +1,11 @@
 -- The span that a core is in says of it what its holder does.
-use Rattle.std.proofs.Common.{◌≡◌, ◌<◌, ◌+◌, ◌∙◌, ◌&&◌, ℕ, zero, suc, true, List, [], ◌∷◌, ◌++◌, length, map, take, get_or, Option, Some, None, IsTrue, option_map, ltb, inl, inr, refl, sym, ap, subst, arith, append_assoc, ⊎_elim}
-use Rattle.std.specs.List.{Contains}
-use Rattle.std.specs.Option.{option_or, unwrap_or}
-use Rattle.std.proofs.lemmas.Bool.{and_parts}
-use Rattle.std.proofs.lemmas.Bool.Decides.{eqb_tells}
+use Rattle.cal_measure.proofs.Common.{◌≡◌, ◌<◌, ◌+◌, ◌∙◌, ◌&&◌, ℕ, zero, suc, true, List, [], ◌∷◌, ◌++◌, length, map, take, get_or, Option, Some, None, IsTrue, option_map, ltb, inl, inr, refl, sym, ap, subst, arith, append_assoc, ⊎_elim, Contains, option_or, unwrap_or, and_parts, eqb_tells, append-nil, take_more, slice_get_cases, get_or_from_slice_get, some_same, Table, Holder, Action, Free, Unban, Ban, Revoke, Cap, Grant, Cause, PassEntry, placement_of, is_held, actions_of, holder_of, holder_made, last_placement, placement_made, left_by, holder_push, last_placement_push, Move, made_in, moves_of, span_at, spans_of, Span}
 use Rattle.std.proofs.lemmas.Grind.{flat_map-append}
-use Rattle.std.proofs.lemmas.List.{append-nil, take_all, take_more}
-use Rattle.std.proofs.lemmas.Option.{slice_get_cases, get_or_from_slice_get}
-use Rattle.cal_machine.proofs.Last.{some_same}
-use Rattle.cal_machine.specs.Table.{Table}
-use Rattle.cal_policy.specs.declared.board.holders.Holder.{Holder}
+use Rattle.std.proofs.lemmas.List.{take_all}
 use Rattle.cal_policy.specs.declared.board.holders.Holder.TheVariants as holders
 use Rattle.cal_policy.specs.declared.board.holders.Placement as placements
-use Rattle.cal_policy.specs.declared.history.action.Action.{Action}
-use Rattle.cal_policy.specs.declared.history.action.Action.TheVariants.{Free, Unban, Ban, Revoke, Cap, Grant}
-use Rattle.cal_policy.specs.declared.history.action.Cause.{Cause}
-use Rattle.cal_policy.specs.declared.history.entry.PassEntry.{PassEntry}
-use Rattle.cal_policy.specs.Board.{placement_of}
-use Rattle.cal_policy.specs.Board.Counts.{is_held}
-use Rattle.cal_policy.specs.History.{actions_of, holder_of, holder_made, last_placement, placement_made, left_by}
 use Rattle.cal_policy.specs.Judgement.Orderly.{fits_state, names_table, FitInTurn, IsOrderly}
-use Rattle.cal_policy.proofs.HistoryLemmas.OneMore.{holder_push, last_placement_push}
-use Rattle.cal_measure.specs.Spans.{Move, made_in, moves_of, span_at, spans_of}
 use Rattle.cal_measure.specs.Spans.Laws.{Shows, IsStayOf}
-use Rattle.cal_measure.specs.declared.spans.span.Span.{Span}
 use Rattle.cal_measure.proofs.SpanLemmas.StaysKept.{revoked, stay_made, stay_push, moves-more}
 use Rattle.cal_measure.proofs.SpanLemmas.Showing.{stay-open, of-some, stays-shown, shown-stays}
 

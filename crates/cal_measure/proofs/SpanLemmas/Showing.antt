@@ -1,20 +1,8 @@
 -- The spans of a history show what its cores are in.
-use Rattle.std.proofs.Common.{◌≡◌, ◌⊎◌, ◌<◌, ◌≤◌, ◌+◌, ◌∙◌, ℕ, zero, suc, List, [], ◌∷◌, ◌++◌, map, take, drop, Option, Some, None, IfSome, option_map, inl, inr, refl, sym, ap, subst, arith, add-zero, append_assoc}
-use Rattle.std.specs.List.{Contains}
-use Rattle.std.proofs.lemmas.Bool.Decides.{eqb_tells}
-use Rattle.std.proofs.lemmas.List.{append-nil}
+use Rattle.cal_measure.proofs.Common.{◌≡◌, ◌⊎◌, ◌<◌, ◌≤◌, ◌+◌, ◌∙◌, ℕ, zero, suc, List, [], ◌∷◌, ◌++◌, map, take, drop, Option, Some, None, IfSome, option_map, inl, inr, refl, sym, ap, subst, arith, add-zero, append_assoc, Contains, eqb_tells, append-nil, some_same, each_of_append, each_after, Action, Free, Unban, Ban, Revoke, Cap, Grant, Cause, PassEntry, Move, made_in, moves_from, moves_of, granted, ended, span_at, ending, ended_by, open_of, spans_of, one_of, Span}
 use Rattle.std.proofs.lemmas.List.Elements.{Contains-append_left, Contains-append_right, Contains-append_cases, Contains-push, Contains-push_cases}
-use Rattle.cal_machine.proofs.Last.{some_same}
-use Rattle.cal_policy.proofs.ListLemmas.OneMore.{each_of_append}
-use Rattle.cal_policy.specs.History.Lists.{each_after}
-use Rattle.cal_policy.specs.declared.history.action.Action.{Action}
-use Rattle.cal_policy.specs.declared.history.action.Action.TheVariants.{Free, Unban, Ban, Revoke, Cap, Grant}
-use Rattle.cal_policy.specs.declared.history.action.Cause.{Cause}
-use Rattle.cal_policy.specs.declared.history.entry.PassEntry.{PassEntry}
-use Rattle.cal_measure.specs.Spans.{Move, made_in, moves_from, moves_of, granted, ended, span_at, ending, ended_by, ended_of, open_of, spans_of}
+use Rattle.cal_measure.specs.Spans.{ended_of}
 use Rattle.cal_measure.specs.Spans.Laws.{GoesOn, Shows, IsOf}
-use Rattle.cal_measure.specs.Turns.{one_of}
-use Rattle.cal_measure.specs.declared.spans.span.Span.{Span}
 use Rattle.cal_measure.proofs.SpanLemmas.StaysKept.{revoked, stay_made, stay_after, stay_push, stay_more}
 
 -- what each move ends, told what came before it

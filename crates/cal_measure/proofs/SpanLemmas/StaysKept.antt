@@ -1,24 +1,10 @@
 -- What one more action makes of what is kept of the spans.
-use Rattle.std.proofs.Common.{◌≡◌, ◌<◌, ◌+◌, ◌==◌, ◌∙◌, ℕ, zero, suc, false, List, [], ◌∷◌, ◌++◌, length, map, take, Option, Some, None, option_map, if◌then◌else◌, get_or, slice_set, inl, inr, refl, sym, ap, subst, arith, add-one, add-zero, append_assoc}
-use Rattle.std.specs.Option.{option_or, unwrap_or}
-use Rattle.std.proofs.lemmas.Bool.Decides.{eqb_tells}
-use Rattle.std.proofs.lemmas.List.{append-nil, get_or-set_other, get_or-set_same, map-append}
-use Rattle.cal_policy.proofs.ListLemmas.OneMore.{each_of_push, last_of_push, unwrap_or_or}
-use Rattle.cal_policy.proofs.HistoryLemmas.OneMore.{holder_push, last_placement_push}
-use Rattle.cal_policy.specs.Board.Counts.{is_free}
-use Rattle.cal_policy.specs.History.Lists.{last_of}
-use Rattle.cal_policy.specs.History.{holder_of, holder_made, last_placement, placement_made, left_by}
-use Rattle.cal_policy.specs.declared.board.holders.Holder.{Holder}
+use Rattle.cal_measure.proofs.Common.{◌≡◌, ◌<◌, ◌+◌, ◌==◌, ◌∙◌, ℕ, zero, suc, false, List, [], ◌∷◌, ◌++◌, length, map, take, Option, Some, None, option_map, if◌then◌else◌, get_or, slice_set, inl, inr, refl, sym, ap, subst, arith, add-one, add-zero, append_assoc, option_or, unwrap_or, eqb_tells, append-nil, get_or-set_other, get_or-set_same, map-append, each_of_push, last_of_push, unwrap_or_or, holder_push, last_placement_push, is_free, last_of, holder_of, holder_made, last_placement, placement_made, left_by, Holder, Action, Free, Unban, Ban, Revoke, Cap, Grant, Cause, PassEntry, Move, made_in, moves_from, actions_in, granted, begun_by, begun_of, told_by, span_by, span_at, ended_by, Span}
 use Rattle.cal_policy.specs.declared.board.holders.Holder.TheVariants as holders
 use Rattle.cal_policy.specs.declared.board.holders.Placement as placements
-use Rattle.cal_policy.specs.declared.history.action.Action.{Action}
-use Rattle.cal_policy.specs.declared.history.action.Action.TheVariants.{Free, Unban, Ban, Revoke, Cap, Grant}
-use Rattle.cal_policy.specs.declared.history.action.Cause.{Cause}
-use Rattle.cal_policy.specs.declared.history.entry.PassEntry.{PassEntry}
-use Rattle.cal_measure.specs.Spans.{Move, made_in, moves_from, actions_in, granted, begun_by, begun_of, told_by, told_of, span_by, span_at, ended_by, ended_of}
+use Rattle.cal_measure.specs.Spans.{told_of, ended_of}
 use Rattle.cal_measure.specs.Spans.Tracking.{AreStays}
 use Rattle.cal_measure.specs.declared.spans.span.Left.{Left}
-use Rattle.cal_measure.specs.declared.spans.span.Span.{Span}
 
 -- a span whose core is revoked
 abbrev pub revoked : ℕ → Cause → Span → Span

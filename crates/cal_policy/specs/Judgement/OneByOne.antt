@@ -72,7 +72,8 @@ taken_found cores history one = record {
 abbrev pub taken_looks : ℕ → List PassEntry → List FoundLook → List FoundLook
 taken_looks cores history looks = map (taken_found cores history) (enumerate_from 0 looks)
 
--- the input of the pass that takes looks one by one: that of the looks so changed
+-- the input of the pass that takes looks one by one: each refused look is busy, the others are as
+-- given
 abbrev pub taken_input : Table → List PassEntry → ℕ → ℕ → List FoundLook → Input
 taken_input table history now bandwidth looks =
     judged_input table history now bandwidth (taken_looks table.cores history looks)

@@ -23,7 +23,7 @@ module _ {Pass : Type 0} where
   abbrev pub at_start : SoFar Pass
   at_start = record { before = []; at_hand = None; ended = false }
 
-  -- all passes, the one at hand with them
+  -- all passes so far, the one at hand included
   abbrev pub passes_of : SoFar Pass → List Pass
   passes_of so_far = so_far.before ++ option_to_list so_far.at_hand
 

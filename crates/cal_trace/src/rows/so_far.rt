@@ -47,7 +47,7 @@ pub(crate) trait PassAtHand: Sized + Drop {
 #[derive(Drop)]
 pub(crate) struct PassesSoFar<P> {
     alloc: Global,
-    // How many passes there are, the one at hand with them.
+    // How many passes so far, the one at hand included.
     passes: usize,
     /// The pass at hand.
     pub at_hand: Option<P>,

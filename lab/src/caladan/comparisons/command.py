@@ -5,13 +5,14 @@ from dataclasses import replace
 from typing import Optional, Sequence
 
 from ..arrivals import is_some_within
-from ..files import STANDARD, Output, Source, joined, read_named
+from ..files import STANDARD, Output, Source, is_terminal, joined, read_named
 from ..labels import Labels, names_of, table_names
 from ..moving import Given, NoTask, ProgramMover
 from ..plans import plan_of
 from ..pool import each
 from ..programs import viewer
 from ..refusal import Refusal
+from ..stamps import tick_of
 from ..tables import SEPARATOR, Machine
 from ..varying import Variations, setting_text, varied, variations_of
 from ..words.parsing import Asked
@@ -75,7 +76,7 @@ class Comparison:
         given = self.source.read(self.front)
         came = None if self.came_name is None else (self.came_name, read_named(self.came_name))
         parts = parts_of(given, bool(variations), self.files, self.input_name)
-        labels = Labels(self.names, self.asked.one("tick") or "", table_names(self.files))
+        labels = Labels(self.names, tick_of(given, self.asked.one("tick")), table_names(self.files))
         return answer(self.asked, Reading(viewer(self.asked.one("program")), given, parts, bool(variations)),
                       variations, labels, came)
 
@@ -114,10 +115,11 @@ def runs_of(asked: Asked, reading: Reading, variations: Variations, labels: Labe
     return Runs(reading.view, terms_of(asked), machines, ProgramMover(reading.view, arrivals), names)
 
 
-def sheet_of(runs: Runs, variations: Variations, labels: Labels, has_came: bool, is_csv: bool) -> bytes:
+def sheet_of(runs: Runs, variations: Variations, labels: Labels, has_came: bool, is_csv: bool,
+             is_shown: bool = False) -> bytes:
     """What is written of the runs of a comparison, which are made; in all rows where the file of when requests came is
     given."""
-    sheet = CompareSheet(runs.all(), runs.terms.policies, variations, labels, has_came, is_csv)
+    sheet = CompareSheet(runs.all(is_shown), runs.terms.policies, variations, labels, has_came, is_csv)
     return sheet.written().encode("utf-8", "surrogateescape")
 
 
@@ -129,7 +131,7 @@ def answer(asked: Asked, reading: Reading, variations: Variations, labels: Label
         machines, arrivals = tables_of(asked, reading, variations, labels)
         return input_text(ProgramMover(reading.view, arrivals), machines, variations, table)
     runs = runs_of(asked, reading, variations, labels, came)
-    return sheet_of(runs, variations, labels, came is not None, asked.has("csv"))
+    return sheet_of(runs, variations, labels, came is not None, asked.has("csv"), is_terminal())
 
 
 def table_name(variations: Variations, table: int) -> str:

@@ -11,6 +11,7 @@ from ..measured import CROWD, TIMES, Measured, measured_of
 from ..moving import Moved, Mover, NoTask
 from ..plans import Plan
 from ..programs import Ran, Text, Viewer, Word, refused
+from ..progress import Progress
 from ..refusal import Refusal
 from ..tables import SEPARATOR, Machine
 
@@ -101,11 +102,20 @@ class Runs:
             raise refused(ran)
         return ComparedRun(measured_of(ran.out), moved.came is not None, is_ranked, len(self.machines[table].tasks))
 
-    def all(self) -> list[ComparedRun]:
+    def all(self, is_shown: bool = False) -> list[ComparedRun]:
         """The runs of each table by each policy: of the first table by each, then of the next. The refusal is that of
-        the first table by the first policy that has one."""
+        the first table by the first policy that has one. On a terminal it may be shown how many are made."""
         policies = self.terms.policies
         units = list(itertools.product(range(len(self.machines)), policies))
         places = [place * len(self.machines) + table for table in range(len(self.machines))
                   for place in range(len(policies))]
-        return pool.all_of(self.run, units, pool.at_a_time(), places)
+        progress = Progress(len(units), is_shown)
+
+        def made(unit: tuple[int, str]) -> ComparedRun:
+            run = self.run(unit)
+            progress.made()
+            return run
+        try:
+            return pool.all_of(made, units, pool.at_a_time(), places)
+        finally:
+            progress.ended()

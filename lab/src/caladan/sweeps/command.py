@@ -2,7 +2,7 @@
 from __future__ import annotations
 
 import itertools
-from typing import Sequence
+from typing import TYPE_CHECKING, Optional, Sequence
 
 from .. import pool
 from ..files import Output, Source, is_terminal, say
@@ -18,6 +18,9 @@ from .loads import OFFERED, TASK
 from .runs import Point, Runs, SweptRun, Unit
 from .sheet import SweepSheet
 from .verdict import Swept, Verdict
+
+if TYPE_CHECKING:
+    from ..logs.log import Log
 
 # The words by which the program reads a table as a sweep does.
 READ = ["arrivals", "--task", "0", "--load", "1", "--turns", "1", "--summary"]
@@ -72,6 +75,7 @@ def swept_of(view: Viewer, asked: SweepAsked, machines: Sequence[Machine], is_sh
 def answer(of_words: SweepAsked, given: bytes, view: Viewer, is_shown: bool = False) -> tuple[str, str]:
     """What is written of the sweep of an input, and what is said of objectives that it does not keep."""
     machine = table_of(view, given)
+    of_words = of_words.for_table(given)
     counted(of_words.labels.names, len(machine.tasks))
     known(of_words, machine)
     machines = varied(view, machine, of_words.variations, pool.each) if of_words.variations else [machine]
@@ -80,9 +84,9 @@ def answer(of_words: SweepAsked, given: bytes, view: Viewer, is_shown: bool = Fa
     return SweepSheet(verdict.swept).written(verdict), verdict.lines()
 
 
-def asked_of(asked: Asked) -> SweepAsked:
-    """What the words ask for, but for the table."""
-    of_words = sweep_asked(asked, Labels(names_of(asked.one("names")), asked.one("tick") or ""))
+def asked_of(asked: Asked, log: Optional[Log] = None) -> SweepAsked:
+    """What the words ask for, but for the table, maybe of a log that is read."""
+    of_words = sweep_asked(asked, Labels(names_of(asked.one("names")), asked.one("tick") or ""), log)
     if not of_words.loads.has_misses:
         of_words.plan.refuse_without_misses()
     return of_words

@@ -4,7 +4,7 @@ from __future__ import annotations
 import itertools
 import re
 from dataclasses import dataclass, replace
-from typing import Optional, Sequence
+from typing import Optional, Protocol, Sequence
 
 from ..drawing import Drawn, arrivals_of, dealt, drawn
 from ..figures import thousandths
@@ -34,12 +34,15 @@ class Count:
 @dataclass(frozen=True)
 class Made:
     """Arrivals, when their requests came, what came to each task that has a load, and to which turn the first request
-    came that is left out, where that is known."""
+    came that is left out, where that is known; and of those of a log the turns of their run, and whether some of the
+    requests have misses."""
 
     arrivals: bytes
     came: bytes
     counts: dict[int, Count]
     left_from: Optional[int] = None
+    turns: Optional[int] = None
+    have_misses: Optional[bool] = None
 
     @property
     def is_cut(self) -> bool:
@@ -60,8 +63,15 @@ def too_many(asked: SweepAsked) -> Refusal:
     return Refusal(f"{asked.loads.flag} {asked.loads.word}: {TOO_MANY}")
 
 
-class Maker:
+class Making(Protocol):
     """What makes arrivals for tables that are swept."""
+
+    def made(self, machine: Machine, load: int, seed: int) -> Made:
+        """The arrivals of a load for a table."""
+
+
+class Maker:
+    """The same by loads."""
 
     def __init__(self, view: Viewer, asked: SweepAsked, machines: Sequence[Machine]) -> None:
         self.view, self.asked = view, asked

@@ -6,13 +6,14 @@ from dataclasses import dataclass
 from typing import Optional, Sequence
 
 from ..figures import MaybeFigure
+from ..logs.sweeping import LogLoads, LogMaker
 from ..measured import Measured, measured_of
 from ..programs import Text, Viewer, Word, refused
 from ..progress import Progress
 from ..shares import held_in_series, held_in_spans, share_of
 from ..tables import SEPARATOR, Machine
 from .asked import SweepAsked
-from .making import Count, Made, Maker
+from .making import Count, Made, Maker, Making
 
 NONE_CAME = "no request came within the turns"
 
@@ -44,7 +45,7 @@ class Point:
         self.lock = threading.Lock()
         self.kept: dict[tuple[int, ...], Made] = {}
 
-    def made(self, maker: Maker, machine: Machine) -> Made:
+    def made(self, maker: Making, machine: Machine) -> Made:
         with self.lock:
             if machine.limits not in self.kept:
                 self.kept[machine.limits] = maker.made(machine, self.load, self.seed)
@@ -74,7 +75,9 @@ class Runs:
 
     def __init__(self, view: Viewer, asked: SweepAsked, machines: Sequence[Machine], progress: Progress) -> None:
         self.view, self.asked, self.progress = view, asked, progress
-        self.maker = Maker(view, asked, machines)
+        self.maker: Making = Maker(view, asked, machines)
+        if isinstance(asked.loads, LogLoads):
+            self.maker = LogMaker(view, asked.loads)
 
     def run(self, unit: Unit) -> SweptRun:
         """Makes a run."""
@@ -87,8 +90,8 @@ class Runs:
     def words_of(self, unit: Unit, made: Made) -> list[str]:
         """The words for how the run goes. Where no request has misses, a plan has none to bear or to show."""
         asked = self.asked
-        some = any(it.has_misses and made.counts[it.task].came > made.counts[it.task].left_out
-                   for it in asked.loads.tasks)
+        some = made.have_misses if made.have_misses is not None else any(
+            it.has_misses and made.counts[it.task].came > made.counts[it.task].left_out for it in asked.loads.tasks)
         plan = asked.plan if some else asked.plan.without_misses()
         return ["--policy", unit.policy, *plan.words()]
 
@@ -96,7 +99,9 @@ class Runs:
         asked = self.asked
         words, given = self.words_of(unit, made), unit.machine.text() + SEPARATOR + made.arrivals
         measure: list[Word] = ["measure", "--csv", "--came", Text(made.came), *words]
-        ran = self.view.ask([*measure, "--from", str(asked.first), "--to", str(asked.after)], given)
+        turns = asked.turns if made.turns is None else made.turns
+        first, after = asked.window(turns)
+        ran = self.view.ask([*measure, "--from", str(first), "--to", str(after)], given)
         is_ranked = not (ran.status == 2 and NONE_CAME in ran.err)
         if not is_ranked:
             ran = self.view.ask(measure, given)
@@ -108,9 +113,9 @@ class Runs:
         def held() -> int:
             if in_lockstep:
                 spans = self.view.told(["spans", *words], given).out
-                return held_in_spans(spans, unit.machine.best_effort, asked.ticks * asked.turns)
+                return held_in_spans(spans, unit.machine.best_effort, asked.ticks * turns)
             return held_in_series(self.view.told(["series", *words], given).out, unit.machine.best_effort)
         cut_from = made.left_from if made.is_cut else None
-        is_cut = cut_from is not None and cut_from < asked.after
+        is_cut = cut_from is not None and cut_from < after
         share = share_of(unit.machine, numbers, asked.ticks if in_lockstep else 1, held)
         return SweptRun(made.counts, cut_from, is_cut, numbers, is_ranked, share)

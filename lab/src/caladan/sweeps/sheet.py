@@ -13,7 +13,7 @@ from .verdict import Swept, Verdict
 
 TIMES = {**{it: RANKS[it] for it in ("p50", "p90", "p99", "p99.9")}, "mean": "response mean"}
 COUNTS = ("came", "later", "far", "left out", "served", "mean cores", "best-effort share")
-SEED_ROWS = ("least", "median", "greatest")
+SEED_ROWS, SEED = ("least", "median", "greatest"), "seed"
 
 
 def figure_of(run: SweptRun, task: int, column: str) -> MaybeFigure:
@@ -51,10 +51,7 @@ class SweepSheet:
         self.has_policies = len(self.asked.policies) > 1
 
     def load_heading(self) -> str:
-        name = self.asked.labels.name(self.asked.loads.task)
-        if self.asked.loads.in_cores:
-            return f"offered to {name}" if name is not None else "offered"
-        return f"load of {name}" if name is not None else "load"
+        return self.asked.loads.heading(self.asked.labels.name(self.asked.loads.task))
 
     def cells_of(self, values: Sequence[str], policy: Optional[str]) -> Cells:
         """The cells of the values that make a table and of a policy, or of what stands over them: a cell for each; a
@@ -74,20 +71,36 @@ class SweepSheet:
         """The first row: what each column is."""
         row = self.front_heading()
         row += ["task"] if self.has_tasks else []
-        row += [f"of {len(self.asked.seeds)} seeds"] if self.has_seeds else []
+        row += self.seed_heading()
         for name in TIMES:
             put_heading(row, name, self.asked.is_csv, self.asked.labels.tick)
         return [*row, *COUNTS]
 
+    def seed_heading(self) -> Cells:
+        if self.asked.is_by_seed:
+            return [SEED]
+        return [f"of {len(self.asked.seeds)} seeds"] if self.has_seeds else []
+
+    def seed_rows(self) -> list[str]:
+        """Which rows a setting has: one for each seed, or the three of several."""
+        if self.asked.is_by_seed:
+            return list(map(str, self.asked.seeds))
+        return list(SEED_ROWS if self.has_seeds else SEED_ROWS[:1])
+
+    def runs_of(self, load: int, table: int, policy: int, which: str) -> list[SweptRun]:
+        """The runs that a row is of."""
+        runs = self.swept.of_seeds(load, table, policy)
+        return [runs[self.asked.seeds.index(int(which))]] if self.asked.is_by_seed else runs
+
     def row(self, load: int, table: int, policy: int, task: int, which: str) -> Cells:
         """A row of the runs of a table by a policy at a load."""
-        runs = self.swept.of_seeds(load, table, policy)
+        runs = self.runs_of(load, table, policy, which)
         row = [thousandths(load), *self.names_of(table, policy)]
         name = self.asked.labels.name(task)
         row += [str(task) if name is None else name] if self.has_tasks else []
-        row += [which] if self.has_seeds else []
+        row += [which] if self.seed_heading() else []
         for column in (*TIMES, *COUNTS):
-            figure = of_seeds([figure_of(it, task, column) for it in runs], which)
+            figure = of_seeds([figure_of(it, task, column) for it in runs], which if runs[1:] else SEED_ROWS[0])
             put_figure(row, figure, self.asked.is_csv and column in TIMES)
         return row
 
@@ -97,9 +110,8 @@ class SweepSheet:
                 for policy in range(len(self.asked.policies))]
 
     def rows(self) -> list[Cells]:
-        which = SEED_ROWS if self.has_seeds else SEED_ROWS[:1]
         return [self.heading(), *(self.row(*run, task, it) for run in self.runs() for task in self.asked.shown_tasks
-                                  for it in which)]
+                                  for it in self.seed_rows())]
 
     def choices_at(self, load: int, verdict: Verdict) -> list[Cells]:
         """The settings that keep every objective at a load: those first that leave most to best effort, of several

@@ -4,7 +4,6 @@ from __future__ import annotations
 from dataclasses import dataclass
 from typing import Optional, Sequence
 
-from ..figures import thousandths
 from ..refusal import NAME
 from ..varying import setting_at
 from .asked import SweepAsked
@@ -61,8 +60,7 @@ class Verdict:
         self.swept, self.asked = swept, swept.asked
 
     def load(self, load: int) -> str:
-        told = thousandths(load)
-        return f"{told} cores" if self.asked.loads.in_cores else f"load {told}"
+        return self.asked.loads.said(load)
 
     def front(self, table: int, policy: int) -> str:
         """The values that make a table, and the policy where there are several."""

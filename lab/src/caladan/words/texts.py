@@ -138,6 +138,8 @@ same requests for all, drawn for the greatest limit, each at its thread modulo
 the table's, and later if its turn is taken. With several policies there is a
 row for each. --seeds N runs each load with N seeds: for each row there are
 three, the least, the median and the greatest of each column by itself.
+With --by-seed there is a row for each seed in their place. `caladan_lab seeds`
+draws both.
 --slo is an objective for a task: p50, p90, p99, p99.9 or max, in ticks. It is
 undecided where the request at its rank is pending for less, and missed where
 some that came before the end of the window are left out; of several seeds one
@@ -186,6 +188,9 @@ chrome://tracing open. For arrivals they show the run that
 the turns that worked at it, and arrows from the request to these turns.
 With --pace, --beside, --memory or --figure there must be arrivals, and their
 run is like a machine: docs/VIEWER.md, "Runs like a machine".
+With --commands each slice of a core has the command that says why it began, as
+its argument `explain`; not of a run that is like a machine, which no command
+explains.
 Exit status: 0 done, 2 rejected input, 3 memory or output was refused.
 
 To try it:

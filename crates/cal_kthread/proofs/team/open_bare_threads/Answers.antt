@@ -1,7 +1,4 @@
-use Rattle.std.proofs.Common.{List, map, length, sym, ap, ◌∙◌, subst, arith}
-use Rattle.cal_kthread.specs.Team.Linking.{unlinked}
-use Rattle.cal_kthread.specs.Team.Opening.{AreOpened}
-use Rattle.cal_kthread.specs.Turn.Thread.{KernelView}
+use Rattle.cal_kthread.proofs.Common.{List, map, length, sym, ap, ◌∙◌, subst, arith, unlinked, AreOpened, KernelView}
 use Rattle.cal_kthread.proofs.TeamLemmas.Opened.{opened-linked, written-back}
 use Rattle.cal_kthread.proofs.team.open_bare_threads.Goals as goal
 

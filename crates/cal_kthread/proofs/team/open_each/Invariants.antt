@@ -1,7 +1,4 @@
-use Rattle.std.proofs.Common.{◌≡◌, length}
-use Rattle.cal_kthread.specs.Team.Opening.{AreOpened}
-use Rattle.cal_kthread.specs.Places.{Each}
-use Rattle.cal_kthread.specs.Turn.Thread.{IsFresh}
+use Rattle.cal_kthread.proofs.Common.{◌≡◌, length, AreOpened, Each, IsFresh}
 use Rattle.cal_kthread.proofs.team.open_each.Given as goal
 
 abbrev pub invariant-loop-number : goal.invariant-loop-number

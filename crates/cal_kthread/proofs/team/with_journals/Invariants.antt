@@ -1,5 +1,4 @@
-use Rattle.std.proofs.Common.{◌≡◌, ◌++◌}
-use Rattle.std.specs.Vec.Iter.{into_iter_items}
+use Rattle.cal_kthread.proofs.Common.{◌≡◌, ◌++◌, into_iter_items}
 use Rattle.cal_kthread.proofs.team.with_journals.Given as goal
 
 abbrev pub invariant-loop-thread : goal.invariant-loop-thread

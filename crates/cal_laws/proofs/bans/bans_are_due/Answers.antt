@@ -1,6 +1,4 @@
-use Rattle.cal_policy.specs.declared.history.action.Action.TheVariants.{Ban}
-use Rattle.cal_policy.specs.Pass.Made.{IsBanned}
-use Rattle.cal_laws.specs.Point.{setting_at, made_at}
+use Rattle.cal_laws.proofs.Common.{Ban, IsBanned, setting_at, made_at}
 use Rattle.cal_laws.proofs.BanLemmas.BanDue.{is_due}
 use Rattle.cal_laws.proofs.PointLemmas.EachAction.{sound_at}
 use Rattle.cal_laws.proofs.bans.bans_are_due.Goals as goal

@@ -1,11 +1,4 @@
-use Rattle.std.proofs.Common.{◌≡◌, ℕ, ◌+◌, true, eqb}
-use Rattle.std.proofs.lemmas.Bool.{and_from, eq-eqb, both_ways}
-use Rattle.cal_machine.specs.Machine.{sibling_of}
-use Rattle.cal_policy.specs.declared.history.action.Action.TheVariants.{Unban}
-use Rattle.cal_policy.specs.declared.board.bans.BannedFor.{BannedFor}
-use Rattle.cal_policy.specs.Setting.{Setting, kept_now}
-use Rattle.cal_policy.specs.Pass.Bans.{still_shows}
-use Rattle.cal_laws.specs.Bans.{IsShown}
+use Rattle.cal_laws.proofs.Common.{◌≡◌, ℕ, ◌+◌, true, eqb, and_from, eq-eqb, both_ways, sibling_of, Unban, BannedFor, Setting, kept_now, still_shows, IsShown}
 use Rattle.cal_laws.proofs.PointLemmas.EachAction.{sound_at}
 use Rattle.cal_laws.proofs.bans.bans_end_unshown.Goals as goal
 

@@ -1,7 +1,4 @@
-use Rattle.std.proofs.Common.{refl}
-use Rattle.cal_machine.specs.Machine.{sibling_of}
-use Rattle.cal_policy.specs.History.{is_banned}
-use Rattle.cal_laws.specs.Point.{actions_at}
+use Rattle.cal_laws.proofs.Common.{refl, sibling_of, is_banned, actions_at}
 use Rattle.cal_laws.proofs.BanLemmas.NoneDue.{beside_banned}
 use Rattle.cal_laws.proofs.bans.long_requests_have_banned_siblings.Goals as goal
 

@@ -1,8 +1,4 @@
-use Rattle.std.proofs.Common.{ap, ◌∙◌}
-use Rattle.cal_policy.specs.declared.history.action.Action.TheVariants.{Grant}
-use Rattle.cal_policy.specs.History.{is_banned}
-use Rattle.cal_policy.specs.Pass.Made.{IsGranted}
-use Rattle.cal_laws.specs.Point.{setting_at, made_at, actions_at}
+use Rattle.cal_laws.proofs.Common.{ap, ◌∙◌, Grant, is_banned, IsGranted, setting_at, made_at, actions_at}
 use Rattle.cal_laws.proofs.PointLemmas.PassKeeps.{chosen_unbanned}
 use Rattle.cal_laws.proofs.PointLemmas.EachAction.{sound_at}
 use Rattle.cal_laws.proofs.bans.no_banned_is_granted.Goals as goal

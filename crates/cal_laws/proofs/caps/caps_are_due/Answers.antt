@@ -1,5 +1,4 @@
-use Rattle.cal_policy.specs.declared.history.action.Action.TheVariants.{Cap}
-use Rattle.cal_laws.specs.Point.{setting_at, made_at}
+use Rattle.cal_laws.proofs.Common.{Cap, setting_at, made_at}
 use Rattle.cal_laws.proofs.CapLemmas.CapsDue.{cap_due}
 use Rattle.cal_laws.proofs.PointLemmas.EachAction.{sound_at}
 use Rattle.cal_laws.proofs.caps.caps_are_due.Goals as goal

@@ -1,5 +1,4 @@
-use Rattle.cal_policy.specs.declared.history.action.Action.TheVariants.{Revoke}
-use Rattle.cal_laws.specs.Point.{setting_at, made_at}
+use Rattle.cal_laws.proofs.Common.{Revoke, setting_at, made_at}
 use Rattle.cal_laws.proofs.CauseLemmas.Causes.{made_for_cause}
 use Rattle.cal_laws.proofs.cause.revocations_have_cause.Goals as goal
 

@@ -1,15 +1,8 @@
-use Rattle.std.proofs.Common.{◌≡◌, ℕ, List, [], Some, sym, subst}
-use Rattle.cal_policy.specs.declared.history.action.Action.TheVariants.{Revoke}
-use Rattle.cal_policy.specs.declared.history.action.Cause.{Cause}
+use Rattle.cal_laws.proofs.Common.{◌≡◌, ℕ, List, [], Some, sym, subst, Revoke, Cause, Action, EachAfter, each_at, RevocationsHaveCause, Point, setting_at, made_at, next_at}
 use Rattle.cal_policy.specs.declared.policy.Policy.{Policy}
 use Rattle.cal_policy.specs.declared.policy.Policy.TheVariants.{Caladan, Assured}
-use Rattle.cal_policy.specs.declared.history.action.Action.{Action}
 use Rattle.cal_policy.specs.Assured.Cause as assured
-use Rattle.cal_policy.specs.Pass.Made.{EachAfter}
 use Rattle.cal_policy.proofs.AssuredLemmas.Done.{IsDone, pass_done}
-use Rattle.cal_policy.proofs.ListLemmas.EachAfter.{each_at}
-use Rattle.cal_laws.specs.Cause.{RevocationsHaveCause}
-use Rattle.cal_laws.specs.Point.{Point, setting_at, made_at, next_at}
 use Rattle.cal_laws.specs.Policies.{IsPointBy, IsOwnPoint, HasCauseBy}
 use Rattle.cal_laws.proofs.cause.revocations_have_cause_by.Goals as goal
 

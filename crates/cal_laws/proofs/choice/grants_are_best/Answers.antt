@@ -1,5 +1,4 @@
-use Rattle.cal_policy.specs.declared.history.action.Action.TheVariants.{Grant}
-use Rattle.cal_laws.specs.Point.{setting_at, made_at}
+use Rattle.cal_laws.proofs.Common.{Grant, setting_at, made_at}
 use Rattle.cal_laws.proofs.ChoiceLemmas.Chosen.{best_grant}
 use Rattle.cal_laws.proofs.PointLemmas.EachAction.{sound_at}
 use Rattle.cal_laws.proofs.choice.grants_are_best.Goals as goal

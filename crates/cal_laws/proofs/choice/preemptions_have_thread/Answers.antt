@@ -1,7 +1,5 @@
-use Rattle.cal_policy.specs.declared.history.action.Action.TheVariants.{Revoke}
+use Rattle.cal_laws.proofs.Common.{Revoke, IsPreempted, setting_at, made_at, actions_at}
 use Rattle.cal_policy.specs.declared.history.action.Cause.TheVariants.{Preempt}
-use Rattle.cal_policy.specs.Pass.Made.{IsPreempted}
-use Rattle.cal_laws.specs.Point.{setting_at, made_at, actions_at}
 use Rattle.cal_laws.proofs.ChoiceLemmas.Chosen.{longest, has_thread}
 use Rattle.cal_laws.proofs.choice.preemptions_have_thread.Goals as goal
 

@@ -1,7 +1,4 @@
-use Rattle.std.proofs.Common.{ℕ, sym, subst}
-use Rattle.cal_policy.specs.declared.history.action.Action.TheVariants.{Grant}
-use Rattle.cal_laws.specs.Point.{setting_at, actions_at, made_at}
-use Rattle.cal_laws.specs.Limits.{MayBookMore}
+use Rattle.cal_laws.proofs.Common.{ℕ, sym, subst, Grant, setting_at, actions_at, made_at, MayBookMore}
 use Rattle.cal_laws.proofs.PointLemmas.EachAction.{sound_at}
 use Rattle.cal_laws.proofs.ChoiceLemmas.Granted.{grant_facts, books}
 use Rattle.cal_laws.proofs.limits.grants_keep_to_caps.Goals as goal

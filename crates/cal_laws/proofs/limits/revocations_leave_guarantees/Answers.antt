@@ -1,11 +1,4 @@
-use Rattle.std.proofs.Common.{ℕ, List, arith}
-use Rattle.cal_machine.specs.TableTasks.{owner_of}
-use Rattle.cal_policy.specs.declared.history.action.Action.{Action}
-use Rattle.cal_policy.specs.declared.history.action.Action.TheVariants.{Revoke}
-use Rattle.cal_policy.specs.declared.history.action.Cause.{Cause}
-use Rattle.cal_policy.specs.Setting.{Setting}
-use Rattle.cal_policy.specs.Laws.{ActionIsOneMore}
-use Rattle.cal_laws.specs.Limits.{LeavesGuarantee}
+use Rattle.cal_laws.proofs.Common.{ℕ, List, arith, owner_of, Action, Revoke, Cause, Setting, ActionIsOneMore, LeavesGuarantee}
 use Rattle.cal_laws.proofs.CapLemmas.Held.{loses_one}
 use Rattle.cal_laws.proofs.PointLemmas.EachAction.{sound_at}
 use Rattle.cal_laws.proofs.CauseLemmas.Revoked.{IsRevocable, takes_held, revocable}

@@ -1,15 +1,6 @@
-use Rattle.std.proofs.Common.{◌≡◌, ℕ, ◌<◌, zero, suc, List, [], ◌∷◌, take, Some, sym, subst, arith}
-use Rattle.std.specs.List.{slice_get}
-use Rattle.std.proofs.lemmas.List.Elements.{All-get_or}
-use Rattle.std.proofs.lemmas.Option.{slice_get_within, get_or_from_slice_get}
-use Rattle.cal_machine.specs.Table.{Table}
-use Rattle.cal_policy.specs.declared.history.action.Action.{Action}
-use Rattle.cal_policy.specs.Pass.Made.{EachAfter}
-use Rattle.cal_laws.specs.Point.{setting_at, made_at}
-use Rattle.cal_laws.specs.Turns.{turn_of}
+use Rattle.cal_laws.proofs.Common.{◌≡◌, ℕ, ◌<◌, zero, suc, List, [], ◌∷◌, take, Some, sym, subst, arith, slice_get, All-get_or, slice_get_within, get_or_from_slice_get, Table, Action, EachAfter, setting_at, made_at, turn_of, each_at}
 use Rattle.cal_laws.proofs.OneEachLemmas.Turns.{Below, IsInTurn, pass_in_turn}
 use Rattle.cal_laws.proofs.one_each.actions_come_in_turn.Goals as goal
-use Rattle.cal_policy.proofs.ListLemmas.EachAfter.{each_at}
 
 at_taken : {X : Type 0} (xs : List X) (n j : ℕ) (x : X) → j < n → slice_get xs j ≡ Some x → slice_get (take n xs) j ≡ Some x
 at_taken [] n j x lt e = cc

@@ -1,17 +1,4 @@
-use Rattle.std.proofs.Common.{◌≡◌, ℕ, ◌<◌, Bool, true, false, cond, eqb, List, [], ◌∷◌, length, Option, Some, refl, ap, subst, arith}
-use Rattle.std.proofs.lemmas.Bool.{eqb-true}
-use Rattle.cal_machine.specs.Laws.{ThreadsAreOfTheirTask}
-use Rattle.cal_machine.specs.Table.{IsTable}
-use Rattle.cal_machine.specs.declared.command.Command.{Command}
-use Rattle.cal_machine.specs.declared.command.Command.TheVariants.{Run, Park}
-use Rattle.cal_policy.specs.declared.history.action.Action.{Action}
-use Rattle.cal_policy.specs.declared.history.action.Action.TheVariants.{Free, Unban, Ban, Revoke, Cap, Grant}
-use Rattle.cal_policy.specs.History.{command_to, sends}
-use Rattle.cal_policy.specs.Board.{placement_of}
-use Rattle.cal_policy.specs.Setting.{Setting, so_far, has_room}
-use Rattle.cal_policy.specs.Pass.Steady.{IsSound}
-use Rattle.cal_policy.specs.Laws.{ActionIsOneMore, LastThreadIsPlaced, ChosenHasWaitedLongest, ChosenIsOfLeastClass, VictimHasMostMisses}
-use Rattle.cal_laws.specs.Point.{setting_at, made_at}
+use Rattle.cal_laws.proofs.Common.{◌≡◌, ℕ, ◌<◌, Bool, true, false, cond, eqb, List, [], ◌∷◌, length, Option, Some, refl, ap, subst, arith, eqb-true, ThreadsAreOfTheirTask, IsTable, Command, Run, Park, Action, Free, Unban, Ban, Revoke, Cap, Grant, command_to, sends, placement_of, Setting, so_far, has_room, IsSound, ActionIsOneMore, LastThreadIsPlaced, ChosenHasWaitedLongest, ChosenIsOfLeastClass, VictimHasMostMisses, setting_at, made_at}
 use Rattle.cal_laws.proofs.ExclusionLemmas.Excluded.{last_loser}
 use Rattle.cal_laws.proofs.ChoiceLemmas.Granted.{grant_facts}
 use Rattle.cal_laws.proofs.PointLemmas.EachAction.{sound_at}

@@ -1,10 +1,5 @@
-use Rattle.std.proofs.Common.{◌≡◌, ℕ, ◌+◌, ◌*◌, Some, ap, arith}
-use Rattle.cal_machine.specs.Table.{Table}
-use Rattle.cal_machine.specs.TableTasks.{owner_of}
-use Rattle.cal_policy.specs.declared.history.action.Action.{Action}
-use Rattle.cal_policy.specs.declared.history.action.Action.TheVariants.{Free, Unban, Ban, Revoke, Cap, Grant}
+use Rattle.cal_laws.proofs.Common.{◌≡◌, ℕ, ◌+◌, ◌*◌, Some, ap, arith, Table, owner_of, Action, Free, Unban, Ban, Revoke, Cap, Grant, task_served, turn_of, place_of_task}
 use Rattle.cal_policy.specs.declared.history.action.Cause.TheVariants as causes
-use Rattle.cal_laws.specs.Turns.{task_served, turn_of, place_of_task}
 use Rattle.cal_laws.proofs.one_each.tasks_are_served_once.Goals as goal
 
 -- the turn of what is done for a task is the task's

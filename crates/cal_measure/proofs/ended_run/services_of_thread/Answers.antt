@@ -1,11 +1,4 @@
-use Rattle.std.proofs.Common.{◌∙◌, List, sym, subst, ap}
-use Rattle.cal_kthread.specs.declared.journal.entry.Entry.{Entry}
-use Rattle.cal_measure.specs.Ends.{timed_of}
-use Rattle.cal_measure.specs.Services.{services_of}
-use Rattle.cal_measure.specs.ThreadWork.{AreTotalsOf}
-use Rattle.cal_measure.specs.Turns.{turns_of}
-use Rattle.cal_measure.specs.Work.{journal_of}
-use Rattle.cal_measure.specs.declared.thread_work.totals.ThreadTotals.{ThreadTotals}
+use Rattle.cal_measure.proofs.Common.{◌∙◌, List, sym, subst, ap, Entry, timed_of, services_of, AreTotalsOf, turns_of, journal_of, ThreadTotals}
 use Rattle.cal_measure.proofs.TotalsOfEach.{no_totals, totals_at}
 use Rattle.cal_measure.proofs.ended_run.services_of_thread.Goals as goal
 

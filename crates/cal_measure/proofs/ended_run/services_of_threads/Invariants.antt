@@ -1,9 +1,4 @@
-use Rattle.std.proofs.Common.{◌≡◌, ℕ, List}
-use Rattle.cal_kthread.specs.declared.journal.entry.Entry.{Entry}
-use Rattle.cal_machine.specs.TableTasks.{thread_of}
-use Rattle.cal_measure.specs.Joined.{joined_below}
-use Rattle.cal_measure.specs.Requests.{services_at}
-use Rattle.cal_measure.specs.ThreadWork.{AreTotalsOfEach}
+use Rattle.cal_measure.proofs.Common.{◌≡◌, ℕ, List, Entry, thread_of, joined_below, services_at, AreTotalsOfEach}
 use Rattle.cal_measure.proofs.ended_run.services_of_threads.Given as goal
 
 abbrev pub invariant-loop-j : goal.invariant-loop-j

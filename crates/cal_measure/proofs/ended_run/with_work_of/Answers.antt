@@ -1,8 +1,5 @@
-use Rattle.std.proofs.Common.{◌<◌, sym, subst, arith}
+use Rattle.cal_measure.proofs.Common.{◌<◌, sym, subst, arith, AreTotalsOf, journal_of, stolen_at, suspensions_at, worked_at, ThreadTotals}
 use Rattle.cal_machine.specs.Limits.{most_threads-is}
-use Rattle.cal_measure.specs.ThreadWork.{AreTotalsOf}
-use Rattle.cal_measure.specs.Work.{journal_of, stolen_at, suspensions_at, worked_at}
-use Rattle.cal_measure.specs.declared.thread_work.totals.ThreadTotals.{ThreadTotals}
 use Rattle.cal_measure.proofs.TotalsOfEach.{more_within, more_work, no_totals, none_more, totals_at}
 use Rattle.cal_measure.proofs.ended_run.with_work_of.Goals as goal
 

@@ -1,10 +1,5 @@
-use Rattle.std.proofs.Common.{◌≡◌, ◌<◌, ◌+◌, ◌++◌, ◌∙◌, ℕ, List, length, ap, subst, arith}
-use Rattle.std.specs.Prelude.{sum}
-use Rattle.cal_machine.specs.TableTasks.{limit_of, thread_of}
+use Rattle.cal_measure.proofs.Common.{◌≡◌, ◌<◌, ◌+◌, ◌++◌, ◌∙◌, ℕ, List, length, ap, subst, arith, sum, limit_of, thread_of, joined_below, IsWorkOf, stolen_at, suspensions_at, worked_at}
 use Rattle.cal_machine.specs.declared.numbering.TheConstants.{MOST_THREADS}
-use Rattle.cal_measure.specs.Joined.{joined_below}
-use Rattle.cal_measure.specs.ThreadWork.{IsWorkOf}
-use Rattle.cal_measure.specs.Work.{stolen_at, suspensions_at, worked_at}
 use Rattle.cal_measure.proofs.Steps.{joined_more}
 use Rattle.cal_measure.proofs.TotalsOfEach.{same_work}
 use Rattle.cal_measure.proofs.ended_run.work_of_threads.Goals as goal

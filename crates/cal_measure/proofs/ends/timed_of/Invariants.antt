@@ -1,6 +1,4 @@
-use Rattle.std.proofs.Common.{◌≡◌}
-use Rattle.cal_measure.specs.Ends.{timed_at}
-use Rattle.cal_measure.specs.Joined.{joined_below}
+use Rattle.cal_measure.proofs.Common.{◌≡◌, timed_at, joined_below}
 use Rattle.cal_measure.proofs.ends.timed_of.Given as goal
 
 abbrev pub invariant-loop-place : goal.invariant-loop-place

@@ -1,5 +1,4 @@
-use Rattle.std.proofs.Common.{◌≡◌, take}
-use Rattle.cal_measure.specs.Requests.{given_to}
+use Rattle.cal_measure.proofs.Common.{◌≡◌, take, given_to}
 use Rattle.cal_measure.proofs.requests.given_to.Given as goal
 
 abbrev pub invariant-loop-arrival : goal.invariant-loop-arrival

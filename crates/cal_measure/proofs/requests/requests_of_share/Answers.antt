@@ -1,8 +1,5 @@
-use Rattle.std.proofs.Common.{◌≡◌, ◌∙◌, ℕ, List, length, ap, subst, rules}
+use Rattle.cal_measure.proofs.Common.{◌≡◌, ◌∙◌, ℕ, List, length, ap, subst, rules, Came, AreTimesOf, requests_within, services_within, Service}
 use Rattle.cal_machine.specs.declared.request.Request.{Request}
-use Rattle.cal_came.specs.declared.came.Came.{Came}
-use Rattle.cal_measure.specs.Requests.{AreTimesOf, requests_within, services_within}
-use Rattle.cal_measure.specs.declared.services.Service.{Service}
 use Rattle.cal_measure.specs.declared.times.TaskTimes.{TaskTimes}
 use Rattle.cal_measure.proofs.requests.requests_of_share.Goals as goal
 

@@ -1,6 +1,4 @@
-use Rattle.std.proofs.Common.{◌++◌, ◌∙◌, ap, []}
-use Rattle.cal_measure.specs.Requests.{request_within}
-use Rattle.cal_measure.specs.Turns.{one_of}
+use Rattle.cal_measure.proofs.Common.{◌++◌, ◌∙◌, ap, [], request_within, one_of}
 use Rattle.cal_measure.proofs.Steps.{each_grown}
 use Rattle.cal_measure.proofs.requests.requests_within.Goals as goal
 

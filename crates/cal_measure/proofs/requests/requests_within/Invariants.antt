@@ -1,7 +1,4 @@
-use Rattle.std.proofs.Common.{◌≡◌, List, take}
-use Rattle.cal_came.specs.declared.came.Came.{Came}
-use Rattle.cal_measure.specs.Clocks.{AreClocksOf}
-use Rattle.cal_measure.specs.Requests.{requests_within}
+use Rattle.cal_measure.proofs.Common.{◌≡◌, List, take, Came, AreClocksOf, requests_within}
 use Rattle.cal_measure.proofs.requests.requests_within.Given as goal
 
 abbrev pub invariant-loop-request : goal.invariant-loop-request

@@ -1,7 +1,4 @@
-use Rattle.std.proofs.Common.{◌≡◌, List, take}
-use Rattle.cal_came.specs.declared.came.Came.{Came}
-use Rattle.cal_measure.specs.Clocks.{AreClocksOf}
-use Rattle.cal_measure.specs.Requests.{services_within}
+use Rattle.cal_measure.proofs.Common.{◌≡◌, List, take, Came, AreClocksOf, services_within}
 use Rattle.cal_measure.proofs.requests.services_within.Given as goal
 
 abbrev pub invariant-loop-service : goal.invariant-loop-service

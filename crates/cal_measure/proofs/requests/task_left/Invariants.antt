@@ -1,7 +1,4 @@
-use Rattle.std.proofs.Common.{◌≡◌}
-use Rattle.cal_machine.specs.TableTasks.{thread_of}
-use Rattle.cal_measure.specs.Joined.{joined_below}
-use Rattle.cal_measure.specs.Requests.{left_at}
+use Rattle.cal_measure.proofs.Common.{◌≡◌, thread_of, joined_below, left_at}
 use Rattle.cal_measure.proofs.requests.task_left.Given as goal
 
 abbrev pub invariant-loop-j : goal.invariant-loop-j

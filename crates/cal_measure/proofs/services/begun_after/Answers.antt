@@ -1,5 +1,4 @@
-use Rattle.std.proofs.Common.{◌≡◌, ◌∙◌, Some, None, cond, false, sym, ap, rules}
-use Rattle.std.specs.Option.{is_some, option_or}
+use Rattle.cal_measure.proofs.Common.{◌≡◌, ◌∙◌, Some, None, cond, false, sym, ap, rules, is_some, option_or}
 use Rattle.cal_measure.proofs.Serving.{begun_push_some, begun_push_none}
 use Rattle.cal_measure.proofs.services.begun_after.Goals as goal
 

@@ -1,7 +1,4 @@
-use Rattle.std.proofs.Common.{◌≡◌, ◌∙◌, ◌+◌, Bool, cond, false, sym, ap, rules, arith}
-use Rattle.std.specs.Option.{is_some}
-use Rattle.cal_measure.specs.Ends.{ticks_of}
-use Rattle.cal_measure.specs.Services.{clocked, worked_since}
+use Rattle.cal_measure.proofs.Common.{◌≡◌, ◌∙◌, ◌+◌, Bool, cond, false, sym, ap, rules, arith, is_some, ticks_of, clocked, worked_since}
 use Rattle.cal_measure.proofs.Serving.{clocked_more, worked_push_none, worked_push_some}
 use Rattle.cal_measure.proofs.services.worked_after.Goals as goal
 

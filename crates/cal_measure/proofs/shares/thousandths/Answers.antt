@@ -1,7 +1,6 @@
-use Rattle.std.proofs.Common.{◌≡◌, ◌∙◌, ◌<◌, ◌+◌, ◌*◌, ◌/◌, ◌%◌, ℕ, Some, min, option_map, ap, refl, sym, arith}
+use Rattle.cal_measure.proofs.Common.{◌≡◌, ◌∙◌, ◌<◌, ◌+◌, ◌*◌, ◌/◌, ◌%◌, ℕ, Some, min, option_map, ap, refl, sym, arith, clocked}
 use Rattle.std.proofs.Math.Nat.{mod-lt, mul-add-div_right}
 use Rattle.std.proofs.lemmas.Nat.{div-add-mod'}
-use Rattle.cal_measure.specs.Services.{clocked}
 use Rattle.cal_measure.specs.Shares.{thousandths_of}
 use Rattle.cal_measure.proofs.shares.thousandths.Goals as goal
 

@@ -1,14 +1,6 @@
-use Rattle.std.proofs.Common.{◌≡◌, ◌+◌, ◌∙◌, ◌<◌, ◌≤◌, ℕ, Bool, List, cond, refl, ap, sym, arith}
+use Rattle.cal_measure.proofs.Common.{◌≡◌, ◌+◌, ◌∙◌, ◌<◌, ◌≤◌, ℕ, Bool, List, cond, refl, ap, sym, arith, kept_holder, holder_of, is_banned, count_below, Holder, Action, count_more, one_at_most, is_in_state, CoreState}
 use Rattle.cal_machine.specs.declared.machine.TheConstants.{MOST_CORES}
-use Rattle.cal_policy.specs.Board.{kept_holder}
-use Rattle.cal_policy.specs.History.{holder_of, is_banned}
-use Rattle.cal_policy.specs.Pass.Choice.{count_below}
-use Rattle.cal_policy.specs.declared.board.holders.Holder.{Holder}
 use Rattle.cal_policy.specs.declared.board.holders.Holder.TheVariants.{Free, Held, Leaving}
-use Rattle.cal_policy.specs.declared.history.action.Action.{Action}
-use Rattle.cal_policy.proofs.ListLemmas.OneNumberMore.{count_more, one_at_most}
-use Rattle.cal_measure.specs.States.{is_in_state}
-use Rattle.cal_measure.specs.declared.states.CoreState.{CoreState}
 use Rattle.cal_measure.specs.declared.states.CoreState.TheVariants as states
 use Rattle.cal_measure.proofs.states.count_states.Goals as goal
 

@@ -1,7 +1,4 @@
-use Rattle.std.proofs.Common.{List}
-use Rattle.cal_policy.specs.declared.history.action.Action.{Action}
-use Rattle.cal_policy.specs.State.{Agrees}
-use Rattle.cal_measure.specs.States.{AreAtMost, AreStateCounts}
+use Rattle.cal_measure.proofs.Common.{List, Action, Agrees, AreAtMost, AreStateCounts}
 use Rattle.cal_measure.proofs.states.count_states.Given as goal
 
 abbrev pub invariant-loop-core : goal.invariant-loop-core

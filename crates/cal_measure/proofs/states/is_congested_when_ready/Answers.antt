@@ -1,15 +1,7 @@
 -- A task of whose threads none waits has no delay.
-use Rattle.std.proofs.Common.{◌≡◌, ◌<◌, ◌∙◌, ℕ, false, ap, sym, arith}
-use Rattle.std.specs.Prelude.{nat_lt}
-use Rattle.std.proofs.lemmas.Bool.Decides.{nat_tests}
-use Rattle.cal_machine.specs.TableTasks.{delay_of, limit_of, thread_of}
+use Rattle.cal_measure.proofs.Common.{◌≡◌, ◌<◌, ◌∙◌, ℕ, false, ap, sym, arith, nat_lt, nat_tests, delay_of, limit_of, thread_of, kept_by, greatest_below, record_delay, greatest_past, delay_after}
 use Rattle.cal_policy.specs.Board.KeepingSets.{kept_in}
-use Rattle.cal_policy.specs.History.Looks.{kept_by}
-use Rattle.cal_policy.specs.Pass.Choice.{greatest_below}
-use Rattle.cal_policy.specs.Pass.Grants.{record_delay}
-use Rattle.cal_policy.proofs.ListLemmas.OneNumberMore.{greatest_past}
 use Rattle.cal_policy.proofs.PassLemmas.NothingDue.{no_delay_shown}
-use Rattle.cal_measure.specs.States.{delay_after}
 use Rattle.cal_measure.proofs.states.is_congested_when_ready.Goals as goal
 
 pub returns-in-None : goal.returns-in-None

@@ -1,9 +1,4 @@
-use Rattle.std.proofs.Common.{◌+◌, ◌∙◌, ℕ, ap, arith}
-use Rattle.cal_machine.specs.TableTasks.{thread_of}
-use Rattle.cal_policy.specs.History.Looks.{kept_by}
-use Rattle.cal_policy.specs.Pass.Choice.{greatest_below}
-use Rattle.cal_policy.specs.Pass.Grants.{record_delay}
-use Rattle.cal_policy.proofs.ListLemmas.OneNumberMore.{greatest_more}
+use Rattle.cal_measure.proofs.Common.{◌+◌, ◌∙◌, ℕ, ap, arith, thread_of, kept_by, greatest_below, record_delay, greatest_more}
 use Rattle.cal_measure.proofs.states.task_delay.Goals as goal
 
 pub loop-j-preserved : goal.loop-j-preserved

@@ -1,9 +1,4 @@
-use Rattle.std.proofs.Common.{◌≡◌, List}
-use Rattle.cal_policy.specs.State.{KeepingAgrees}
-use Rattle.cal_policy.specs.History.Looks.{kept_by}
-use Rattle.cal_policy.specs.Pass.Choice.{greatest_below}
-use Rattle.cal_policy.specs.Pass.Grants.{record_delay}
-use Rattle.cal_machine.specs.TableTasks.{thread_of}
+use Rattle.cal_measure.proofs.Common.{◌≡◌, List, KeepingAgrees, kept_by, greatest_below, record_delay, thread_of}
 use Rattle.cal_policy.specs.declared.history.look.Seen.{Seen}
 use Rattle.cal_measure.proofs.states.task_delay.Given as goal
 

@@ -1,7 +1,4 @@
-use Rattle.std.proofs.Common.{◌≡◌, List, map, take}
-use Rattle.cal_came.specs.declared.came.Came.{Came}
-use Rattle.cal_measure.specs.Clocks.{AreClocksOf}
-use Rattle.cal_measure.specs.Requests.{response_of}
+use Rattle.cal_measure.proofs.Common.{◌≡◌, List, map, take, Came, AreClocksOf, response_of}
 use Rattle.cal_measure.proofs.times.responses.Given as goal
 
 abbrev pub invariant-loop-service : goal.invariant-loop-service

@@ -1,6 +1,4 @@
-use Rattle.std.proofs.Common.{◌++◌, ◌∙◌, ap, []}
-use Rattle.cal_measure.specs.Requests.{slowdown_by}
-use Rattle.cal_measure.specs.Turns.{one_of}
+use Rattle.cal_measure.proofs.Common.{◌++◌, ◌∙◌, ap, [], slowdown_by, one_of}
 use Rattle.cal_measure.proofs.Steps.{each_grown}
 use Rattle.cal_measure.proofs.times.slowdowns.Goals as goal
 

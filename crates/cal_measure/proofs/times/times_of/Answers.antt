@@ -1,6 +1,4 @@
-use Rattle.std.proofs.Common.{◌≡◌, ◌∙◌, ◌+◌, ℕ, List, [], map, ap, subst}
-use Rattle.std.specs.Prelude.{sum}
-use Rattle.cal_measure.specs.Requests.{response_of}
+use Rattle.cal_measure.proofs.Common.{◌≡◌, ◌∙◌, ◌+◌, ℕ, List, [], map, ap, subst, sum, response_of}
 use Rattle.cal_measure.specs.Spread.{IsSpread}
 use Rattle.cal_measure.specs.declared.spread.Spread.{Spread}
 use Rattle.cal_measure.proofs.times.times_of.Goals as goal

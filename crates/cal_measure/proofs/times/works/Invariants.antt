@@ -1,5 +1,4 @@
-use Rattle.std.proofs.Common.{◌≡◌, map, take}
-use Rattle.cal_measure.specs.Requests.{worked_of}
+use Rattle.cal_measure.proofs.Common.{◌≡◌, map, take, worked_of}
 use Rattle.cal_measure.proofs.times.works.Given as goal
 
 abbrev pub invariant-loop-service : goal.invariant-loop-service

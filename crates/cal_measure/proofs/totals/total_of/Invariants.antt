@@ -1,5 +1,4 @@
-use Rattle.std.proofs.Common.{◌≡◌, ◌≤◌, ◌*◌, ◌^◌, take}
-use Rattle.std.specs.Prelude.{sum}
+use Rattle.cal_measure.proofs.Common.{◌≡◌, ◌≤◌, ◌*◌, ◌^◌, take, sum}
 use Rattle.cal_measure.proofs.totals.total_of.Given as goal
 
 abbrev pub invariant-loop-time : goal.invariant-loop-time

@@ -1,6 +1,4 @@
-use Rattle.std.proofs.Common.{refl}
-use Rattle.cal_policy.proofs.ListLemmas.OneMore.{last_of_push}
-use Rattle.cal_measure.specs.Turns.{served_told}
+use Rattle.cal_measure.proofs.Common.{refl, last_of_push, served_told}
 use Rattle.cal_measure.proofs.turns.served_after.Goals as goal
 
 pub returns-in-Served : goal.returns-in-Served

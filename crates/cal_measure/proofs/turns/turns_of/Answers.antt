@@ -1,5 +1,4 @@
-use Rattle.std.proofs.Common.{◌≡◌, ◌++◌, ◌∙◌, take, ap, []}
-use Rattle.cal_measure.specs.Turns.{served_since, turn_by}
+use Rattle.cal_measure.proofs.Common.{◌≡◌, ◌++◌, ◌∙◌, take, ap, [], served_since, turn_by}
 use Rattle.cal_measure.proofs.Steps.{each_grown, grown}
 use Rattle.cal_measure.proofs.turns.turns_of.Goals as goal
 

@@ -1,5 +1,4 @@
-use Rattle.std.proofs.Common.{◌≡◌, take}
-use Rattle.cal_measure.specs.Turns.{served_since, turns_of}
+use Rattle.cal_measure.proofs.Common.{◌≡◌, take, served_since, turns_of}
 use Rattle.cal_measure.proofs.turns.turns_of.Given as goal
 
 abbrev pub invariant-loop-entry : goal.invariant-loop-entry

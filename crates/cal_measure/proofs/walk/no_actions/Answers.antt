@@ -1,7 +1,4 @@
-use Rattle.std.proofs.Common.{◌≡◌, ◌++◌, ◌∷◌, [], ℕ, List, length, length-append, ap, subst, sym, arith}
-use Rattle.cal_measure.specs.Actions.{AreActionsOf}
-use Rattle.cal_measure.specs.Walk.{EachTask}
-use Rattle.cal_measure.specs.declared.cores.TaskActions.{TaskActions}
+use Rattle.cal_measure.proofs.Common.{◌≡◌, ◌++◌, ◌∷◌, [], ℕ, List, length, length-append, ap, subst, sym, arith, AreActionsOf, EachTask, TaskActions}
 use Rattle.cal_measure.proofs.EachTaskLemmas.{each_more}
 use Rattle.cal_measure.proofs.walk.no_actions.Goals as goal
 

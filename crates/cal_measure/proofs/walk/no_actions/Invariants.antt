@@ -1,6 +1,4 @@
-use Rattle.std.proofs.Common.{◌≡◌, [], length}
-use Rattle.cal_measure.specs.Actions.{AreActionsOf}
-use Rattle.cal_measure.specs.Walk.{EachTask}
+use Rattle.cal_measure.proofs.Common.{◌≡◌, [], length, AreActionsOf, EachTask}
 use Rattle.cal_measure.proofs.walk.no_actions.Given as goal
 
 abbrev pub invariant-loop-task : goal.invariant-loop-task

@@ -1,6 +1,4 @@
-use Rattle.std.proofs.Common.{◌≡◌, ◌++◌, ◌∷◌, [], ℕ, List, length, length-append, ap, subst, sym, arith}
-use Rattle.cal_measure.specs.Walk.{EachTask, IsTimeOf}
-use Rattle.cal_measure.specs.declared.walk.task_time.TaskTime.{TaskTime}
+use Rattle.cal_measure.proofs.Common.{◌≡◌, ◌++◌, ◌∷◌, [], ℕ, List, length, length-append, ap, subst, sym, arith, EachTask, IsTimeOf, TaskTime}
 use Rattle.cal_measure.proofs.EachTaskLemmas.{each_more}
 use Rattle.cal_measure.proofs.walk.no_times.Goals as goal
 

@@ -1,5 +1,4 @@
-use Rattle.std.proofs.Common.{◌≡◌, [], length}
-use Rattle.cal_measure.specs.Walk.{EachTask, IsTimeOf}
+use Rattle.cal_measure.proofs.Common.{◌≡◌, [], length, EachTask, IsTimeOf}
 use Rattle.cal_measure.proofs.walk.no_times.Given as goal
 
 abbrev pub invariant-loop-task : goal.invariant-loop-task

@@ -1,14 +1,6 @@
-use Rattle.std.proofs.Common.{◌<◌, ◌≤◌, ◌++◌, ◌∷◌, [], List, length, length-take-le, take, take_all, ap, refl, subst, sym, arith}
-use Rattle.std.proofs.lemmas.Option.{slice_get_read}
-use Rattle.std.specs.List.{All}
-use Rattle.cal_policy.specs.Board.{NamesTable}
-use Rattle.cal_policy.specs.History.{actions_of}
-use Rattle.cal_policy.specs.State.{IsStateAfter}
-use Rattle.cal_policy.specs.declared.history.action.Action.{Action}
-use Rattle.cal_policy.specs.declared.history.entry.PassEntry.{PassEntry}
+use Rattle.cal_measure.proofs.Common.{◌<◌, ◌≤◌, ◌++◌, ◌∷◌, [], List, length, length-take-le, take, take_all, ap, refl, subst, sym, arith, slice_get_read, All, NamesTable, actions_of, IsStateAfter, Action, PassEntry, IsWalkOf}
 use Rattle.cal_policy.proofs.BoardLemmas.StateKept.{names_of_fitting}
 use Rattle.cal_policy.proofs.ListLemmas.Each.{take_item}
-use Rattle.cal_measure.specs.Walk.{IsWalkOf}
 use Rattle.cal_measure.proofs.walk.walked.Goals as goal
 
 pub loop-pass-init : goal.loop-pass-init

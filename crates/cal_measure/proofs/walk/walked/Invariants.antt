@@ -1,6 +1,4 @@
-use Rattle.std.proofs.Common.{take}
-use Rattle.cal_policy.specs.State.{IsReady, IsStateAfter}
-use Rattle.cal_measure.specs.Walk.{IsOpenFor, IsWalkOf}
+use Rattle.cal_measure.proofs.Common.{take, IsReady, IsStateAfter, IsOpenFor, IsWalkOf}
 use Rattle.cal_measure.proofs.walk.walked.Given as goal
 
 abbrev pub invariant-loop-pass : goal.invariant-loop-pass

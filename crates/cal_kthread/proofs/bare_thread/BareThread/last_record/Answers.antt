@@ -1,7 +1,4 @@
-use Rattle.std.proofs.Common.{List, sym, subst}
-use Rattle.cal_signal.specs.Pages.{IsPage, page_of}
-use Rattle.cal_signal.specs.Records.{IsShaped}
-use Rattle.cal_signal.specs.declared.record.Record.{Record}
+use Rattle.cal_kthread.proofs.Common.{List, sym, subst, IsPage, page_of, IsShaped, Record}
 use Rattle.cal_kthread.proofs.TurnLemmas.Publishing.{last-shaped}
 use Rattle.cal_kthread.proofs.bare_thread.BareThread.last_record.Goals as goal
 

@@ -1,22 +1,9 @@
-use Rattle.std.proofs.Common.{◌≡◌, ◌<◌, ◌∙◌, ◌++◌, true, subst, sym, ap, length, Option, IfSome, Some, refl, arith}
-use Rattle.cal_signal.specs.declared.record.Record.{Record}
-use Rattle.cal_signal.specs.Ends.{PublisherView}
-use Rattle.cal_signal.specs.Pages.{last_published}
-use Rattle.cal_signal.specs.Records.{zero_record}
+use Rattle.cal_kthread.proofs.Common.{◌≡◌, ◌<◌, ◌∙◌, ◌++◌, true, subst, sym, ap, length, Option, IfSome, Some, refl, arith, Record, PublisherView, last_published, zero_record, IsJournalOf, Entry, records_of, place_of, ThreadView, KernelView, Answers, AreAnswers, noted, shown, turned, arrival, taking, theft, work, publication, entries_of, IsOneTurn, TurnEntries}
 use Rattle.cal_kthread.specs.contracts.bare_thread.BareThread.{the_view}
-use Rattle.cal_kthread.specs.Turn.Agreement.{IsJournalOf}
-use Rattle.cal_kthread.specs.declared.journal.entry.Entry.{Entry}
-use Rattle.cal_kthread.specs.Journal.{records_of}
-use Rattle.cal_kthread.specs.Team.{place_of}
-use Rattle.cal_kthread.specs.Turn.Thread.{ThreadView, KernelView}
-use Rattle.cal_kthread.specs.Turn.{Answers, AreAnswers, noted, shown, turned}
 use Rattle.cal_kthread.proofs.TurnLemmas.Publishing.{last_snoc}
 use Rattle.cal_kthread.proofs.TeamLemmas.Turns.{keeps-page, keeps-place, keeps-ring}
 use Rattle.cal_kthread.proofs.TurnLemmas.Steps.{turns, agrees}
 use Rattle.cal_kthread.proofs.TurnLemmas.Turns.{noted-turn, one-turn}
-use Rattle.cal_kthread.specs.Turn.Entries.{arrival, taking, theft, work, publication, entries_of}
-use Rattle.cal_kthread.specs.Turn.Turns.{IsOneTurn}
-use Rattle.cal_kthread.specs.declared.turn.entries.TurnEntries.{TurnEntries}
 use Rattle.cal_kthread.proofs.bare_thread.BareThread.turn.Goals as goal
 
 pub publish-published-requires-clause-room : goal.publish-published-requires-clause-room

@@ -1,24 +1,10 @@
-use Rattle.std.proofs.Common.{◌≡◌, ◌<◌, ◌∙◌, ◌++◌, Bool, subst, sym, ap, length, Option, IfSome, Some, refl, arith}
-use Rattle.cal_signal.specs.declared.record.Record.{Record}
-use Rattle.cal_signal.specs.Ends.{PublisherView}
-use Rattle.cal_signal.specs.Pages.{last_published}
-use Rattle.cal_signal.specs.Records.{IsShaped, zero_record}
+use Rattle.cal_kthread.proofs.Common.{◌≡◌, ◌<◌, ◌∙◌, ◌++◌, Bool, subst, sym, ap, length, Option, IfSome, Some, refl, arith, Record, PublisherView, last_published, IsShaped, zero_record, IsJournalOf, Entry, records_of, place_of, core_in_turn, does_work, provided_if, turned_if, turned_on, work_in_turn, worked_if, ThreadView, KernelView, Answers, AreAnswers, arrived, noted, shown, taken, arrival, taking, theft, work, publication, entries_of, IsOneTurn, TurnEntries}
 use Rattle.cal_machine.specs.CoreSet.{has}
 use Rattle.cal_kthread.specs.contracts.bare_thread.BareThread.{the_view}
-use Rattle.cal_kthread.specs.Turn.Agreement.{IsJournalOf}
-use Rattle.cal_kthread.specs.declared.journal.entry.Entry.{Entry}
-use Rattle.cal_kthread.specs.Journal.{records_of}
-use Rattle.cal_kthread.specs.Team.{place_of}
-use Rattle.cal_kthread.specs.Turn.OnCores.{core_in_turn, does_work, provided_if, turned_if, turned_on, work_in_turn, worked_if}
-use Rattle.cal_kthread.specs.Turn.Thread.{ThreadView, KernelView}
-use Rattle.cal_kthread.specs.Turn.{Answers, AreAnswers, arrived, noted, shown, taken}
 use Rattle.cal_kthread.proofs.TurnLemmas.Publishing.{last_snoc}
 use Rattle.cal_kthread.proofs.TeamLemmas.Turns.{keeps-page, keeps-ring, on-keeps-place}
 use Rattle.cal_kthread.proofs.TurnLemmas.Steps.{turns, agrees}
 use Rattle.cal_kthread.proofs.TurnLemmas.Turns.{noted-turn, one-turn}
-use Rattle.cal_kthread.specs.Turn.Entries.{arrival, taking, theft, work, publication, entries_of}
-use Rattle.cal_kthread.specs.Turn.Turns.{IsOneTurn}
-use Rattle.cal_kthread.specs.declared.turn.entries.TurnEntries.{TurnEntries}
 use Rattle.cal_kthread.proofs.bare_thread.BareThread.turn_on.Goals as goal
 
 pub publish-published-requires-clause-room : goal.publish-published-requires-clause-room

@@ -1,12 +1,4 @@
-use Rattle.std.proofs.Common.{◌≡◌, ◌∷◌, ◌++◌, [], List, length, map, sym, ap, subst, ◌∙◌, ⊎_elim, append_assoc, arith}
-use Rattle.std.proofs.lemmas.List.{map-append}
-use Rattle.std.specs.Vec.Iter.{into_iter_items}
-use Rattle.crossbeam_deque.proofs.Lists.{at_snoc}
-use Rattle.cal_kthread.specs.End.Account.{KeepsItsWork}
-use Rattle.cal_kthread.specs.End.HandingOut.{HandedOutNothing}
-use Rattle.cal_kthread.specs.End.Rest.{EndView, RestView}
-use Rattle.cal_kthread.specs.Team.{place_of, place_of_rest}
-use Rattle.cal_kthread.specs.Turn.Thread.{KernelView}
+use Rattle.cal_kthread.proofs.Common.{◌≡◌, ◌∷◌, ◌++◌, [], List, length, map, sym, ap, subst, ◌∙◌, ⊎_elim, append_assoc, arith, map-append, into_iter_items, at_snoc, KeepsItsWork, HandedOutNothing, EndView, RestView, place_of, place_of_rest, KernelView}
 use Rattle.cal_kthread.proofs.end.ending.end_all.Goals as goal
 
 -- what is the same of each of two lists is so with one more that agree

@@ -1,11 +1,4 @@
-use Rattle.std.proofs.Common.{◌≡◌, ◌++◌, length, map}
-use Rattle.std.specs.Vec.Iter.{into_iter_items, into_iter_len}
-use Rattle.cal_kthread.specs.End.Account.{KeepsItsWork}
-use Rattle.cal_kthread.specs.End.HandingOut.{HandedOutNothing}
-use Rattle.cal_kthread.specs.End.Rest.{EndView}
-use Rattle.cal_kthread.specs.Places.{Each}
-use Rattle.cal_kthread.specs.Team.{place_of, place_of_rest}
-use Rattle.cal_kthread.specs.Turn.Thread.{KernelView}
+use Rattle.cal_kthread.proofs.Common.{◌≡◌, ◌++◌, length, map, into_iter_items, into_iter_len, KeepsItsWork, HandedOutNothing, EndView, Each, place_of, place_of_rest, KernelView}
 use Rattle.cal_kthread.proofs.end.ending.end_all.Given as goal
 
 abbrev pub invariant-loop-thread : goal.invariant-loop-thread

@@ -1,6 +1,4 @@
-use Rattle.std.proofs.Common.{sym, ap, ◌∙◌, ◌++◌, ◌∷◌, []}
-use Rattle.cal_kthread.specs.End.HandingOut.{run_of}
-use Rattle.cal_kthread.specs.End.Rest.{EndView}
+use Rattle.cal_kthread.proofs.Common.{sym, ap, ◌∙◌, ◌++◌, ◌∷◌, [], run_of, EndView}
 use Rattle.cal_kthread.proofs.EndLemmas.HandingOut.{one-more, one-more-left}
 use Rattle.cal_kthread.proofs.end.handing_out.hand_out.Goals as goal
 

@@ -1,6 +1,4 @@
-use Rattle.std.proofs.Common.{◌≡◌}
-use Rattle.cal_kthread.specs.End.HandingOut.{HandsOutSome, left_of, run_of}
-use Rattle.cal_kthread.specs.End.Rest.{to_hand_out}
+use Rattle.cal_kthread.proofs.Common.{◌≡◌, HandsOutSome, left_of, run_of, to_hand_out}
 use Rattle.cal_kthread.proofs.end.handing_out.hand_out.Given as goal
 
 abbrev pub invariant-loop-request : goal.invariant-loop-request

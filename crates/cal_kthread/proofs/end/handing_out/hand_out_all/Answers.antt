@@ -1,5 +1,4 @@
-use Rattle.std.proofs.Common.{◌∙◌, arith}
-use Rattle.cal_kthread.specs.End.HandingOut.{run_of}
+use Rattle.cal_kthread.proofs.Common.{◌∙◌, arith, run_of}
 use Rattle.cal_kthread.proofs.EndLemmas.HandingOut.{all-accounted, one-end-more}
 use Rattle.cal_kthread.proofs.ListSums.{at-within, map-set-like}
 use Rattle.cal_kthread.proofs.end.handing_out.hand_out_all.Goals as goal

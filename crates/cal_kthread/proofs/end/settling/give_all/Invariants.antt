@@ -1,5 +1,4 @@
-use Rattle.std.proofs.Common.{◌≡◌, ◌≢◌, ℕ, length}
-use Rattle.cal_kthread.specs.End.Account.{Gathers, sources_at}
+use Rattle.cal_kthread.proofs.Common.{◌≡◌, ◌≢◌, ℕ, length, Gathers, sources_at}
 use Rattle.cal_kthread.proofs.end.settling.give_all.Given as goal
 
 abbrev pub invariant-loop : goal.invariant-loop

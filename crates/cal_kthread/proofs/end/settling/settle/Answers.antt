@@ -1,6 +1,4 @@
-use Rattle.std.proofs.Common.{arith}
-use Rattle.cal_kthread.specs.End.Account.{stripped}
-use Rattle.cal_kthread.specs.End.HandingOut.{run_of}
+use Rattle.cal_kthread.proofs.Common.{arith, stripped, run_of}
 use Rattle.cal_kthread.proofs.EndLemmas.Account.{settles}
 use Rattle.cal_kthread.proofs.EndLemmas.HandingOut.{still-untouched}
 use Rattle.cal_kthread.proofs.ListSums.{same-through}

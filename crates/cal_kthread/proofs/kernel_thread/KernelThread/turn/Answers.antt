@@ -1,8 +1,5 @@
-use Rattle.std.proofs.Common.{◌≡◌, ◌+◌, ◌≤◌, ◌++◌, ◌∙◌, Some, length, sym, ap, arith}
+use Rattle.cal_kthread.proofs.Common.{◌≡◌, ◌+◌, ◌≤◌, ◌++◌, ◌∙◌, Some, length, sym, ap, arith, record_in, records_of, noted, entries_of}
 use Rattle.std.specs.Vec.{vec_len}
-use Rattle.cal_kthread.specs.Journal.{record_in, records_of}
-use Rattle.cal_kthread.specs.Turn.{noted}
-use Rattle.cal_kthread.specs.Turn.Entries.{entries_of}
 use Rattle.cal_kthread.proofs.JournalLemmas.OneEntryMore.{length-filter_map}
 use Rattle.cal_kthread.proofs.TurnLemmas.Turns.{noted-turn}
 use Rattle.cal_kthread.proofs.kernel_thread.KernelThread.turn.Goals as goal

@@ -1,6 +1,5 @@
-use Rattle.std.proofs.Common.{ap, arith}
+use Rattle.cal_kthread.proofs.Common.{ap, arith, QueueView}
 use Rattle.crossbeam_deque.specs.Handles.{worker_view}
-use Rattle.cal_kthread.specs.Queue.{QueueView}
 use Rattle.cal_kthread.proofs.QueueMoves.{forks}
 use Rattle.cal_kthread.proofs.queue.OwnQueue.lend.Goals as goal
 

@@ -1,6 +1,4 @@
-use Rattle.std.proofs.Common.{set, refl, ap, arith}
-use Rattle.std.proofs.lemmas.List.{length-set}
-use Rattle.cal_kthread.specs.Queue.{ThiefView}
+use Rattle.cal_kthread.proofs.Common.{set, refl, ap, arith, length-set, ThiefView}
 use Rattle.cal_kthread.proofs.TeamLemmas.Lending.{lends}
 use Rattle.cal_kthread.proofs.ListSums.{at-within}
 use Rattle.cal_kthread.proofs.team.linking.link.Goals as goal

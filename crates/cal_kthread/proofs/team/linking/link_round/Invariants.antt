@@ -1,5 +1,4 @@
-use Rattle.std.proofs.Common.{◌≡◌, length}
-use Rattle.cal_kthread.specs.Team.Linking.{Links}
+use Rattle.cal_kthread.proofs.Common.{◌≡◌, length, Links}
 use Rattle.cal_kthread.proofs.TeamLemmas.Rounds.{Round}
 use Rattle.cal_kthread.proofs.team.linking.link_round.Given as goal
 

@@ -1,5 +1,4 @@
-use Rattle.std.proofs.Common.{◌≡◌, ◌-◌, ◌≤◌, length}
-use Rattle.cal_kthread.specs.Team.Linking.{Links, IsLinked}
+use Rattle.cal_kthread.proofs.Common.{◌≡◌, ◌-◌, ◌≤◌, length, Links, IsLinked}
 use Rattle.cal_kthread.proofs.team.linking.link_task.Given as goal
 
 abbrev pub invariant-loop-distance : goal.invariant-loop-distance

@@ -1,5 +1,4 @@
-use Rattle.std.proofs.Common.{rules, ◌<◌, length, set, ap, ◌∙◌}
-use Rattle.cal_kthread.specs.Turn.{robbed}
+use Rattle.cal_kthread.proofs.Common.{rules, ◌<◌, length, set, ap, ◌∙◌, robbed}
 use Rattle.cal_kthread.proofs.TurnLemmas.Robbing.{robbed-is}
 use Rattle.cal_kthread.proofs.turn.sources.steal_first.Goals as goal
 

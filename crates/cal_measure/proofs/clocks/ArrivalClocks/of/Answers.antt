@@ -1,9 +1,6 @@
-use Rattle.std.proofs.Common.{◌≡◌, ◌∙◌, ℕ, nat_eq, cond, List, [], ◌∷◌, ◌++◌, Option, Some, take, ap, sym}
+use Rattle.cal_measure.proofs.Common.{◌≡◌, ◌∙◌, ℕ, nat_eq, cond, List, [], ◌∷◌, ◌++◌, Option, Some, take, ap, sym, last_of, last_of_push, or_if, Came}
 use Rattle.std.specs.HashMap.{get}
-use Rattle.cal_policy.specs.History.Lists.{last_of}
-use Rattle.cal_policy.proofs.ListLemmas.OneMore.{last_of_push, or_if}
 use Rattle.cal_came.specs.Came.{of_name, told_of}
-use Rattle.cal_came.specs.declared.came.Came.{Came}
 use Rattle.cal_measure.proofs.Steps.{grown}
 use Rattle.cal_measure.proofs.clocks.ArrivalClocks.of.Goals as goal
 

@@ -1,5 +1,4 @@
-use Rattle.std.proofs.Common.{subst}
-use Rattle.cal_measure.specs.ThreadWork.{AreTotalsOfEach}
+use Rattle.cal_measure.proofs.Common.{subst, AreTotalsOfEach}
 use Rattle.cal_measure.proofs.ended_run.EndedRun.of.Goals as goal
 
 pub returns-clause-threads : goal.returns-clause-threads

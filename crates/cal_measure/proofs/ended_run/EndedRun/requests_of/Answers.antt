@@ -1,15 +1,7 @@
-use Rattle.std.proofs.Common.{◌∙◌, ◌<◌, ℕ, List, length, ap, subst, sym, get_or}
-use Rattle.cal_machine.specs.TableTasks.{threads_of_table}
+use Rattle.cal_measure.proofs.Common.{◌∙◌, ◌<◌, ℕ, List, length, ap, subst, sym, get_or, threads_of_table, run_end, AreOfServices, AreRequestsOf, given_to, left_of_task, Entry, AreTotalsOfEach, AreWorkOf, Service, ThreadTotals}
 use Rattle.cal_machine.specs.declared.request.Request.{Request}
 use Rattle.cal_trace.specs.declared.arrivals.Arrival.{Arrival}
-use Rattle.cal_measure.specs.Clocks.{run_end}
-use Rattle.cal_measure.specs.Requests.{AreOfServices, AreRequestsOf, given_to, left_of_task}
-use Rattle.cal_kthread.specs.declared.journal.entry.Entry.{Entry}
-use Rattle.cal_measure.specs.ThreadWork.{AreTotalsOfEach}
-use Rattle.cal_measure.specs.Work.{AreWorkOf}
 use Rattle.cal_measure.specs.declared.requests.TaskRequests.{TaskRequests}
-use Rattle.cal_measure.specs.declared.services.Service.{Service}
-use Rattle.cal_measure.specs.declared.thread_work.totals.ThreadTotals.{ThreadTotals}
 use Rattle.cal_measure.specs.declared.work.TaskWork.{TaskWork}
 use Rattle.cal_measure.proofs.AllOfOk.{all_of_ok}
 use Rattle.cal_measure.proofs.GivenFit.{given_fit}

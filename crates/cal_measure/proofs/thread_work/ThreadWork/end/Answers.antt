@@ -1,6 +1,5 @@
-use Rattle.std.proofs.Common.{◌≤◌, ◌^◌, ◌∙◌, length, arith}
+use Rattle.cal_measure.proofs.Common.{◌≤◌, ◌^◌, ◌∙◌, length, arith, turns_of}
 use Rattle.cal_kthread.specs.Limits.{most_entries-is}
-use Rattle.cal_measure.specs.Turns.{turns_of}
 use Rattle.cal_measure.proofs.ThreadTurns.{suspensions_few, thefts_few, timed_few, turns_few}
 use Rattle.cal_measure.proofs.thread_work.ThreadWork.end.Goals as goal
 

@@ -1,10 +1,7 @@
-use Rattle.std.proofs.Common.{◌≤◌, List, Some, length, arith, subst, ap}
-use Rattle.std.specs.Prelude.{OnOk}
+use Rattle.cal_measure.proofs.Common.{◌≤◌, List, Some, length, arith, subst, ap, OnOk, Entry, IsThreadWorkOf}
 use Rattle.cal_kthread.specs.Turn.{noted}
-use Rattle.cal_kthread.specs.declared.journal.entry.Entry.{Entry}
 use Rattle.cal_kthread.specs.declared.kernel_thread.TheConstants.{MOST_ENTRIES}
 use Rattle.cal_kthread.proofs.TurnLemmas.Turns.{noted-turn}
-use Rattle.cal_measure.specs.ThreadWork.{IsThreadWorkOf}
 use Rattle.cal_measure.proofs.ThreadTurns.{noted_long}
 use Rattle.cal_measure.proofs.thread_work.ThreadWork.take.Goals as goal
 

@@ -1,10 +1,5 @@
-use Rattle.std.proofs.Common.{◌<◌, ◌+◌, ◌^◌, ◌++◌, ◌∷◌, ◌∙◌, ℕ, List, [], length, ap, subst, sym, arith, length-append}
-use Rattle.cal_policy.specs.History.Lists.{each_of}
-use Rattle.cal_policy.proofs.ListLemmas.OneMore.{each_of_push}
+use Rattle.cal_measure.proofs.Common.{◌<◌, ◌+◌, ◌^◌, ◌++◌, ◌∷◌, ◌∙◌, ℕ, List, [], length, ap, subst, sym, arith, length-append, each_of, each_of_push, AreTurnsSoFar, turn_by, turns_of, stolen_by}
 use Rattle.cal_kthread.specs.Limits.{most_entries-is}
-use Rattle.cal_measure.specs.ThreadWork.{AreTurnsSoFar}
-use Rattle.cal_measure.specs.Turns.{turn_by, turns_of}
-use Rattle.cal_measure.specs.Work.{stolen_by}
 use Rattle.cal_measure.specs.declared.turns.Turn.{Turn}
 use Rattle.cal_measure.proofs.ThreadTurns.{thefts_few, turns_few}
 use Rattle.cal_measure.proofs.thread_work.ThreadWork.take_entry.Goals as goal

@@ -1,7 +1,5 @@
-use Rattle.std.proofs.Common.{◌≡◌, ◌∷◌, List, length, ap, subst, sym, ◌∙◌, rules, arith}
-use Rattle.std.specs.List.{AllZip}
+use Rattle.cal_measure.proofs.Common.{◌≡◌, ◌∷◌, List, length, ap, subst, sym, ◌∙◌, rules, arith, AllZip, IsThreadWorkOf}
 use Rattle.std.specs.Vec.Iter.{into_iter_items}
-use Rattle.cal_measure.specs.ThreadWork.{IsThreadWorkOf}
 use Rattle.cal_measure.specs.declared.thread_work.ThreadWork.{ThreadWork}
 use Rattle.cal_measure.proofs.WorksOfEach.{AreEndedUpTo, all_ended, none_ended, one_ended}
 use Rattle.cal_measure.proofs.thread_work.each.end_works.Goals as goal

@@ -1,8 +1,5 @@
-use Rattle.std.proofs.Common.{◌≡◌, List, length}
-use Rattle.std.specs.List.{AllZip}
+use Rattle.cal_measure.proofs.Common.{◌≡◌, List, length, AllZip, Entry, IsThreadWorkOf}
 use Rattle.std.specs.Vec.Iter.{into_iter_items, into_iter_len}
-use Rattle.cal_kthread.specs.declared.journal.entry.Entry.{Entry}
-use Rattle.cal_measure.specs.ThreadWork.{IsThreadWorkOf}
 use Rattle.cal_measure.proofs.WorksOfEach.{AreEndedUpTo}
 use Rattle.cal_measure.proofs.thread_work.each.end_works.Given as goal
 

@@ -1,8 +1,4 @@
-use Rattle.std.proofs.Common.{◌++◌, ◌∷◌, [], List, replicate, subst}
-use Rattle.std.specs.List.{AllZip}
-use Rattle.std.proofs.lemmas.List.{replicate_more}
-use Rattle.cal_kthread.specs.declared.journal.entry.Entry.{Entry}
-use Rattle.cal_measure.specs.ThreadWork.{IsThreadWorkOf}
+use Rattle.cal_measure.proofs.Common.{◌++◌, ◌∷◌, [], List, replicate, subst, AllZip, replicate_more, Entry, IsThreadWorkOf}
 use Rattle.cal_measure.proofs.WorksOfEach.{zip_more}
 use Rattle.cal_measure.proofs.thread_work.each.open_works.Goals as goal
 

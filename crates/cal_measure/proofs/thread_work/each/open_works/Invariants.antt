@@ -1,6 +1,4 @@
-use Rattle.std.proofs.Common.{[], replicate}
-use Rattle.std.specs.List.{AllZip}
-use Rattle.cal_measure.specs.ThreadWork.{IsThreadWorkOf}
+use Rattle.cal_measure.proofs.Common.{[], replicate, AllZip, IsThreadWorkOf}
 use Rattle.cal_measure.proofs.thread_work.each.open_works.Given as goal
 
 abbrev pub invariant-loop : goal.invariant-loop

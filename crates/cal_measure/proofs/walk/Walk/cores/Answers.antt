@@ -1,12 +1,6 @@
-use Rattle.std.proofs.Common.{◌≡◌, ◌∙◌, ◌<◌, ◌∷◌, [], ℕ, List, Some, slice_get, length, length-append, ap, refl, subst, sym, arith}
-use Rattle.std.proofs.lemmas.Option.{slice_get_read}
-use Rattle.cal_machine.specs.Table.{Table}
-use Rattle.cal_policy.specs.declared.history.entry.PassEntry.{PassEntry}
-use Rattle.cal_measure.specs.Cores.{AreCoresOf}
-use Rattle.cal_measure.specs.Walk.{EachTask, IsWalkOf}
+use Rattle.cal_measure.proofs.Common.{◌≡◌, ◌∙◌, ◌<◌, ◌∷◌, [], ℕ, List, Some, slice_get, length, length-append, ap, refl, subst, sym, arith, slice_get_read, Table, PassEntry, AreCoresOf, EachTask, IsWalkOf, TaskTime}
 use Rattle.cal_measure.specs.declared.cores.TaskCores.{TaskCores}
 use Rattle.cal_measure.specs.declared.walk.Walk.{Walk}
-use Rattle.cal_measure.specs.declared.walk.task_time.TaskTime.{TaskTime}
 use Rattle.cal_measure.proofs.EachTaskLemmas.{each_more}
 use Rattle.cal_measure.proofs.walk.Walk.cores.Goals as goal
 

@@ -1,8 +1,4 @@
-use Rattle.std.proofs.Common.{◌≡◌, List, length}
-use Rattle.cal_machine.specs.Table.{Table}
-use Rattle.cal_policy.specs.declared.history.entry.PassEntry.{PassEntry}
-use Rattle.cal_measure.specs.Cores.{AreCoresOf}
-use Rattle.cal_measure.specs.Walk.{EachTask, IsWalkOf}
+use Rattle.cal_measure.proofs.Common.{◌≡◌, List, length, Table, PassEntry, AreCoresOf, EachTask, IsWalkOf}
 use Rattle.cal_measure.proofs.walk.Walk.cores.Given as goal
 
 abbrev pub invariant-loop-task : goal.invariant-loop-task

@@ -1,15 +1,6 @@
-use Rattle.std.proofs.Common.{◌≡◌, ◌∙◌, ◌+◌, ◌*◌, ◌<◌, ◌≤◌, ◌^◌, ◌++◌, ◌∷◌, [], List, Some, length, length-append, ap, subst, sym, arith}
+use Rattle.cal_measure.proofs.Common.{◌≡◌, ◌∙◌, ◌+◌, ◌*◌, ◌<◌, ◌≤◌, ◌^◌, ◌++◌, ◌∷◌, [], List, Some, length, length-append, ap, subst, sym, arith, with_items_is, actions_of, Agrees, Action, PassEntry, AreActionsOf, EachTask, IsTimeOf, last_clock, since, until_next, TaskActions, TaskTime}
 use Rattle.std.specs.Vec.{with_items}
-use Rattle.std.proofs.lemmas.List.{with_items_is}
-use Rattle.cal_policy.specs.History.{actions_of}
-use Rattle.cal_policy.specs.State.{Agrees}
-use Rattle.cal_policy.specs.declared.history.action.Action.{Action}
-use Rattle.cal_policy.specs.declared.history.entry.PassEntry.{PassEntry}
 use Rattle.cal_policy.proofs.BoardLemmas.Replayed.{actions_push}
-use Rattle.cal_measure.specs.Actions.{AreActionsOf}
-use Rattle.cal_measure.specs.Walk.{EachTask, IsTimeOf, last_clock, since, until_next}
-use Rattle.cal_measure.specs.declared.cores.TaskActions.{TaskActions}
-use Rattle.cal_measure.specs.declared.walk.task_time.TaskTime.{TaskTime}
 use Rattle.cal_measure.proofs.OneMore.{clock_here, since_last}
 use Rattle.cal_measure.proofs.walk.Walk.pass.Goals as goal
 

@@ -1,9 +1,5 @@
-use Rattle.std.proofs.Common.{◌∙◌, ◌++◌, List, take, take_all, subst}
-use Rattle.cal_policy.specs.State.{Agrees}
-use Rattle.cal_policy.specs.declared.history.action.Action.{Action}
+use Rattle.cal_measure.proofs.Common.{◌∙◌, ◌++◌, List, take, take_all, subst, Agrees, Action, AreActionsOf, EachTask}
 use Rattle.cal_policy.proofs.ListLemmas.Each.{after_more}
-use Rattle.cal_measure.specs.Actions.{AreActionsOf}
-use Rattle.cal_measure.specs.Walk.{EachTask}
 use Rattle.cal_measure.proofs.Counting.{low_so_far}
 use Rattle.cal_measure.proofs.walk.each_task.count_actions_of_each.Goals as goal
 

@@ -1,8 +1,4 @@
-use Rattle.std.proofs.Common.{◌≡◌, ◌<◌, ◌^◌, ◌++◌, List, length, take}
-use Rattle.cal_policy.specs.declared.history.action.Action.{Action}
-use Rattle.cal_policy.specs.State.{IsReady, Agrees}
-use Rattle.cal_measure.specs.Actions.{AreActionsOf}
-use Rattle.cal_measure.specs.Walk.{EachTask}
+use Rattle.cal_measure.proofs.Common.{◌≡◌, ◌<◌, ◌^◌, ◌++◌, List, length, take, Action, IsReady, Agrees, AreActionsOf, EachTask}
 use Rattle.cal_measure.proofs.walk.each_task.count_actions_of_each.Given as goal
 
 abbrev pub invariant-loop-action : goal.invariant-loop-action

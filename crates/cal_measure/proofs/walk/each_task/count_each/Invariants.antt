@@ -1,8 +1,4 @@
-use Rattle.std.proofs.Common.{◌<◌, ◌+◌, ◌^◌, ◌++◌, ◌∷◌, [], List, length}
-use Rattle.cal_policy.specs.State.{Agrees}
-use Rattle.cal_policy.specs.declared.history.action.Action.{Action}
-use Rattle.cal_measure.specs.Actions.{AreActionsOf}
-use Rattle.cal_measure.specs.Walk.{EachTask}
+use Rattle.cal_measure.proofs.Common.{◌<◌, ◌+◌, ◌^◌, ◌++◌, ◌∷◌, [], List, length, Agrees, Action, AreActionsOf, EachTask}
 use Rattle.cal_measure.proofs.EachTaskLemmas.{AreUpTo}
 use Rattle.cal_measure.proofs.walk.each_task.count_each.Given as goal
 

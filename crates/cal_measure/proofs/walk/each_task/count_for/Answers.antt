@@ -1,5 +1,4 @@
-use Rattle.std.proofs.Common.{◌++◌, ◌∷◌, ◌∙◌, [], arith, sym}
-use Rattle.cal_measure.specs.Actions.{AreActionsOf}
+use Rattle.cal_measure.proofs.Common.{◌++◌, ◌∷◌, ◌∙◌, [], arith, sym, AreActionsOf}
 use Rattle.cal_measure.proofs.EachTaskLemmas.{one_place}
 use Rattle.cal_measure.proofs.NothingTo.{stays_right}
 use Rattle.cal_measure.proofs.walk.each_task.count_for.Goals as goal

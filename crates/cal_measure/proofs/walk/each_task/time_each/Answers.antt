@@ -1,5 +1,4 @@
-use Rattle.std.proofs.Common.{◌++◌, ◌∷◌, [], arith}
-use Rattle.cal_measure.specs.Walk.{IsTimeOf}
+use Rattle.cal_measure.proofs.Common.{◌++◌, ◌∷◌, [], arith, IsTimeOf}
 use Rattle.cal_measure.proofs.EachTaskLemmas.{all_done, none_yet, one_done}
 use Rattle.cal_measure.proofs.walk.each_task.time_each.Goals as goal
 

@@ -1,8 +1,5 @@
-use Rattle.std.proofs.Common.{◌≡◌, ◌<◌, ◌++◌, ◌∷◌, [], List, length}
-use Rattle.cal_policy.specs.State.{IsStateAfter}
-use Rattle.cal_policy.specs.declared.history.entry.PassEntry.{PassEntry}
+use Rattle.cal_measure.proofs.Common.{◌≡◌, ◌<◌, ◌++◌, ◌∷◌, [], List, length, IsStateAfter, PassEntry, EachTask, IsTimeOf, until_next}
 use Rattle.cal_policy.specs.declared.history.entry.TheConstants.{MOST_PASSES}
-use Rattle.cal_measure.specs.Walk.{EachTask, IsTimeOf, until_next}
 use Rattle.cal_measure.proofs.EachTaskLemmas.{AreUpTo}
 use Rattle.cal_measure.proofs.walk.each_task.time_each.Given as goal
 

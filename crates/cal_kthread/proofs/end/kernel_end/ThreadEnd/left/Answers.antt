@@ -1,7 +1,4 @@
-use Rattle.std.proofs.Common.{◌≡◌, ◌+◌, refl, subst}
-use Rattle.cal_kthread.specs.End.Account.{KeepsItsWork}
-use Rattle.cal_kthread.specs.End.Rest.{EndView, to_hand_out}
-use Rattle.cal_kthread.specs.Queue.Rule.{queue_shares}
+use Rattle.cal_kthread.proofs.Common.{◌≡◌, ◌+◌, refl, subst, KeepsItsWork, EndView, to_hand_out, queue_shares}
 use Rattle.cal_kthread.proofs.EndLemmas.Account.{keeps-work, one-fewer}
 use Rattle.cal_kthread.proofs.end.kernel_end.ThreadEnd.left.Goals as goal
 

@@ -1,7 +1,5 @@
-use Rattle.std.proofs.Common.{◌≡◌, ◌<◌, ◌∙◌, sym, subst, ap, not, length, get_or, Some, arith}
+use Rattle.cal_kthread.proofs.Common.{◌≡◌, ◌<◌, ◌∙◌, sym, subst, ap, not, length, get_or, Some, arith, ThreadView, provided}
 use Rattle.cal_kthread.specs.contracts.turn.thread.Thread.{the_view}
-use Rattle.cal_kthread.specs.Turn.Thread.{ThreadView}
-use Rattle.cal_kthread.specs.Turn.{provided}
 use Rattle.cal_kthread.proofs.TurnLemmas.Robbing.{length-robbed, number-robbed}
 use Rattle.cal_kthread.proofs.TurnLemmas.Stepping.{providing-stolen}
 use Rattle.cal_kthread.proofs.turn.thread.Thread.provide.Goals as goal

@@ -1,8 +1,4 @@
-use Rattle.std.proofs.Common.{◌≡◌, ◌∙◌, ap, length, arith}
-use Rattle.cal_signal.specs.declared.record.Record.{Record}
-use Rattle.cal_signal.specs.Pages.{last_published}
-use Rattle.cal_signal.specs.Records.{zero_record}
-use Rattle.cal_kthread.specs.Turn.Thread.{ThreadView}
+use Rattle.cal_kthread.proofs.Common.{◌≡◌, ◌∙◌, ap, length, arith, Record, last_published, zero_record, ThreadView}
 use Rattle.cal_kthread.proofs.TurnLemmas.Publishing.{last_snoc}
 use Rattle.cal_kthread.proofs.turn.thread.Thread.publish.Goals as goal
 

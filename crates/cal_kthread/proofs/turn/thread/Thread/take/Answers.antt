@@ -1,5 +1,4 @@
-use Rattle.std.proofs.Common.{◌∙◌, ap, Some}
-use Rattle.cal_kthread.specs.Turn.{taken}
+use Rattle.cal_kthread.proofs.Common.{◌∙◌, ap, Some, taken}
 use Rattle.cal_kthread.proofs.TurnLemmas.Stepping.{taking}
 use Rattle.cal_kthread.proofs.turn.thread.Thread.take.Goals as goal
 

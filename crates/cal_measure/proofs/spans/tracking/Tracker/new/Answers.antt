@@ -1,5 +1,4 @@
-use Rattle.std.proofs.Common.{None}
-use Rattle.cal_policy.proofs.ListLemmas.OneMore.{get_or_same}
+use Rattle.cal_measure.proofs.Common.{None, get_or_same}
 use Rattle.cal_measure.proofs.spans.tracking.Tracker.new.Goals as goal
 
 pub returns : goal.returns

@@ -1,9 +1,4 @@
-use Rattle.std.proofs.Common.{◌++◌, ◌∙◌, List, ap, subst, sym}
-use Rattle.std.specs.Prelude.{OnOk}
-use Rattle.std.proofs.lemmas.List.{append-nil}
-use Rattle.cal_measure.specs.Ends.{timed_by}
-use Rattle.cal_measure.specs.ThreadWork.{IsWorkOfEnded}
-use Rattle.cal_measure.specs.declared.ends.TimedTurn.{TimedTurn}
+use Rattle.cal_measure.proofs.Common.{◌++◌, ◌∙◌, List, ap, subst, sym, OnOk, append-nil, timed_by, IsWorkOfEnded, TimedTurn}
 use Rattle.cal_measure.proofs.thread_work.ended.EndedTurns.take.Goals as goal
 
 pub returns-in-None : goal.returns-in-None

@@ -1,11 +1,4 @@
-use Rattle.std.proofs.Common.{◌++◌, ◌∷◌, ◌∙◌, ℕ, List, [], ap, sym, arith, length-append}
-use Rattle.std.specs.Prelude.{sum}
-use Rattle.cal_policy.specs.History.Lists.{each_of}
-use Rattle.cal_policy.proofs.ListLemmas.OneMore.{each_of_push}
-use Rattle.cal_measure.specs.Services.{service_by, services_of}
-use Rattle.cal_measure.specs.Turns.{one_of}
-use Rattle.cal_measure.specs.Work.{time_worked}
-use Rattle.cal_measure.specs.declared.services.Service.{Service}
+use Rattle.cal_measure.proofs.Common.{◌++◌, ◌∷◌, ◌∙◌, ℕ, List, [], ap, sym, arith, length-append, sum, each_of, each_of_push, service_by, services_of, one_of, time_worked, Service}
 use Rattle.cal_measure.proofs.thread_work.ended.EndedTurns.take_ended.Goals as goal
 
 pub returns : goal.returns

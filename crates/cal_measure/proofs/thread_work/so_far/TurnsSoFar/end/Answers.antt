@@ -1,7 +1,4 @@
-use Rattle.std.proofs.Common.{◌++◌, ◌∙◌, List, None, ap, subst, arith}
-use Rattle.cal_measure.specs.Ends.{timed_by}
-use Rattle.cal_measure.specs.ThreadWork.{IsWorkOfEnded, ended_of}
-use Rattle.cal_measure.specs.declared.ends.TimedTurn.{TimedTurn}
+use Rattle.cal_measure.proofs.Common.{◌++◌, ◌∙◌, List, None, ap, subst, arith, timed_by, IsWorkOfEnded, ended_of, TimedTurn}
 use Rattle.cal_measure.proofs.ThreadTurns.{ended_few, timed_whole}
 use Rattle.cal_measure.proofs.thread_work.so_far.TurnsSoFar.end.Goals as goal
 

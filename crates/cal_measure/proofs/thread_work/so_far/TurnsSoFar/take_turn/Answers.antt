@@ -1,8 +1,4 @@
-use Rattle.std.proofs.Common.{◌++◌, ◌∙◌, ℕ, List, Some, length, ap, subst, sym, arith}
-use Rattle.cal_measure.specs.Ends.{timed_by}
-use Rattle.cal_measure.specs.ThreadWork.{IsWorkOfEnded, ended_of}
-use Rattle.cal_measure.specs.Work.{suspension_by, suspensions_in}
-use Rattle.cal_measure.specs.declared.ends.TimedTurn.{TimedTurn}
+use Rattle.cal_measure.proofs.Common.{◌++◌, ◌∙◌, ℕ, List, Some, length, ap, subst, sym, arith, timed_by, IsWorkOfEnded, ended_of, suspension_by, suspensions_in, TimedTurn}
 use Rattle.cal_measure.proofs.ThreadTurns.{ended_few, ended_push, latest_push, suspensions_few, suspensions_push}
 use Rattle.cal_measure.proofs.thread_work.so_far.TurnsSoFar.take_turn.Goals as goal
 

@@ -1,6 +1,4 @@
-use Rattle.std.proofs.Common.{◌≡◌, ◌∙◌, ◌+◌, ◌<◌, ◌++◌, ◌∷◌, [], ℕ, Bool, List, length, length-append, cond, ap, refl, arith}
-use Rattle.cal_policy.specs.declared.history.entry.PassEntry.{PassEntry}
-use Rattle.cal_measure.specs.Cores.{is_over_limit}
+use Rattle.cal_measure.proofs.Common.{◌≡◌, ◌∙◌, ◌+◌, ◌<◌, ◌++◌, ◌∷◌, [], ℕ, Bool, List, length, length-append, cond, ap, refl, arith, PassEntry, is_over_limit}
 use Rattle.cal_measure.specs.declared.states.CoreState.TheVariants as states
 use Rattle.cal_measure.proofs.OneMore.{no_ticks, over_before, state_summed, summed}
 use Rattle.cal_measure.proofs.walk.machine_time.MachineTime.lasted.Goals as goal

@@ -1,9 +1,4 @@
-use Rattle.std.specs.Prelude.{nat_lt}
-use Rattle.std.proofs.Common.{◌≡◌, ◌∙◌, ◌+◌, ◌++◌, ◌∷◌, [], ℕ, List, Option, length, length-append, take, ap, sym, subst, arith}
-use Rattle.cal_policy.specs.State.{Agrees}
-use Rattle.cal_policy.specs.History.{actions_of}
-use Rattle.cal_policy.specs.declared.history.entry.PassEntry.{PassEntry}
-use Rattle.cal_measure.specs.Cores.{bandwidth_in, in_state_after, is_over_limit}
+use Rattle.cal_measure.proofs.Common.{nat_lt, ◌≡◌, ◌∙◌, ◌+◌, ◌++◌, ◌∷◌, [], ℕ, List, Option, length, length-append, take, ap, sym, subst, arith, Agrees, actions_of, PassEntry, bandwidth_in, in_state_after, is_over_limit}
 use Rattle.cal_measure.specs.declared.states.CoreState.TheVariants as states
 use Rattle.cal_measure.proofs.OneMore.{slice_here, take_here}
 use Rattle.cal_measure.proofs.walk.machine_time.MachineTime.with_pass.Goals as goal

@@ -1,12 +1,6 @@
-use Rattle.std.proofs.Common.{◌≡◌, ◌∙◌, ◌+◌, ◌-◌, ◌*◌, ◌<◌, ◌++◌, ◌∷◌, [], ℕ, Bool, List, Some, length, length-append, take, cond, ap, sym, subst, arith}
-use Rattle.cal_policy.specs.State.{Agrees, KeepingAgrees}
-use Rattle.cal_policy.specs.History.{actions_of, looks_of}
-use Rattle.cal_policy.specs.Board.Counts.{booked_by}
+use Rattle.cal_measure.proofs.Common.{◌≡◌, ◌∙◌, ◌+◌, ◌-◌, ◌*◌, ◌<◌, ◌++◌, ◌∷◌, [], ℕ, Bool, List, Some, length, length-append, take, cond, ap, sym, subst, arith, Agrees, KeepingAgrees, actions_of, looks_of, booked_by, PassEntry, held_after, left_after, found_congested, is_congested_at}
 use Rattle.cal_policy.specs.declared.history.look.Seen.{Seen}
-use Rattle.cal_policy.specs.declared.history.entry.PassEntry.{PassEntry}
 use Rattle.cal_policy.proofs.BoardLemmas.Replayed.{looks_push}
-use Rattle.cal_measure.specs.Cores.{held_after, left_after}
-use Rattle.cal_measure.specs.States.{found_congested, is_congested_at}
 use Rattle.cal_measure.proofs.OneMore.{congested_before, greatest, held_before, left_before, no_ticks, slice_here, summed, take_before, take_here}
 use Rattle.cal_measure.proofs.walk.task_time.TaskTime.with_pass.Goals as goal
 
