@@ -1,6 +1,6 @@
 -- The numbers of a run whose passes are a history's.
 use Rattle.std.specs.Prelude.{◌≡◌, List}
-use Rattle.cal_came.specs.declared.asked.Counted.{Counted}
+use Rattle.cal_came.specs.declared.counted.Counted.{Counted}
 use Rattle.cal_kthread.specs.declared.journal.entry.Entry.{Entry}
 use Rattle.cal_machine.specs.Table.{Table}
 use Rattle.cal_machine.specs.declared.request.Request.{Request}
