@@ -1,7 +1,7 @@
 use Rattle.std.proofs.Common.{◌∙◌, arith, refl, subst, sym}
 use Rattle.cal_laws.specs.Point.{Point}
 use Rattle.cal_machine.specs.Table.{Table}
-use Rattle.cal_measure.specs.Walk.{IsOpenFor}
+use Rattle.cal_measure.specs.Walk.{IsOpenFor, IsWalkOf}
 use Rattle.cal_measure.specs.declared.walk.Walk.{Walk}
 use Rattle.cal_replay.specs.Replays.{ended}
 use Rattle.cal_run.specs.declared.outcome.Outcome.{Outcome}
@@ -27,7 +27,7 @@ returns-clause-numbers c =
     let outcome : Outcome = ended c.args.history.now run.journals c.in_ok-left.left in
     let suits = c.in_ok-left.ensures.suits c.args.config.now (c.in_ok-numbers.ensures.table, c.in_ok-numbers.ensures.open) in
     let table = c.in_ok-ended.ensures.table ∙ suits.0 in
-    let at_end = c.in_ok-ended.ensures.ended outcome _ refl in
+    let at_end = c.in_ok-ended.ensures.ended outcome (record { walk = subst (λ (t : Table). IsWalkOf t c.args.history.now c.in_ok-numbers-2.field-0) (sym suits.0) c.in_ok-numbers-2.ensures.walk; threads = run.collected.threads }) refl in
     record {
       journals = run.journals;
       left = c.in_ok-left.left;
