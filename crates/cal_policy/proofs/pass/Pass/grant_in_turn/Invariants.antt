@@ -1,5 +1,7 @@
-use Rattle.std.proofs.Common.{◌≡◌, ◌+◌, ◌≤◌, length}
+use Rattle.std.proofs.Common.{◌≡◌, ◌++◌, ◌≤◌, length}
+use Rattle.cal_policy.specs.declared.history.action_list.TheConstants.{MOST_ACTIONS}
 use Rattle.cal_policy.specs.declared.pass.assured.turns.TheConstants.{NO_TURN}
+use Rattle.cal_policy.specs.Assured.Grants.{grants}
 use Rattle.cal_policy.specs.Pass.AtHand.{setting_in}
 use Rattle.cal_policy.specs.Setting.{Begun}
 use Rattle.cal_policy.specs.State.{IsReady, Stands}
@@ -8,8 +10,7 @@ use Rattle.cal_policy.proofs.pass.Pass.grant_in_turn.Given as goal
 
 abbrev pub invariant-loop : goal.invariant-loop
 invariant-loop l = record {
-  acts : (h : Begun) → let s = setting_in l.self h in Stands l.fn.board s l.fn.out → HasCome s l.fn.out l.out l.board NO_TURN l.turns l.counter;
+  acts : (h : Begun) → let s = setting_in l.self h in length (l.fn.out ++ grants s l.fn.out) ≤ MOST_ACTIONS → Stands l.fn.board s l.fn.out → HasCome s l.fn.out l.out l.board NO_TURN l.turns l.counter;
   ready : IsReady l.self.config.now l.board;
   all : length l.turns ≡ 16;
-  length : length l.out ≤ length l.fn.out + l.counter;
 }
