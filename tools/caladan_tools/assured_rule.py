@@ -128,7 +128,7 @@ class Rule(Machine):
         return self.short_waiting() != [] and len(self.open_cores()) <= self.lacking()
 
     def most_kept(self, u):
-        return min(self.lack(u), self.pressing(u))
+        return min(self.lack(u), self.pressing(u), len(self.grantable(u)))
 
     def owed_below(self, u, c):
         return self.owed[:c].count(u)

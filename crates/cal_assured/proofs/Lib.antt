@@ -1,5 +1,6 @@
 pub mod ByHolders
 pub mod Ending
 pub mod Legality
+pub mod OwnTurn
 pub mod PassLaws
 pub mod RingLemmas

@@ -7,6 +7,7 @@ use Rattle.cal_policy.specs.declared.explain.claims.Lateness.{Lateness}
 use Rattle.cal_policy.specs.declared.explain.claims.Shortage.{Shortage}
 use Rattle.cal_policy.specs.declared.explain.keeping.Keeping.{Keeping}
 use Rattle.cal_policy.specs.declared.explain.keeping.Keeping.TheVariants as keepings
+use Rattle.cal_policy.specs.Assured.Acted.{has_acted}
 use Rattle.cal_policy.specs.Assured.InFlight as flight
 use Rattle.cal_policy.specs.Assured.Owed.{owed_to}
 use Rattle.cal_policy.specs.Assured.Short as short
@@ -28,7 +29,7 @@ pub record IsClaim (s : Setting) (acts : List Action) (t : ℕ) (claim : Claim) 
   pub surplus : claim.surplus ≡ short.surplus s (so_far s acts) t
   pub coming : claim.coming ≡ flight.coming s (so_far s acts) t
   pub waits : claim.waits ≡ short.waits s (so_far s acts) t
-  pub has_acted : claim.has_acted ≡ taking.has_acted s.table acts t
+  pub has_acted : claim.has_acted ≡ has_acted s.table acts t
   pub may_revoke : claim.may_revoke ≡ taking.may_preempt s acts t
 
 -- all tasks and cores after the actions x

@@ -12,6 +12,7 @@ fn is_own(config: &Config, task: usize, thread: usize) -> bool
     requires { task < length config.now.tasks }
     ensures { result ≡ rules.is_own config.now task thread }
 {
+    config.limits();
     let (first, count) = config.threads_of(task);
     first <= thread && thread < first + count
 }

@@ -204,7 +204,10 @@ impl Pass<'_> {
             then preempt_class s.table (so_far s acts) task (owner_of s.table thread) else None)) }
     {
         let other = self.config.task_of(thread as usize);
-        if self.may_be_taken(board, core, thread) && self.may_take_from(board, task, other) {
+        if !self.may_be_taken(board, core, thread) {
+            return None;
+        }
+        if self.may_take_from(board, task, other) {
             self.preempt_class(board, task, other)
         } else {
             None

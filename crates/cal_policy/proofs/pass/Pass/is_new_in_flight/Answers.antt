@@ -54,7 +54,7 @@ returns-then-is_untaken_on c = λ h acts st.
     let core = c.in-Some.core in
     let low : core < 128 = omega (arith, c.in-Some.ensures.next.1, c.requires.at_hand.accepted.machine.most) in
     some_passes (newly s acts c.args.thread) s.table.cores core c.in-Some.ensures.next.1
-    (both (is_granted_in acts core) _ (sym (st.fresh.fresh core low) ∙ c.in-Some.ensures.has) (sym (c.is_untaken_on.ensures h acts st) ∙ c.if-is_untaken_on.true))
+    (both (is_granted_in acts core) _ (sym (st.fresh.fresh core low) ∙ c.in-Some.ensures.member) (sym (c.is_untaken_on.ensures h acts st) ∙ c.if-is_untaken_on.true))
     ∙ as_made s acts c.args.thread
 
 pub returns : goal.returns
