@@ -265,7 +265,7 @@ cut_takes s acts over v e None f = tt
 cut_takes s acts over v e (Some core) f =
     let cap = held_by s.table (so_far s acts) v.number - 1 in
     let held = cut_held s acts v core (record { over = over; greatest = e; highest = f }) in
-    (tt, ap (λ x. is_held (holder_of x core)) (so_far_push s acts (Cap v.number cap)) ∙ ap is_held (holder_push (so_far s acts) (Cap v.number cap) core) ∙ held.1, tt)
+    (tt, (ap (λ x. is_held (holder_of x core)) (so_far_push s acts (Cap v.number cap)) ∙ ap is_held (holder_push (so_far s acts) (Cap v.number cap) core) ∙ held.1, tt))
 
 victim_takes : (s : Setting) (acts : List Action) → nat_lt s.table.bandwidth_limit s.input.bandwidth ≡ true → (o : Option (Candidate ℕ)) → victim_of s (so_far s acts) ≡ o →
     EachAfter (IsTaking s) acts (cut_of s (so_far s acts) o)

@@ -54,7 +54,7 @@ pub assured_follows : (s : Setting) (turn : Turn) → IsTurn s.table turn → ma
 assured_follows s (Free core) lt = part_follows (made_before s) (free_at s) [] s.table.cores core Free (Unban 0) lt refl (append-nil (freed_of s))
 assured_follows s (Unban core) lt = part_follows (made_before s) (unban_at s) (freed_of s) s.table.cores core Unban (Ban 0) lt refl (append-nil (unbanned_of s))
 assured_follows s (Ban core) lt = part_follows (made_before s) (bans_at s) (unbanned_of s) s.table.cores core Ban Bandwidth lt refl refl
-assured_follows s Bandwidth lt = append-nil (bounded_of s)
+assured_follows s Bandwidth lt = append-nil (bounded_of s ++ []) ∙ append-nil (bounded_of s)
 assured_follows s (LatencyCritical task) lt = sym (append-nil _)
 assured_follows s (BestEffort task) lt = sym (append-nil _)
 assured_follows s (Placed place act) lt = acts_follow s place act lt.0 lt.1

@@ -75,11 +75,10 @@ impl Pass<'_> {
             if out.is_full() {
                 return;
             }
-            let action = self.act_due(board, out.as_slice(), task);
-            if action.is_none() {
+            let Some(action) = self.act_due(board, out.as_slice(), task) else {
                 return;
-            }
-            self.make(board, out, action);
+            };
+            self.make(board, out, Some(action));
         }
     }
 

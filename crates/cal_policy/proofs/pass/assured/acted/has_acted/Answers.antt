@@ -40,4 +40,4 @@ returns-then-is_act_of c =
 
 pub returns : goal.returns
 returns c =
-    sym (ap (λ l. has_acted c.args.config.now l c.args.task) (sym (take_all c.args.acts.now c.loop-action.action-index c.loop-action-test.false)) ∙ c.loop-action.invariant)
+    sym (ap (λ l. has_acted c.args.config.now l c.args.task) (sym (take_all c.loop-action.action-index c.args.acts.now c.loop-action-test.false)) ∙ c.loop-action.invariant)
