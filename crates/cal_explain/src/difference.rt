@@ -84,13 +84,11 @@ fn is_at(walk: &PassWalk<'_>, turn: Turn, at: usize) -> bool
     requires { IsWalk walk.now }
 {
     match (walk.turn(), turn) {
-        (
-            Turn::Placed { place, act },
-            Turn::LatencyCritical { task } | Turn::BestEffort { task },
-        ) => {
-            let is_last = act as usize + 1 >= walk.config().machine().cores() as usize;
-            walk.placed(place) == Some(task) && (is_last || walk.made().len() >= at)
-        }
+        (Turn::Placed { place, act }, Turn::LatencyCritical { task } | Turn::BestEffort { task }) =>
+            {
+                let is_last = act as usize + 1 >= walk.config().machine().cores() as usize;
+                walk.placed(place) == Some(task) && (is_last || walk.made().len() >= at)
+            }
         (now, _) => now == turn,
     }
 }

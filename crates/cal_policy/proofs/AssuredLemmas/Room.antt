@@ -198,9 +198,11 @@ ban_takes : (s : Setting) (acts : List Action) (c : ℕ) (o : Option ℕ) → Ea
 ban_takes s acts c None = tt
 ban_takes s acts c (Some thread) =
     let d = sibling_of c in
-    let started = (kept_now s thread).started in
-    (tt, revoked_if s (acts ++ Ban d thread started ∷ []) d (causes.Ban c) (is_held (holder_of (so_far s acts) d))
-    (λ held. ap (λ x. is_held (holder_of x d)) (so_far_push s acts (Ban d thread started)) ∙ after_ban (so_far s acts) d thread started d ∙ held))
+    let started = (kept_now s thread).started in (
+      tt,
+      revoked_if s (acts ++ Ban d thread started ∷ []) d (causes.Ban c) (is_held (holder_of (so_far s acts) d))
+          (λ held. ap (λ x. is_held (holder_of x d)) (so_far_push s acts (Ban d thread started)) ∙ after_ban (so_far s acts) d thread started d ∙ held),
+    )
 
 pub bans_take : (s : Setting) (before : List Action) (n : ℕ) → EachAfter (IsTaking s) before (in_turn (bans_at s) before n)
 bans_take s before n = each_turn (IsTaking s) (bans_at s) before n (λ k lt. ban_takes s (before ++ in_turn (bans_at s) before k) k (due_for s (so_far s (before ++ in_turn (bans_at s) before k)) k))

@@ -109,13 +109,7 @@ impl Pass<'_> {
     }
 
     /// What a turn makes, in a pass of `Policy::Assured`, by the actions of the pass so far.
-    fn assured_due_in(
-        &self,
-        board: &Board,
-        made: &[Action],
-        order: &Order,
-        turn: Turn,
-    ) -> Coupled
+    fn assured_due_in(&self, board: &Board, made: &[Action], order: &Order, turn: Turn) -> Coupled
         requires at_hand { IsOfTable self.now.config.now board.now }
         requires turn { IsTurn self.now.config.now turn }
         requires tasks { NamesTasks self.now.config.now order.now }
@@ -134,13 +128,7 @@ impl Pass<'_> {
     }
 
     /// What a turn makes, by the policy of the pass and its actions so far.
-    pub fn due_by(
-        &self,
-        board: &Board,
-        made: &[Action],
-        order: &Order,
-        turn: Turn,
-    ) -> Coupled
+    pub fn due_by(&self, board: &Board, made: &[Action], order: &Order, turn: Turn) -> Coupled
         requires at_hand { IsOfTable self.now.config.now board.now }
         requires turn { IsTurn self.now.config.now turn }
         requires tasks { NamesTasks self.now.config.now order.now }

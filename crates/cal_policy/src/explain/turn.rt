@@ -111,8 +111,14 @@ fn assured_turn_after(config: &Config, turn: Turn) -> Turn
     let tasks = config.tasks() as u8;
     match turn {
         Turn::Bandwidth => Turn::Placed { place: 0, act: 0 },
-        Turn::Placed { place, act } if act + 1 < cores => Turn::Placed { place, act: act + 1 },
-        Turn::Placed { place, .. } if place + 1 < tasks => Turn::Placed { place: place + 1, act: 0 },
+        Turn::Placed { place, act } if act + 1 < cores => Turn::Placed {
+            place,
+            act: act + 1,
+        },
+        Turn::Placed { place, .. } if place + 1 < tasks => Turn::Placed {
+            place: place + 1,
+            act: 0,
+        },
         Turn::Placed { .. } | Turn::LatencyCritical { .. } | Turn::BestEffort { .. } => Turn::End,
         Turn::Free { .. } | Turn::Unban { .. } | Turn::Ban { .. } | Turn::End => {
             turn_after(config, turn)

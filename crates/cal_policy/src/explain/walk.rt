@@ -244,7 +244,9 @@ impl<'a> PassWalk<'a> {
         ensures goes_on { OnOk result ((h : Begun) → Walks self.old h → Walks self.new h) }
         ensures setting { (h : Begun) → setting_of self.new h ≡ setting_of self.old h }
     {
-        let both = self.pass().due_by(&self.board, &self.made, &self.order, self.turn);
+        let both = self
+            .pass()
+            .due_by(&self.board, &self.made, &self.order, self.turn);
         make_both(self.config, &mut self.board, &mut self.made, both)?;
         let order = self.pass().order_after(&self.board, self.turn, self.order);
         self.order = order;

@@ -13,7 +13,7 @@ returns-clause-goes_on c = λ h w.
     let made = c.args.self.now.made.items in
     let turn = c.args.self.now.turn in
     let due = due_here _ policy _ s turn made _ c.args.self.now.order c.pass.ensures.policy (c.pass.ensures.setting h) w.order
-    (c.due_by-both.ensures.due h made (rw c.deref.ensures (c.pass.ensures.stands h w)) c.deref-2.ensures) in
+    (c.due_by-both.ensures.due h made (rw c.deref.ensures (c.pass.ensures.stands h w)) c.deref-2.ensures.value) in
     let now = taken_by policy s turn made _ _ w.made due c.in_ok-make_both.ensures.made in
     let stands = c.in_ok-make_both.ensures.stands s (rw c.deref_mut.ensures.value w.stands) in
     let P : Setting → Type 0 = λ t. Stands c.make_both.new.board t c.make_both.new.made.items in
