@@ -1,5 +1,5 @@
 -- A task that may book no more cores may book none while cores are granted and revoked.
-use Rattle.std.proofs.Common.{◌≡◌, ℕ, ◌≤◌, Bool, true, false, not, ◌&&◌, ◌||◌, cond, eqb, nat_lt, List, [], ◌∷◌, ◌++◌, zero, suc, Option, Some, None, refl, sym, ap, ◌∙◌, arith, subst, append_assoc}
+use Rattle.std.proofs.Common.{◌≡◌, ℕ, ◌≤◌, Bool, true, false, not, ◌&&◌, ◌||◌, cond, eqb, nat_lt, List, [], ◌∷◌, ◌++◌, Option, Some, None, refl, sym, ap, ◌∙◌, arith, subst}
 use Rattle.std.proofs.lemmas.Bool.Decides.{nat_tests}
 use Rattle.std.proofs.lemmas.Bool.{and_parts}
 use Rattle.std.proofs.lemmas.List.{append-nil}
@@ -105,7 +105,7 @@ pub same_number : (core c : ℕ) → eqb core c ≡ true → c ≡ core
 same_number core c e = grind (arith, nat_tests)
 
 -- what such an action does to the core that it names
-abbrev Moves : List Action → Action → Type 0
+abbrev pub Moves : List Action → Action → Type 0
 Moves x (Grant core thread class) = is_free (holder_of x core) ≡ true
 Moves x (Revoke core cause) = is_held (holder_of x core) ≡ true
 Moves x (Free core) = ⊥
@@ -119,7 +119,7 @@ free_books_none table t (holders.Held p) e = cc
 free_books_none table t (holders.Leaving p cause) e = cc
 
 -- a core that is booked for a task stays so
-stays_booked : (table : Table) (x : List Action) (a : Action) (t c : ℕ) → Moves x a → is_booked_for table t (holder_of x c) ≡ true → is_booked_for table t (holder_of (x ++ a ∷ []) c) ≡ true
+pub stays_booked : (table : Table) (x : List Action) (a : Action) (t c : ℕ) → Moves x a → is_booked_for table t (holder_of x c) ≡ true → is_booked_for table t (holder_of (x ++ a ∷ []) c) ≡ true
 stays_booked table x (Free core) t c m is = absurd m
 stays_booked table x (Unban core) t c m is = absurd m
 stays_booked table x (Ban core thread started) t c m is = absurd m
@@ -165,7 +165,7 @@ one_books s x a t m e =
     (books_by (booked_by s.table x t) (booked_by s.table (x ++ a ∷ []) t) (limit_of s.table t) (cap_of s.table x t) (is_latency_critical s.table t) more e)
 
 -- what the turn of a task gives
-abbrev AllMove : List Action → List Action → Type 0
+abbrev pub AllMove : List Action → List Action → Type 0
 AllMove x [] = Unit {0}
 AllMove x (a ∷ []) = Moves x a
 AllMove x (a ∷ b ∷ more) = ⊥
@@ -203,7 +203,7 @@ moves_if : (x l : List Action) (b : Bool) → AllMove x l → AllMove x (cond b 
 moves_if x l true m = m
 moves_if x l false m = tt
 
-act_moves : (s : Setting) (acts : List Action) (t : ℕ) → AllMove (so_far s acts) (act_of s acts t)
+pub act_moves : (s : Setting) (acts : List Action) (t : ℕ) → AllMove (so_far s acts) (act_of s acts t)
 act_moves s acts t = moves_if (so_far s acts) (grant_of s t (thread_choice s (so_far s acts) t) (choice_for s acts t)) (waits s (so_far s acts) t && may_act s acts t)
     (chosen_moves s acts t (thread_choice s (so_far s acts) t) (open_choice s (so_far s acts) t) refl (may_preempt s acts t) (held_choice s acts t) refl)
 

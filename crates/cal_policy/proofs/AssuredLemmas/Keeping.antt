@@ -1,5 +1,5 @@
 -- Which cores are kept, by the tests that are made in turn; and a choice after another.
-use Rattle.std.proofs.Common.{◌≡◌, Bool, true, false, not, cond, ◌&&◌, ◌||◌, Option, Some, None, refl}
+use Rattle.std.proofs.Common.{◌≡◌, Bool, true, false, cond, ◌&&◌, Option, Some, None, refl}
 use Rattle.std.specs.Option.{option_or}
 
 pub second_fails : (a b : Bool) → b ≡ false → false ≡ (a && b)

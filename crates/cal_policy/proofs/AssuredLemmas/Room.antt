@@ -16,7 +16,6 @@ use Rattle.cal_policy.specs.declared.history.core_class.CoreClass.{CoreClass}
 use Rattle.cal_policy.specs.declared.board.holders.Holder.{Holder}
 use Rattle.cal_policy.specs.declared.board.holders.Holder.TheVariants as holders
 use Rattle.cal_policy.specs.declared.pass.choice.Candidate.{Candidate}
-use Rattle.cal_policy.specs.Assured.Cause.{IsForTask}
 use Rattle.cal_policy.specs.Assured.Hyperthreads.{due_for, bans_at}
 use Rattle.cal_policy.specs.Assured.Short.{is_open, are_lacked}
 use Rattle.cal_policy.specs.Assured.Taking.{is_kept, may_take_from, held_class}
@@ -31,7 +30,7 @@ use Rattle.cal_policy.specs.Pass.Grants.{preempt_class, is_granted_in}
 use Rattle.cal_policy.specs.Pass.Made.{EachAfter, IsFreed}
 use Rattle.cal_policy.specs.Setting.{Setting, so_far, kept_now, is_held_with_room}
 use Rattle.cal_policy.proofs.AssuredLemmas.BooksNoMore.{held_granted, same_number}
-use Rattle.cal_policy.proofs.AssuredLemmas.Done.{IsGranted, IsFreeing, IsUnbanning, IsServing, open_taken, held_taken}
+use Rattle.cal_policy.proofs.AssuredLemmas.Done.{IsFreeing, IsUnbanning, IsServing, open_taken, held_taken}
 use Rattle.cal_policy.proofs.AssuredLemmas.Walks.{each_turn, each_so}
 use Rattle.cal_policy.proofs.HistoryLemmas.OneMore.{holder_push, last_thread_push}
 use Rattle.cal_policy.proofs.ListLemmas.Counted.{count_le, count_less}
@@ -65,14 +64,14 @@ held_not_free (holders.Held p) e = refl
 held_not_free (holders.Leaving p cause) e = cc
 
 -- a core that is revoked is being left
-left_after : (x : List Action) (core : ℕ) (cause : Cause) (h : Holder) → holder_of x core ≡ h → is_held h ≡ true →
+pub left_after : (x : List Action) (core : ℕ) (cause : Cause) (h : Holder) → holder_of x core ≡ h → is_held h ≡ true →
     (is_free (left_by (last_placement x core) cause) ≡ false) × (is_held (left_by (last_placement x core) cause) ≡ false)
 left_after x core cause holders.Free e held = cc
 left_after x core cause (holders.Held p) e held =
     (ap (λ o. is_free (left_by o cause)) (held_granted x core p e), ap (λ o. is_held (left_by o cause)) (held_granted x core p e))
 left_after x core cause (holders.Leaving p why) e held = cc
 
-revoked_to : (x : List Action) (core c : ℕ) (cause : Cause) → holder_of (x ++ Revoke core cause ∷ []) c ≡ cond (eqb core c) (left_by (last_placement x core) cause) (holder_of x c)
+pub revoked_to : (x : List Action) (core c : ℕ) (cause : Cause) → holder_of (x ++ Revoke core cause ∷ []) c ≡ cond (eqb core c) (left_by (last_placement x core) cause) (holder_of x c)
 revoked_to x core c cause = holder_push x (Revoke core cause) c ∙ unwrap_if (eqb core c) (left_by (last_placement x core) cause) (holder_of x c)
 
 -- as many cores are free after it

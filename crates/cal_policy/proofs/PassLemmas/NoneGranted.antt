@@ -1,5 +1,5 @@
 -- Where no thread waits no core is granted, and none revoked for a task.
-use Rattle.std.proofs.Common.{◌≡◌, ℕ, ◌<◌, ◌≤◌, ◌++◌, List, length, false, refl, sym, arith}
+use Rattle.std.proofs.Common.{◌≡◌, ℕ, ◌<◌, ◌≤◌, ◌++◌, List, length, false, sym, arith}
 use Rattle.std.proofs.lemmas.List.{append-nil}
 use Rattle.cal_machine.proofs.ThreadNumbers.{next_le}
 use Rattle.cal_machine.specs.TableTasks.{threads_of_table}

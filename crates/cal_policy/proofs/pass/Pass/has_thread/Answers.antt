@@ -1,5 +1,5 @@
 -- No thread before this one may be granted a core, so the first that may be is one to choose from.
-use Rattle.std.proofs.Common.{◌≡◌, ◌+◌, ◌<◌, ℕ, Bool, Option, None, nat_lt, refl, ap, sym, ◌∙◌, arith}
+use Rattle.std.proofs.Common.{◌≡◌, ◌+◌, ◌<◌, ℕ, Bool, None, nat_lt, refl, ap, sym, ◌∙◌, arith}
 use Rattle.std.specs.Option.{is_some}
 use Rattle.cal_machine.specs.TableTasks.{thread_of, limit_of}
 use Rattle.cal_machine.specs.declared.task.Task.{Task}

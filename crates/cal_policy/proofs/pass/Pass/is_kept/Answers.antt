@@ -1,4 +1,4 @@
-use Rattle.std.proofs.Common.{◌≡◌, ◌<◌, Bool, true, false, cond, Some, None, refl, ap, sym, ◌∙◌, arith}
+use Rattle.std.proofs.Common.{◌≡◌, ◌<◌, Some, None, ap, sym, ◌∙◌, arith}
 use Rattle.cal_policy.specs.Assured.Owed.{owed_to}
 use Rattle.cal_policy.specs.Assured.Short.{is_short}
 use Rattle.cal_policy.specs.Assured.Taking.{is_kept_for, is_kept_for_short}

@@ -1,5 +1,5 @@
 -- The cores between those that the pass granted are none of them.
-use Rattle.std.proofs.Common.{◌≡◌, ◌+◌, ◌<◌, ◌≤◌, ◌&&◌, ℕ, Bool, true, false, List, not, eqb, refl, sym, ap, ◌∙◌, arith}
+use Rattle.std.proofs.Common.{◌≡◌, ◌<◌, ◌≤◌, ◌&&◌, ℕ, Bool, true, false, List, not, eqb, refl, sym, ap, ◌∙◌, arith}
 use Rattle.cal_policy.specs.declared.history.action.Action.{Action}
 use Rattle.cal_policy.specs.Assured.InFlight.{is_untaken, made_now}
 use Rattle.cal_policy.specs.History.{holder_of}

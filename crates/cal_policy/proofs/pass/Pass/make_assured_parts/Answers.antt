@@ -1,5 +1,5 @@
 -- Each part begins where the one before ended.
-use Rattle.std.proofs.Common.{◌≡◌, ◌++◌, ◌≤◌, List, length, sym, subst}
+use Rattle.std.proofs.Common.{◌++◌, ◌≤◌, List, length, sym, subst}
 use Rattle.cal_policy.specs.declared.history.action.Action.{Action}
 use Rattle.cal_policy.specs.Assured.Grants.{grants}
 use Rattle.cal_policy.specs.Setting.{Setting}

@@ -1,5 +1,5 @@
 -- The set of open cores has those that are open, as far as the machine has cores.
-use Rattle.std.proofs.Common.{◌≡◌, ℕ, ◌+◌, ◌<◌, ◌≤◌, zero, suc, Bool, if◌then◌else◌, refl, ◌∙◌, arith}
+use Rattle.std.proofs.Common.{◌≡◌, ℕ, ◌<◌, zero, suc, Bool, refl, ◌∙◌, arith}
 use Rattle.cal_machine.specs.CoreSet as sets
 use Rattle.cal_machine.specs.declared.core_set.CoreSet.{CoreSet}
 use Rattle.cal_policy.specs.Assured.Short.{is_open}

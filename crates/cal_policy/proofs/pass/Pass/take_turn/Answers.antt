@@ -1,8 +1,8 @@
 -- Each act gives what is due to the task, until none is.
-use Rattle.std.proofs.Common.{◌≡◌, ◌+◌, ◌≤◌, ◌++◌, [], Some, None, length, refl, sym, ap, ◌∙◌, arith}
+use Rattle.std.proofs.Common.{◌≡◌, ◌≤◌, ◌++◌, [], Some, length, refl, sym, ap, ◌∙◌, arith}
 use Rattle.std.specs.Prelude.{option_to_list}
 use Rattle.std.proofs.lemmas.List.{append-nil}
-use Rattle.cal_policy.specs.Assured.Grants.{act_in_place, acts_in_place}
+use Rattle.cal_policy.specs.Assured.Grants.{act_in_place}
 use Rattle.cal_policy.specs.Pass.AtHand.{setting_in}
 use Rattle.cal_policy.proofs.AssuredLemmas.Acts.{idle_after, full_after}
 use Rattle.cal_policy.proofs.PassLemmas.PartSoFar.{Reached_one}

@@ -1,4 +1,4 @@
-use Rattle.std.proofs.Common.{◌≡◌, ◌+◌, ◌≤◌, length, Some}
+use Rattle.std.proofs.Common.{Some}
 use Rattle.cal_policy.specs.Assured.Grants.{act_in_place}
 use Rattle.cal_policy.specs.Pass.AtHand.{setting_in}
 use Rattle.cal_policy.specs.Setting.{Begun}
