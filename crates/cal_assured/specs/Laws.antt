@@ -1,7 +1,7 @@
 -- Laws of one pass of this policy, each at its own place.
-use Rattle.std.specs.Prelude.{◌≡◌, ◌≢◌, ℕ, ◌<◌, ◌≤◌, ◌⊎◌, true, false, List, length}
+use Rattle.std.specs.Prelude.{◌≡◌, ◌≢◌, ℕ, ◌<◌, ◌≤◌, ◌⊎◌, ◌&&◌, Bool, true, false, List, length, ◌++◌}
 use Rattle.std.specs.Prelude.{Some, None, slice_get}
-use Rattle.cal_machine.specs.Table.{Table}
+use Rattle.cal_machine.specs.Table.{Table, IsTable}
 use Rattle.cal_machine.specs.TableTasks.{owner_of, is_latency_critical}
 use Rattle.cal_policy.specs.declared.history.action.Action.{Action}
 use Rattle.cal_policy.specs.declared.history.action.Action.TheVariants.{Ban, Revoke, Grant}
@@ -12,14 +12,15 @@ use Rattle.cal_policy.specs.declared.board.holders.Holder.TheVariants.{Held}
 use Rattle.cal_policy.specs.History.{holder_of, is_banned}
 use Rattle.cal_policy.specs.Board.Counts.{is_free}
 use Rattle.cal_policy.specs.Assured.Cause.{HasCause}
-use Rattle.cal_policy.specs.Assured.InFlight.{pressing, coming}
-use Rattle.cal_policy.specs.Assured.Owed.{owed_to, owed_below}
+use Rattle.cal_policy.specs.Assured.InFlight.{pressing, coming, new_helpers}
+use Rattle.cal_policy.specs.Assured.Owed.{owed_to, owed_below, is_task}
 use Rattle.cal_policy.specs.Assured.Short.{is_short, lacks, needs, lacking, open_cores, waits}
-use Rattle.cal_policy.specs.Assured.Short.{some_waits_short}
+use Rattle.cal_policy.specs.Assured.Short.{some_waits_short, waits_short, is_open}
 use Rattle.cal_policy.specs.Assured.Order.{is_later, place_of}
 use Rattle.cal_policy.specs.Assured.Taking.{open_choice}
-use Rattle.cal_policy.specs.Assured.Grants.{grants_of_first}
+use Rattle.cal_policy.specs.Assured.Grants.{grants_of_first, turn_in_place}
 use Rattle.cal_policy.specs.Assured.Pass.{unbanned_of, bounded_of, ComesTo}
+use Rattle.cal_policy.specs.Pass.Choice.{count_below}
 use Rattle.cal_policy.specs.Pass.{followed}
 use Rattle.cal_policy.specs.Setting.{Setting, so_far}
 
@@ -36,6 +37,33 @@ OwedCoresAreKept = (s : Setting) (acts : List Action) (core thread class u : ℕ
     ComesTo s acts (Grant core thread class) → owed_to (so_far s acts) core ≡ Some u →
     owner_of s.table thread ≢ u →
     MayTakeWhatIsOwed s (so_far s acts) (owner_of s.table thread) u core
+
+-- core c is open, and owed to task t
+abbrev pub is_open_for : ℕ → List Action → ℕ → Bool
+is_open_for t x c = is_open x c && is_task t (owed_to x c)
+
+-- how many such cores there are
+abbrev pub owed_open : Table → ℕ → List Action → ℕ
+owed_open table t x = count_below (is_open_for t x) table.cores
+
+-- the turn of task t after the actions acts of the pass
+abbrev pub after_turn : Setting → List Action → ℕ → List Action
+after_turn s acts t = so_far s (acts ++ turn_in_place s acts (Some t))
+
+-- where a task is short and waits at the end of its turn, no open core is owed to it
+abbrev pub OwedCoresAreTaken : Type 0
+OwedCoresAreTaken = (s : Setting) (acts : List Action) (t c : ℕ) → c < s.table.cores →
+    waits_short s (after_turn s acts t) t ≡ true → owed_to (after_turn s acts t) c ≡ Some t →
+    is_open (after_turn s acts t) c ≡ false
+
+-- nor is one where the task is short when its turn begins, was granted no core in the pass before it,
+-- and has no more open cores owed to it than it needs
+abbrev pub KeptCoresAreTaken : Type 0
+KeptCoresAreTaken = (s : Setting) (acts : List Action) (t c : ℕ) → IsTable s.table →
+    c < s.table.cores → is_short s.table (so_far s acts) t ≡ true →
+    new_helpers s (so_far s acts) t ≡ 0 →
+    owed_open s.table t (so_far s acts) ≤ needs s (so_far s acts) t →
+    owed_to (after_turn s acts t) c ≡ Some t → is_open (after_turn s acts t) c ≡ false
 
 -- a core is revoked for a task only where more of its threads are late, and not in flight, than cores
 -- are coming to it

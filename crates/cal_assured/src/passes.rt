@@ -3,7 +3,8 @@
 ghost use Rattle.cal_assured.specs.Laws.{OwedCoresAreKept, NoMoreIsTakenThanIsLacked};
 ghost use Rattle.cal_assured.specs.Laws.{NoCoreIsRevokedTwice, BansLeaveWhatIsLacked};
 ghost use Rattle.cal_assured.specs.Laws.{BansEndForWhatIsLacked, TheLaterComesFirst};
-ghost use Rattle.cal_assured.specs.Laws.{RevocationsHaveCause};
+ghost use Rattle.cal_assured.specs.Laws.{RevocationsHaveCause, OwedCoresAreTaken};
+ghost use Rattle.cal_assured.specs.Laws.{KeptCoresAreTaken};
 
 use cal_policy::laws::action_is_one_more;
 
@@ -12,6 +13,18 @@ use cal_policy::laws::action_is_one_more;
 /// it as it could be granted in this pass.
 pub fn owed_cores_are_kept()
     ensures { OwedCoresAreKept }
+{}
+
+/// Where a task is short and waits at the end of its turn, no open core is owed to it: it has taken
+/// them all.
+pub fn owed_cores_are_taken()
+    ensures { OwedCoresAreTaken }
+{}
+
+/// A short task to which a core was granted in no earlier turn of the pass takes all open cores that
+/// are owed to it, where they are no more than it needs.
+pub fn kept_cores_are_taken()
+    ensures { KeptCoresAreTaken }
 {}
 
 /// A core is revoked for a task only where more of its threads are late, and not in flight, than
