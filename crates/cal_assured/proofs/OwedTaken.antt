@@ -103,13 +103,13 @@ act_keeps s acts (a ∷ b ∷ more) t m = absurd m
 -- a number that passes, where some do
 pub found : (p : ℕ → Bool) (n : ℕ) → 0 < count_below p n → (k : ℕ) × (k < n) × (p k ≡ true)
 found p zero some = absurd (omega (arith, some))
-found p (suc n) some = by_last (p n) refl
+found p (suc n) some = by_last (p n) refl (λ more. found p n more)
   where
-    by_last : (b : Bool) → p n ≡ b → (k : ℕ) × (k < suc n) × (p k ≡ true)
-    by_last true e = (n, omega arith, e)
-    by_last false e =
+    by_last : (b : Bool) → p n ≡ b → (0 < count_below p n → (k : ℕ) × (k < n) × (p k ≡ true)) → (k : ℕ) × (k < suc n) × (p k ≡ true)
+    by_last true e below_found = (n, omega arith, e)
+    by_last false e below_found =
         let less : count_below p (suc n) ≡ count_below p n + 0 = ap (λ b. count_below p n + cond b 1 0) e in
-        let below = found p n (omega (arith, some, less)) in (below.0, (let lt = below.1 in omega (arith, lt)), below.2)
+        let below = below_found (omega (arith, some, less)) in (below.0, (let lt = below.1 in omega (arith, lt)), below.2)
 
 duel_some : {X : Type 0} (b : Bool) (y z : X) → cond b (Some y) (Some z) ≡ None → ⊥
 duel_some true y z e = cc
@@ -158,7 +158,7 @@ some_class false x e f = cc
 
 pub takes_one : (s : Setting) (acts : List Action) (t c : ℕ) → is_short s.table (so_far s acts) t ≡ true → waits s (so_far s acts) t ≡ true → c < s.table.cores → is_open_for t (so_far s acts) c ≡ true →
     TakesOne s acts t
-takes_one s acts t c short wait lt is = by_best (best_below comes_before (owed_class s x t) s.table.cores) refl
+takes_one s acts t c short wait lt is = by_best (best_below comes_before (owed_class s (so_far s acts) t) s.table.cores) refl
   where
     by_thread : (best : Candidate CoreClass) → best_below comes_before (owed_class s (so_far s acts) t) s.table.cores ≡ Some best →
         (thread : Option (Candidate ℕ)) → thread_choice s (so_far s acts) t ≡ thread → TakesOne s acts t
@@ -278,22 +278,22 @@ taken_to s acts t (suc n) e =
 
 pub count_all : (p : ℕ → Bool) (n : ℕ) → count_below p n ≤ n
 count_all p zero = omega arith
-count_all p (suc n) = by_last (p n) refl
+count_all p (suc n) = by_last (p n) refl (count_all p n)
   where
-    by_last : (b : Bool) → p n ≡ b → count_below p (suc n) ≤ suc n
-    by_last true e = let more : count_below p (suc n) ≡ count_below p n + 1 = ap (λ b. count_below p n + cond b 1 0) e in omega (arith, more, count_all p n)
-    by_last false e = let more : count_below p (suc n) ≡ count_below p n + 0 = ap (λ b. count_below p n + cond b 1 0) e in omega (arith, more, count_all p n)
+    by_last : (b : Bool) → p n ≡ b → count_below p n ≤ n → count_below p (suc n) ≤ suc n
+    by_last true e all = let more : count_below p (suc n) ≡ count_below p n + 1 = ap (λ b. count_below p n + cond b 1 0) e in omega (arith, more, all)
+    by_last false e all = let more : count_below p (suc n) ≡ count_below p n + 0 = ap (λ b. count_below p n + cond b 1 0) e in omega (arith, more, all)
 
 pub counted_none : (p : ℕ → Bool) (n k : ℕ) → count_below p n ≡ 0 → k < n → p k ≡ false
 counted_none p zero k e lt = absurd (omega (arith, lt))
-counted_none p (suc n) k e lt = by_last (p n) refl
+counted_none p (suc n) k e lt = by_last (p n) refl (λ none l. counted_none p n k none l)
   where
-    by_last : (b : Bool) → p n ≡ b → p k ≡ false
-    by_last true f = let more : count_below p (suc n) ≡ count_below p n + 1 = ap (λ b. count_below p n + cond b 1 0) f in absurd (omega (arith, more, e))
-    by_last false f =
+    by_last : (b : Bool) → p n ≡ b → (count_below p n ≡ 0 → k < n → p k ≡ false) → p k ≡ false
+    by_last true f below = let more : count_below p (suc n) ≡ count_below p n + 1 = ap (λ b. count_below p n + cond b 1 0) f in absurd (omega (arith, more, e))
+    by_last false f below =
         let more : count_below p (suc n) ≡ count_below p n + 0 = ap (λ b. count_below p n + cond b 1 0) f in
         ⊎_elim
-        (λ (l : k < n). counted_none p n k (omega (arith, more, e)) l)
+        (λ (l : k < n). below (omega (arith, more, e)) l)
         (λ (g : n ≤ k). let same : k ≡ n = omega (arith, g, lt) in rw same f)
         (cases_lt k n)
 
