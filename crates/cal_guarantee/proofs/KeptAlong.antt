@@ -234,7 +234,7 @@ lack_step U G s u acts a lt other q was = ⊎_elim
         omega (arith, waiting_lacks s w u e, waiting_lacks s v u before.1, lacks_same s.table v w u books)
 
 -- so no more is lacking after a step without a grant
-no_more_lacking : (U : Type 0) (s : Setting) (acts : List Action) (a : Action) → IsStep U NoGrant s acts a → IsSteady s.table (so_far s acts) → lacking s (so_far s acts ++ a ∷ []) ≤ lacking s (so_far s acts)
+pub no_more_lacking : (U : Type 0) (s : Setting) (acts : List Action) (a : Action) → IsStep U NoGrant s acts a → IsSteady s.table (so_far s acts) → lacking s (so_far s acts ++ a ∷ []) ≤ lacking s (so_far s acts)
 no_more_lacking U s acts a q was = lacking_most s (so_far s acts) (so_far s acts ++ a ∷ []) (λ u lt. lack_step U NoGrant s u acts a lt (λ now w none same. none) q was)
 
 -- a grant is to a short task
