@@ -1,6 +1,6 @@
 -- A core that is owed to a short task that waits comes to it.
 use Rattle.std.proofs.Common.{◌≡◌, ℕ, ◌<◌, ◌⊎◌, Bool, true, false, not, ◌&&◌, ◌||◌, cond, eqb, ltb, List, [], ◌∷◌, ◌++◌, length, Option, Some, None, refl, ap, sym, ◌∙◌, arith, inl, inr, ⊎_elim}
-use Rattle.std.proofs.lemmas.Bool.{cases_eq, and_parts, and_from, and_right, or_right, ne_eqb, ltb-true, lt-ltb}
+use Rattle.std.proofs.lemmas.Bool.{cases_eq, and_parts, and_from, and_right, ne_eqb, ltb-true, lt-ltb}
 use Rattle.std.specs.Option.{is_some}
 use Rattle.cal_machine.specs.TableTasks.{thread_of, limit_of}
 use Rattle.cal_machine.proofs.Booleans.{unwrap_if}
@@ -69,9 +69,9 @@ kept_from_other s x t u waiting other =
     and_from (not (eqb t u)) (waits s x t) (ap not (ne_eqb t u (λ same. other (sym same)))) (waits_parts s x t waiting).1
 
 kept_by_case : (s : Setting) (x : List Action) (u o : ℕ) (b : Bool) → (is_kept_for_short s x u o (owed_to x o) ≡ true) → (is_kept_for s x u (owed_to x o) ≡ true) →
-    cond b (is_kept_for_short s x u o (owed_to x o)) (are_lacked s x || is_kept_for s x u (owed_to x o)) ≡ true
+    cond b (is_kept_for_short s x u o (owed_to x o)) (is_kept_for s x u (owed_to x o)) ≡ true
 kept_by_case s x u o true e f = e
-kept_by_case s x u o false e f = or_right (are_lacked s x) (is_kept_for s x u (owed_to x o)) f
+kept_by_case s x u o false e f = f
 
 not_for_others : (s : Setting) (x : List Action) (t o u : ℕ) → IsLowestOwed x t o → waits_short s x t ≡ true → (u ≡ t → ⊥) → may_take s x u o ≡ false
 not_for_others s x t o u i waiting other =
