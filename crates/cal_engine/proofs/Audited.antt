@@ -1,15 +1,9 @@
 -- The audit of a history whose passes are given one by one.
-use Rattle.std.proofs.Common.{◌≡◌, ℕ, List, Result, Ok, Err, sym, subst}
-use Rattle.cal_machine.specs.Table.{Table}
-use Rattle.cal_policy.specs.Policies.{IsAuditBy, IsVerdictBy}
-use Rattle.cal_policy.specs.declared.history.entry.PassEntry.{PassEntry}
-use Rattle.cal_policy.specs.declared.policy.Policy.{Policy}
+use Rattle.cal_engine.proofs.Common.{◌≡◌, ℕ, List, Result, Ok, Err, sym, subst, Table, IsAuditBy, IsVerdictBy, PassEntry, Policy, extent_of, recorded_on, audit_text}
 use Rattle.cal_policy.specs.declared.verdict.Verdict.{Verdict}
-use Rattle.cal_trace.specs.History.Reading.{extent_of, HasGiven}
+use Rattle.cal_trace.specs.History.Reading.{HasGiven}
 use Rattle.cal_trace.specs.declared.fault.TraceFault.{TraceFault}
 use Rattle.cal_trace.specs.declared.history.file.HistoryRows.{HistoryRows}
-use Rattle.cal_input.specs.Recorded.{recorded_on}
-use Rattle.cal_engine.specs.Outcome.{audit_text}
 use Rattle.cal_engine.specs.Auditing.{HasTaken, HasTakenRun, IsAnswerTo}
 use Rattle.cal_engine.specs.declared.jobs.auditing.OpenAudit.{OpenAudit}
 

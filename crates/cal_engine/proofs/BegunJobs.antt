@@ -1,6 +1,5 @@
 -- What was written of a job where memory was refused in its midst.
-use Rattle.std.proofs.Common.{◌≡◌, ◌⊎◌, inl}
-use Rattle.cal_input.specs.declared.fault.RunFault.{RunFault}
+use Rattle.cal_engine.proofs.Common.{◌≡◌, ◌⊎◌, inl, RunFault}
 use Rattle.cal_input.specs.declared.fault.RunFault.TheVariants as fault
 
 -- of a job that writes at its end alone nothing was

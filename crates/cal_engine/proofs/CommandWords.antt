@@ -1,22 +1,16 @@
 -- The command of the program, and what it makes of the words that ask for a job.
-use Rattle.std.proofs.Common.{◌≡◌, Bool, List, codes, true, false, cond, Option, Some, None, inl, inr, refl, sym, ap, ap₂, ◌∙◌}
-use Rattle.std.specs.Prelude.{map, bytes_eq, Contains, get_or, option_map, option_and_then, unwrap_or, Decides}
-use Rattle.std.proofs.lemmas.List.{get_or-map}
+use Rattle.cal_engine.proofs.Common.{◌≡◌, Bool, List, codes, true, false, cond, Option, Some, None, inl, inr, refl, sym, ap, ap₂, ◌∙◌, map, option_map, bytes_eq, Contains, get_or, unwrap_or, Decides, get_or-map, is_simple, subcommand_of, subcommand_rows_of, Row, Text, first_of, one_of, Policy, Caladan, Assured, answer_of, asking, AsksBy, Explains, FlagSays, FlagsAsk, job_of, Names, policy_asked, policy_of, program, with_among, RunAnswer}
+use Rattle.std.specs.Prelude.{option_and_then}
 use Rattle.std.proofs.lemmas.Slice.Eq.{bytes_eq-Decides}
 use Rattle.clap.specs.Matches.{first_value, found_of, one_text, subcommand_name_of}
-use Rattle.clap.specs.Simple.{is_simple, subcommand_of, subcommand_rows_of}
 use Rattle.clap.specs.Takes.{takes}
-use Rattle.clap.specs.Walk.{Row, Text, first_of, one_of, rows_of}
+use Rattle.clap.specs.Walk.{rows_of}
 use Rattle.clap.specs.declared.parser.matches.ArgMatches.{ArgMatches}
 use Rattle.clap.specs.declared.parser.matches.ArgMatches.TheViews.{out-ArgMatches}
 use Rattle.clap.proofs.OnLiterals.{clap_on_literals}
 use Rattle.clap.proofs.WalkLemmas.{first_value-rows, one_text-rows}
-use Rattle.cal_policy.specs.declared.policy.Policy.{Policy}
-use Rattle.cal_policy.specs.declared.policy.Policy.TheVariants.{Caladan, Assured}
-use Rattle.cal_engine.specs.CommandWords.{answer_of, asking, AsksBy, Explains, FlagSays, FlagsAsk, job_of, Names, policy_asked, policy_of, program, with_among}
 use Rattle.cal_engine.specs.declared.command_words.command_line.Job.{Job}
 use Rattle.cal_engine.specs.declared.command_words.command_line.Job.TheVariants as job
-use Rattle.cal_engine.specs.declared.jobs.running.RunAnswer.{RunAnswer}
 
 pub program_is_simple : is_simple program ≡ true
 unfolding clap_on_literals

@@ -1,29 +1,22 @@
 -- A pass that is decided on signals that fit is a legal one.
-use Rattle.std.proofs.Common.{◌≡◌, ◌<◌, ◌≤◌, ◌+◌, nat_lt, ℕ, Bool, true, false, List, [], ◌∷◌, ◌++◌, length, Option, Some, None, slice_get, if◌then◌else◌, option_map, refl, sym, ap, subst, ◌∙◌, arith}
-use Rattle.std.proofs.lemmas.List.{map-append, length-map}
+use Rattle.cal_engine.proofs.Common.{◌≡◌, ◌<◌, ◌≤◌, ◌+◌, nat_lt, ℕ, Bool, true, false, List, [], ◌∷◌, ◌++◌, length, Option, Some, None, slice_get, if◌then◌else◌, option_map, refl, sym, ap, subst, ◌∙◌, arith, map-append, length-map, enumerate_from, Table, PassEntry, judged, is_foreign, IsFitLook, IsInput, Policy, pass_by, IsLegalBy, IsPassBy, legal_more_by, legal_none_by, pass_from, input_of, decided_pass, decided_after}
 use Rattle.std.proofs.lemmas.List.FromFn.{length-enumerate_from, get_or-enumerate_from}
 use Rattle.std.proofs.lemmas.Option.{slice_get_past, slice_get-get_or, slice_get-map}
 use Rattle.std.specs.Option.{unwrap_or, option_and_then}
-use Rattle.std.specs.List.{enumerate_from}
 use Rattle.cal_signal.specs.declared.record.Record.{Record}
 use Rattle.cal_signal.specs.declared.look.Look.{Look}
 use Rattle.cal_signal.specs.declared.look.Look.TheVariants.{Whole, Busy}
 use Rattle.cal_signal.specs.declared.shown.Shown.{Shown}
 use Rattle.cal_machine.proofs.Last.{some_same}
-use Rattle.cal_machine.specs.Table.{Table}
 use Rattle.cal_policy.specs.declared.history.look.Seen.{Seen}
 use Rattle.cal_policy.specs.declared.history.look.Seen.TheVariants as seen
 use Rattle.cal_policy.specs.declared.history.action.Action.{Action}
-use Rattle.cal_policy.specs.declared.history.entry.PassEntry.{PassEntry}
 use Rattle.cal_machine.specs.TableTasks.{threads_of_table}
 use Rattle.cal_policy.specs.History.{actions_of, looks_of, sent_to}
 use Rattle.cal_policy.specs.History.Looks.{last_shown, look_of, shown_at, shown_by}
-use Rattle.cal_policy.specs.Judgement.Judging.{judged, is_foreign, IsFitLook, IsInput}
 use Rattle.cal_policy.specs.declared.history.input.Input.{Input}
 use Rattle.cal_policy.proofs.HistoryLemmas.OneMore.{shown_push}
 use Rattle.cal_policy.proofs.JudgementLemmas.Judged.{look_of-judged}
-use Rattle.cal_policy.specs.declared.policy.Policy.{Policy}
-use Rattle.cal_policy.specs.Policies.{pass_by, IsLegalBy, IsPassBy}
 use Rattle.cal_policy.specs.Setting.{setting}
 use Rattle.cal_trace.proofs.SignalLemmas.LastShown.{shown-push}
 use Rattle.cal_trace.specs.Signals as signals
@@ -31,8 +24,6 @@ use Rattle.cal_trace.specs.Signals.Fitting.{IsFitting, IsFittingPass}
 use Rattle.cal_policy.specs.declared.judgement.open_input.FoundLook.{FoundLook}
 use Rattle.cal_trace.specs.declared.signals.SignalPass.{SignalPass}
 use Rattle.cal_policy.specs.Judgement.OpenInput.{judged_looks}
-use Rattle.cal_policy.proofs.PolicyLemmas.{legal_more_by, legal_none_by, pass_from}
-use Rattle.cal_engine.specs.Deciding.{input_of, decided_pass, decided_after}
 
 -- one decided pass more
 pub decided_after-append : (policy : Policy) (table : Table) (history : List PassEntry) (passes : List SignalPass) (pass : SignalPass)

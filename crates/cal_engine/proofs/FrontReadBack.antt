@@ -1,15 +1,9 @@
 -- What stands before a history, and the history, are parts of an input again.
-use Rattle.std.proofs.Common.{◌≡◌, ◌==◌, ◌++◌, ℕ, Bool, true, false, List, [], ◌∷◌, Option, Some, None, option_map, codes, refl, sym, ap, cond, ◌∙◌, append_assoc, arith}
-use Rattle.std.specs.Prelude.{Result, Ok, Err}
-use Rattle.std.specs.List.{concat}
-use Rattle.cal_machine.specs.Table.{Table}
+use Rattle.cal_engine.proofs.Common.{◌≡◌, ◌==◌, ◌++◌, ℕ, Bool, true, false, List, [], ◌∷◌, Option, Some, None, option_map, codes, refl, sym, ap, cond, ◌∙◌, append_assoc, arith, Result, Ok, Err, concat, Table, Parts, parts_of, with_table, RunFault, table_text}
 use Rattle.cal_machine.specs.Reading.{table_in}
 use Rattle.cal_machine.specs.declared.fault.ConfigFault.{ConfigFault}
 use Rattle.cal_input.specs.Input.{before_line, lines_of, is_separator, parts_at, input_parts}
-use Rattle.cal_input.specs.Parts.{Parts, parts_of, with_table}
-use Rattle.cal_input.specs.declared.fault.RunFault.{RunFault}
 use Rattle.cal_input.proofs.LinesOf.{IsPlain, concat-lines_of, lines_of-first}
-use Rattle.cal_engine.specs.Front.{table_text}
 
 -- bytes without a line feed, and one that ends them
 abbrev IsEnded : List ℕ → Type 0

@@ -1,20 +1,11 @@
 -- Signals that are decided as they are read.
-use Rattle.std.proofs.Common.{◌≡◌, ℕ, List, length, Result, Ok, Err, refl, sym, ap, subst}
-use Rattle.cal_machine.specs.Table.{Table}
-use Rattle.cal_machine.specs.Tasks.{threads_in}
-use Rattle.cal_policy.specs.Policies.{IsLegalBy}
-use Rattle.cal_policy.specs.declared.history.entry.PassEntry.{PassEntry}
-use Rattle.cal_policy.specs.declared.policy.Policy.{Policy}
+use Rattle.cal_engine.proofs.Common.{◌≡◌, ℕ, List, length, Result, Ok, Err, refl, sym, ap, subst, Table, threads_in, IsLegalBy, PassEntry, Policy, HasGiven, Run, RunFault, decided_on, HasDecided, HasDecidedIn, HasDecidedRun}
 use Rattle.cal_trace.specs.Rows.Answers as files
-use Rattle.cal_trace.specs.Signals.Reading.{HasGiven}
 use Rattle.cal_trace.specs.declared.fault.TraceFault.{TraceFault}
 use Rattle.cal_trace.specs.declared.signals.file.SignalRows.{SignalRows}
 use Rattle.cal_trace.specs.declared.signals.SignalPass.{SignalPass}
 use Rattle.cal_trace.proofs.RowLemmas.Refusals.{decided}
-use Rattle.cal_input.specs.Recorded.{Run}
-use Rattle.cal_input.specs.declared.fault.RunFault.{RunFault}
 use Rattle.cal_input.specs.declared.fault.RunFault.TheVariants as fault
-use Rattle.cal_engine.specs.Deciding.{decided_on, HasDecided, HasDecidedIn, HasDecidedRun}
 use Rattle.cal_engine.specs.declared.jobs.deciding.decider.Decider.{Decider}
 use Rattle.cal_engine.proofs.Decided.{IsDecided}
 

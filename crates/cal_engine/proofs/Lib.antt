@@ -1,3 +1,4 @@
+mod Common
 pub mod FrontReadBack
 pub mod Decided
 pub mod InTurn

@@ -1,15 +1,8 @@
 -- What is written of a run that was decided.
-use Rattle.std.specs.Io.KnownBytes.{Appends}
-use Rattle.std.proofs.Common.{◌≡◌, ℕ, List, Option, Result, Ok, Err, IsOk, IfOk, IfErr, OnOk, refl, sym, ap, subst}
-use Rattle.cal_machine.specs.Table.{Table}
-use Rattle.cal_policy.specs.declared.history.entry.PassEntry.{PassEntry}
+use Rattle.cal_engine.proofs.Common.{Appends, ◌≡◌, ℕ, List, Option, Result, Ok, Err, IsOk, IfOk, IfErr, OnOk, refl, sym, ap, subst, Table, PassEntry, Run, RunFault, HasDecidedIn, HasDecidedRun, run_report, report_of, text_of, Reported, Reports}
 use Rattle.cal_input.specs.Answers.{Decided, Failed, IsWhatInputSays}
-use Rattle.cal_input.specs.Recorded.{Run}
-use Rattle.cal_input.specs.declared.fault.RunFault.{RunFault}
 use Rattle.cal_input.specs.declared.fault.RunFault.TheVariants as fault
 use Rattle.cal_input.proofs.Refusals.{run_decided}
-use Rattle.cal_engine.specs.Deciding.{HasDecidedIn, HasDecidedRun}
-use Rattle.cal_engine.specs.Outcome.{run_report, report_of, text_of, Reported, Reports}
 use Rattle.cal_engine.specs.declared.jobs.deciding.decider.Decider.{Decider}
 
 -- a fault of the text is the run's

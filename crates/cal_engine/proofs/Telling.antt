@@ -1,16 +1,8 @@
 -- A history that is written pass by pass.
-use Rattle.std.proofs.Common.{◌≡◌, ℕ, List, [], ◌∷◌, ◌++◌, Option, Result, Ok, Err, IfOk, IfErr, true, append_assoc, length, sym, ap, subst, ◌∙◌}
+use Rattle.cal_engine.proofs.Common.{◌≡◌, ℕ, List, [], ◌∷◌, ◌++◌, Option, Result, Ok, Err, IfOk, IfErr, true, append_assoc, length, sym, ap, subst, ◌∙◌, false≢true, Appends, flat_map, append-nil, PassEntry, begun_text, end_fields, entry_rows, header_row, history_text, lines_of, line_of, begun_ends}
 use Rattle.std.specs.Result.{is_ok}
-use Rattle.std.proofs.lemmas.Bool.{false≢true}
-use Rattle.std.specs.Io.KnownBytes.{Appends}
-use Rattle.std.specs.List.{flat_map}
 use Rattle.std.proofs.KnownBytes.{Appends-trans}
 use Rattle.std.proofs.lemmas.Grind.{flat_map-append}
-use Rattle.std.proofs.lemmas.List.{append-nil}
-use Rattle.cal_policy.specs.declared.history.entry.PassEntry.{PassEntry}
-use Rattle.cal_trace.specs.History.Text.{begun_text, end_fields, entry_rows, header_row, history_text, lines_of}
-use Rattle.cal_trace.specs.Rows.Text.{line_of}
-use Rattle.cal_trace.proofs.HistoryLemmas.Lines.{begun_ends}
 
 -- the rows of some passes, and then those of the next one
 pub told_more : (a b c : Option (List ℕ)) (before after : List PassEntry) (entry : PassEntry) → after ≡ before ++ entry ∷ []

@@ -1,15 +1,7 @@
 -- The text of a run that was written.
-use Rattle.std.proofs.Common.{ℕ, List, Option, Result, Ok, Err, IsOk, IfErr, OnOk, ◌≡◌, ◌⊎◌, inl, inr, true, ◌++◌, refl, sym, subst}
-use Rattle.std.proofs.lemmas.Bool.{false≢true}
-use Rattle.std.specs.Io.KnownBytes.{Appends}
-use Rattle.cal_policy.specs.declared.policy.Policy.{Policy}
+use Rattle.cal_engine.proofs.Common.{ℕ, List, Option, Result, Ok, Err, IsOk, IfErr, OnOk, ◌≡◌, ◌⊎◌, inl, inr, true, ◌++◌, refl, sym, subst, false≢true, Appends, Policy, RunInput, RunFault, front_of, is_told, run_front, FailedInThreads, Runs, RunsInThreads, Tells, TellsRun, WritesRun, RunAnswer}
 use Rattle.cal_input.specs.Answers.{Failed}
-use Rattle.cal_input.specs.Parts.{RunInput}
-use Rattle.cal_input.specs.declared.fault.RunFault.{RunFault}
 use Rattle.cal_input.specs.declared.fault.RunFault.TheVariants as fault
-use Rattle.cal_engine.specs.Front.{front_of}
-use Rattle.cal_engine.specs.Running.{is_told, run_front, FailedInThreads, Runs, RunsInThreads, Tells, TellsRun, WritesRun}
-use Rattle.cal_engine.specs.declared.jobs.running.RunAnswer.{RunAnswer}
 use Rattle.cal_engine.specs.declared.jobs.running.RunAnswer.TheVariants.{History, WithTable, Summary, Report}
 
 written_run : (policy : Policy) (answer : RunAnswer) (given : List ℕ) (input : Result RunInput RunFault) (old new : Option (List ℕ)) (text : List ℕ) → TellsRun policy answer input text

@@ -1,19 +1,13 @@
 -- The passes of an input, counted as they are given.
-use Rattle.std.proofs.Common.{◌≡◌, ◌∙◌, ◌<◌, ◌^◌, ◌+◌, ℕ, List, length, Result, Ok, Err, sym, ap}
-use Rattle.std.proofs.Common.{arith}
-use Rattle.cal_machine.specs.Table.{Table}
-use Rattle.cal_policy.specs.declared.history.entry.PassEntry.{PassEntry}
+use Rattle.cal_facts.proofs.Common.{◌≡◌, ◌∙◌, ◌<◌, ◌^◌, ◌+◌, ℕ, List, length, Result, Ok, Err, sym, ap, arith, Table, PassEntry, extent_of, parts_of, RunFault}
 use Rattle.cal_trace.specs.History.{history_of}
-use Rattle.cal_trace.specs.History.Reading.{extent_of}
 use Rattle.cal_trace.specs.Rows.{rows_of}
 use Rattle.cal_trace.specs.Rows.Answers as files
 use Rattle.cal_trace.specs.declared.fault.TraceFault.{TraceFault}
 use Rattle.cal_trace.specs.declared.history.file.HistoryRows.{HistoryRows}
 use Rattle.cal_trace.proofs.HistoryLemmas.GivenPasses.{few_given}
 use Rattle.cal_input.specs.Answers.{Decided}
-use Rattle.cal_input.specs.Parts.{parts_of}
 use Rattle.cal_input.specs.Recorded.{recorded_in, recorded_on, recorded_run, recorded_run_of, HasGivenOf, Run}
-use Rattle.cal_input.specs.declared.fault.RunFault.{RunFault}
 use Rattle.cal_input.specs.declared.fault.RunFault.TheVariants as fault
 use Rattle.cal_input.proofs.Refusals.{refused_history, run_decided}
 use Rattle.cal_facts.specs.Counting.{passes_in}

@@ -1,3 +1,4 @@
+mod Common
 pub mod Counted
 pub mod LineLemmas
 pub mod MoveLemmas

@@ -1,9 +1,5 @@
 -- Rows written one after the other.
-use Rattle.std.proofs.Common.{◌<◌, ◌+◌, ◌∙◌, ℕ, List, Option, length, take, get_or, sym, ap, subst}
-use Rattle.std.proofs.KnownBytes.{Appends-trans}
-use Rattle.std.proofs.lemmas.List.{take_more}
-use Rattle.std.specs.Io.KnownBytes.{Appends}
-use Rattle.std.specs.List.{flat_map}
+use Rattle.cal_facts.proofs.Common.{◌<◌, ◌+◌, ◌∙◌, ℕ, List, Option, length, take, get_or, sym, ap, subst, Appends-trans, take_more, Appends, flat_map}
 use Rattle.cal_trace.proofs.ListLemmas.Numbered.{flat_map-one}
 
 pub one_more_line : {X : Type 0} → (f : X → List ℕ) (a b c : Option (List ℕ)) (xs : List X) (i : ℕ) (d : X) → i < length xs

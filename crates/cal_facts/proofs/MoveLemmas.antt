@@ -1,10 +1,6 @@
 -- The actions of one pass more.
-use Rattle.std.proofs.Common.{◌≡◌, ◌<◌, ◌+◌, ◌∙◌, ℕ, List, [], ◌∷◌, ◌++◌, length, map, take, sym, ap, arith, add-zero, append_assoc}
-use Rattle.std.proofs.lemmas.List.{append-nil, length-map, length-take}
-use Rattle.cal_measure.specs.Spans.{made_in, moves_from, moves_of}
-use Rattle.cal_policy.specs.declared.history.entry.PassEntry.{PassEntry}
+use Rattle.cal_facts.proofs.Common.{◌≡◌, ◌<◌, ◌+◌, ◌∙◌, ℕ, List, [], ◌∷◌, ◌++◌, length, map, take, sym, ap, arith, add-zero, append_assoc, append-nil, length-map, length-take, made_in, moves_from, moves_of, PassEntry, GivenPass}
 use Rattle.cal_run.specs.Outcome.{figures_of}
-use Rattle.cal_trace.specs.declared.arrivals.GivenPass.{GivenPass}
 
 moves_end : (p : ℕ) (h : List PassEntry) (e : PassEntry) → moves_from p (h ++ e ∷ []) ≡ moves_from p h ++ map (made_in (p + length h)) e.actions
 moves_end p [] e = rw (add-zero p) (append-nil (map (made_in p) e.actions))

@@ -1,16 +1,11 @@
 -- What a pass found of a task and left it with.
-use Rattle.std.proofs.Common.{◌≡◌, ◌∙◌, ◌++◌, ◌∷◌, [], ℕ, List, Option, length, nat_lt, ap}
-use Rattle.std.proofs.lemmas.List.{map-append}
-use Rattle.cal_machine.specs.Table.{Table}
+use Rattle.cal_facts.proofs.Common.{◌≡◌, ◌∙◌, ◌++◌, ◌∷◌, [], ℕ, List, Option, length, nat_lt, ap, map-append, Table, actions_of, looks_of, PassEntry, cap_if_any, point_of}
 use Rattle.cal_machine.specs.TableTasks.{delay_of, limit_of}
 use Rattle.cal_measure.specs.States.{delay_after}
 use Rattle.cal_policy.specs.Board.Counts.{booked_by, held_by}
-use Rattle.cal_policy.specs.History.{actions_of, looks_of}
 use Rattle.cal_policy.specs.Pass.Grants.{task_delay}
 use Rattle.cal_policy.specs.Setting.{setting_of}
-use Rattle.cal_policy.specs.declared.history.entry.PassEntry.{PassEntry}
 use Rattle.cal_policy.specs.declared.history.look.Seen.{Seen}
-use Rattle.cal_facts.specs.Series.{cap_if_any, point_of}
 
 -- the delay by the looks of a pass too
 pub delay_found : (table : Table) (before : List PassEntry) (entry : PassEntry) (clock t delay : ℕ) → clock ≡ entry.input.now

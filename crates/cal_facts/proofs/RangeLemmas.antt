@@ -1,13 +1,8 @@
 -- What a history that a file can hold names, the table has.
-use Rattle.std.proofs.Common.{List, get_or, arith}
-use Rattle.std.specs.List.{All}
-use Rattle.std.proofs.lemmas.Option.{slice_get-get_or}
-use Rattle.cal_machine.specs.Table.{Table, IsTable}
+use Rattle.cal_facts.proofs.Common.{List, get_or, arith, All, slice_get-get_or, Table, IsTable, Action, extent_of}
 use Rattle.cal_policy.specs.Board.{NamesTable}
-use Rattle.cal_policy.specs.declared.history.action.Action.{Action}
 use Rattle.cal_policy.specs.declared.history.action.Action.TheVariants.{Free, Unban, Ban, Revoke, Cap, Grant}
 use Rattle.cal_trace.specs.History.Ranges.{Each, IsActionInRange}
-use Rattle.cal_trace.specs.History.Reading.{extent_of}
 
 names_in_range : (table : Table) (action : Action) → IsTable table → IsActionInRange (extent_of table) action → NamesTable table action
 names_in_range table (Free core) ok h = h

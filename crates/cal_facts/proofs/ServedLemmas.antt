@@ -1,11 +1,6 @@
 -- What threads served, thread by thread.
-use Rattle.std.proofs.Common.{◌≡◌, ◌<◌, ◌+◌, ◌∙◌, ℕ, List, [], ◌∷◌, ◌++◌, length, map, take, get_or, refl, sym, ap, arith, add-zero, append_assoc}
-use Rattle.std.proofs.lemmas.List.{append-nil, length-take, take_more}
+use Rattle.cal_facts.proofs.Common.{◌≡◌, ◌<◌, ◌+◌, ◌∙◌, ℕ, List, [], ◌∷◌, ◌++◌, length, map, take, get_or, refl, sym, ap, arith, add-zero, append_assoc, append-nil, length-take, take_more, AreTotalsOfEach, ThreadTotals, served_by, served_from, Served}
 use Rattle.cal_kthread.specs.declared.journal.entry.Entry.{Entry}
-use Rattle.cal_measure.specs.ThreadWork.{AreTotalsOfEach}
-use Rattle.cal_measure.specs.declared.thread_work.totals.ThreadTotals.{ThreadTotals}
-use Rattle.cal_facts.specs.Served.{served_by, served_from}
-use Rattle.cal_facts.specs.declared.requests.served.Served.{Served}
 
 -- what these threads served, of which the first has this number
 abbrev pub totals_from : ℕ → List ThreadTotals → List Served

@@ -1,32 +1,17 @@
 -- What was written of what is asked for.
-use Rattle.std.proofs.Common.{◌≡◌, ◌∙◌, ℕ, List, Option, Result, Ok, Err, refl, ap}
+use Rattle.cal_facts.proofs.Common.{◌≡◌, ◌∙◌, ℕ, List, Option, Result, Ok, Err, refl, ap, RunInput, RunFault, Table, run_end, spans_of, PassEntry, Subject, asked_run, of_history, of_run, may_go, AreClocksTold, text_of_requests, AreServed, served_from, IsSeriesOfRun, series_of, series_text, text_of_series, AreSpanFacts, IsRunOfSpans, spans_text, text_of_facts, text_of_spans, IsAskedRequests, IsAskedRun, IsAskedText, IsRunText, came_told, Served, Point}
 use Rattle.cal_came.specs.declared.came.Came.{Came}
-use Rattle.cal_input.specs.Parts.{RunInput}
-use Rattle.cal_input.specs.declared.fault.RunFault.{RunFault}
-use Rattle.cal_machine.specs.Table.{Table}
-use Rattle.cal_measure.specs.Clocks.{run_end}
-use Rattle.cal_measure.specs.Spans.{spans_of}
 use Rattle.cal_measure.specs.declared.spans.bans.BanSpan.{BanSpan}
 use Rattle.cal_measure.specs.declared.spans.span.Span.{Span}
 use Rattle.cal_paced.specs.declared.plan.Plan.{Plan}
-use Rattle.cal_policy.specs.declared.history.entry.PassEntry.{PassEntry}
 use Rattle.cal_policy.specs.declared.policy.Policy.{Policy}
 use Rattle.cal_policy.specs.declared.verdict.Verdict.TheVariants.{Legal}
-use Rattle.cal_tables.specs.Asked.{Subject, asked_run, of_history, of_run}
 use Rattle.cal_tables.specs.Measuring.{IsVerdictFor}
 use Rattle.cal_tables.specs.Planned.{MayRunBy}
 use Rattle.cal_tables.specs.declared.measuring.MeasuredInput.{MeasuredInput}
-use Rattle.cal_tables.proofs.Planning.{may_go}
 use Rattle.cal_trace.specs.declared.arrivals.Arrivals.{Arrivals}
 use Rattle.cal_facts.specs.Cells.{clocks_of}
-use Rattle.cal_facts.specs.RequestRows.{AreClocksTold, text_of_requests}
-use Rattle.cal_facts.specs.Served.{AreServed, served_from}
-use Rattle.cal_facts.specs.Series.{IsSeriesOfRun, series_of, series_text, text_of_series}
-use Rattle.cal_facts.specs.Stretches.{AreSpanFacts, IsRunOfSpans, spans_text, text_of_facts, text_of_spans}
-use Rattle.cal_facts.specs.Telling.{IsAskedRequests, IsAskedRun, IsAskedText, IsRunText, came_told}
-use Rattle.cal_facts.specs.declared.requests.served.Served.{Served}
 use Rattle.cal_facts.specs.declared.requests.writing.RunRequests.{RunRequests}
-use Rattle.cal_facts.specs.declared.series.point.Point.{Point}
 use Rattle.cal_facts.specs.declared.spans.facts.SpanFacts.{SpanFacts}
 
 -- where there is a text of what is asked for, there is a run or a history

@@ -1,29 +1,8 @@
 -- While no task holds more than it is guaranteed, no core is revoked; and so it stays where only short
 -- tasks are granted cores.
-use Rattle.std.proofs.Common.{◌≡◌, ℕ, ◌<◌, ◌≤◌, ◌⊎◌, Bool, true, false, cond, eqb, List, [], ◌∷◌, ◌++◌, length, Option, Some, None, refl, ap, sym, ◌∙◌, arith, inl, inr}
-use Rattle.std.proofs.lemmas.Bool.{cases_eq, ne_eqb}
-use Rattle.cal_machine.specs.Table.{Table, IsTable}
-use Rattle.cal_machine.specs.TableTasks.{owner_of, guaranteed_of}
-use Rattle.cal_machine.proofs.ThreadNumbers.{task_in}
-use Rattle.cal_policy.specs.declared.history.action.Action.{Action}
-use Rattle.cal_policy.specs.declared.history.action.Action.TheVariants.{Free, Unban, Ban, Revoke, Cap, Grant}
-use Rattle.cal_policy.specs.declared.history.core_class.CoreClass.{CoreClass}
-use Rattle.cal_policy.specs.declared.pass.choice.Candidate.{Candidate}
+use Rattle.cal_guarantee.proofs.Common.{◌≡◌, ℕ, ◌<◌, ◌≤◌, ◌⊎◌, Bool, true, false, cond, eqb, List, [], ◌∷◌, ◌++◌, length, Option, Some, None, refl, ap, sym, ◌∙◌, arith, inl, inr, cases_eq, ne_eqb, Table, IsTable, owner_of, guaranteed_of, task_in, Action, Free, Unban, Ban, Revoke, Cap, Grant, CoreClass, Candidate, Holder, actions_of, holder_of, placed, placement_of, is_free, is_held_for, held_by, Setting, so_far, frees, EachAfter, IsSteady, count_le, held_le_booked, is_leaving, is_short, held_choice}
 use Rattle.cal_policy.specs.declared.board.holders.Placement as placements
-use Rattle.cal_policy.specs.declared.board.holders.Holder.{Holder}
 use Rattle.cal_policy.specs.declared.board.holders.Holder.TheVariants as holders
-use Rattle.cal_policy.specs.History.{actions_of, holder_of, placed}
-use Rattle.cal_policy.specs.Board.{placement_of}
-use Rattle.cal_policy.specs.Board.Counts.{is_free, is_held_for, held_by}
-use Rattle.cal_policy.specs.Setting.{Setting, so_far}
-use Rattle.cal_policy.specs.Pass.Frees.{frees}
-use Rattle.cal_policy.specs.Pass.Made.{EachAfter}
-use Rattle.cal_policy.specs.Pass.Steady.{IsSteady}
-use Rattle.cal_policy.proofs.ListLemmas.Counted.{count_le}
-use Rattle.cal_policy.proofs.PassLemmas.Fits.{held_le_booked}
-use Rattle.cal_assured.specs.Guarantee.{is_leaving}
-use Rattle.cal_policy.specs.Assured.Short.{is_short}
-use Rattle.cal_policy.specs.Assured.Taking.{held_choice}
 use Rattle.cal_guarantee.proofs.Holders.{Stays, moved_same, stays_same, moves_grant, stays_unban, stays_ban, stays_cap}
 use Rattle.cal_guarantee.proofs.Steps.{IsStep, IsRevokeStep, IsGrantStep, held_lost}
 use Rattle.cal_guarantee.proofs.Counts.{short_parts}

@@ -1,31 +1,8 @@
 -- A core that is being left for a task stays so to the end of the pass; and a pass that grants a short
 -- task none leaves it one that is coming, or there was nothing to take.
-use Rattle.std.proofs.Common.{◌≡◌, ℕ, ◌+◌, ◌<◌, ◌≤◌, ◌⊎◌, Bool, true, false, ◌&&◌, cond, ltb, List, [], ◌∷◌, ◌++◌, length, Option, Some, None, refl, ap, sym, ◌∙◌, subst, arith, inl, inr, ⊎_elim}
-use Rattle.std.proofs.lemmas.Bool.{cases_lt, and_parts, and_from, eq-eqb, ltb-true, lt-ltb}
-use Rattle.std.specs.Option.{is_some, option_or}
-use Rattle.cal_machine.specs.Table.{Table, IsTable}
-use Rattle.cal_machine.specs.TableTasks.{thread_of, is_latency_critical}
-use Rattle.cal_policy.specs.declared.history.action.Action.{Action}
-use Rattle.cal_policy.specs.declared.history.action.Action.TheVariants.{Free, Unban, Ban, Revoke, Cap, Grant}
+use Rattle.cal_guarantee.proofs.Common.{◌≡◌, ℕ, ◌+◌, ◌<◌, ◌≤◌, ◌⊎◌, Bool, true, false, ◌&&◌, cond, ltb, List, [], ◌∷◌, ◌++◌, length, Option, Some, None, refl, ap, sym, ◌∙◌, subst, arith, inl, inr, ⊎_elim, cases_lt, and_parts, and_from, eq-eqb, ltb-true, lt-ltb, is_some, option_or, Table, IsTable, thread_of, is_latency_critical, Action, Free, Unban, Ban, Revoke, Cap, Grant, CoreClass, Candidate, Holder, actions_of, holder_of, class_number, is_idle, is_free, Setting, so_far, leaves_for, thread_choice, grant_of, may_book, EachAfter, IsSteady, holder_push, so_far_more, pressing, coming, is_short, surplus, waits, waits_short, open_choice, held_choice, may_preempt, choice_for, grant_at, bounded_of, pass_of}
 use Rattle.cal_policy.specs.declared.history.action.Cause.TheVariants as causes
-use Rattle.cal_policy.specs.declared.history.core_class.CoreClass.{CoreClass}
-use Rattle.cal_policy.specs.declared.pass.choice.Candidate.{Candidate}
-use Rattle.cal_policy.specs.declared.board.holders.Holder.{Holder}
 use Rattle.cal_policy.specs.declared.board.holders.Holder.TheVariants as holders
-use Rattle.cal_policy.specs.History.{actions_of, holder_of}
-use Rattle.cal_policy.specs.History.CoreClasses.{class_number, is_idle}
-use Rattle.cal_policy.specs.Board.Counts.{is_free}
-use Rattle.cal_policy.specs.Setting.{Setting, so_far}
-use Rattle.cal_policy.specs.Pass.Grants.{leaves_for, thread_choice, grant_of, may_book}
-use Rattle.cal_policy.specs.Pass.Made.{EachAfter}
-use Rattle.cal_policy.specs.Pass.Steady.{IsSteady}
-use Rattle.cal_policy.proofs.HistoryLemmas.OneMore.{holder_push}
-use Rattle.cal_policy.proofs.PassLemmas.Pairs.{so_far_more}
-use Rattle.cal_policy.specs.Assured.InFlight.{pressing, coming}
-use Rattle.cal_policy.specs.Assured.Short.{is_short, surplus, waits, waits_short}
-use Rattle.cal_policy.specs.Assured.Taking.{open_choice, held_choice, may_preempt, choice_for}
-use Rattle.cal_policy.specs.Assured.Grants.{grant_at}
-use Rattle.cal_policy.specs.Assured.Pass.{bounded_of, pass_of}
 use Rattle.cal_guarantee.proofs.Sums.{some_counted}
 use Rattle.cal_guarantee.proofs.Holders.{moves_revoke, moves_grant}
 use Rattle.cal_guarantee.proofs.Steps.{IsStep, held_lost}

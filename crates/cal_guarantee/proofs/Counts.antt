@@ -1,20 +1,8 @@
 -- What one more action does to what tasks book and lack, and to the open cores.
-use Rattle.std.proofs.Common.{◌≡◌, ℕ, ◌+◌, ◌-◌, ◌<◌, ◌≤◌, ◌⊎◌, Bool, true, false, not, ◌&&◌, cond, eqb, ltb, List, [], ◌∷◌, ◌++◌, length, Some, None, refl, ap, sym, ◌∙◌, arith, inl, inr, ⊎_elim}
-use Rattle.std.proofs.lemmas.Bool.{cases_eq, cases_lt, and_parts, and_from, and_left, and_right, eq-eqb, ne_eqb, ltb-true, ltb-false, lt-ltb, le-ltb, not-true}
-use Rattle.std.specs.Option.{is_some, unwrap_or}
-use Rattle.cal_machine.specs.Table.{Table}
-use Rattle.cal_machine.specs.TableTasks.{owner_of, guaranteed_of, is_latency_critical}
-use Rattle.cal_policy.specs.declared.history.action.Action.{Action}
-use Rattle.cal_policy.specs.declared.history.action.Action.TheVariants.{Unban, Ban, Revoke, Cap, Grant}
+use Rattle.cal_guarantee.proofs.Common.{◌≡◌, ℕ, ◌+◌, ◌-◌, ◌<◌, ◌≤◌, ◌⊎◌, Bool, true, false, not, ◌&&◌, cond, eqb, ltb, List, [], ◌∷◌, ◌++◌, length, Some, None, refl, ap, sym, ◌∙◌, arith, inl, inr, ⊎_elim, cases_eq, cases_lt, and_parts, and_from, and_left, and_right, eq-eqb, ne_eqb, ltb-true, ltb-false, lt-ltb, le-ltb, not-true, is_some, unwrap_or, Table, owner_of, guaranteed_of, is_latency_critical, Action, Unban, Ban, Revoke, Cap, Grant, Holder, holder_of, ban_of, is_banned, last_placement, placed, is_free, is_booked_for, booked_by, holder_push, ban_push, count_le, count_le_one, is_short, lacks, lacking, is_open, open_cores}
 use Rattle.cal_policy.specs.declared.history.action.Cause.{Cause}
 use Rattle.cal_policy.specs.declared.board.holders.Placement as placements
-use Rattle.cal_policy.specs.declared.board.holders.Holder.{Holder}
 use Rattle.cal_policy.specs.declared.board.holders.Holder.TheVariants as holders
-use Rattle.cal_policy.specs.History.{holder_of, ban_of, is_banned, last_placement, placed}
-use Rattle.cal_policy.specs.Board.Counts.{is_free, is_booked_for, booked_by}
-use Rattle.cal_policy.proofs.HistoryLemmas.OneMore.{holder_push, ban_push}
-use Rattle.cal_policy.proofs.ListLemmas.Counted.{count_le, count_le_one}
-use Rattle.cal_policy.specs.Assured.Short.{is_short, lacks, lacking, is_open, open_cores}
 use Rattle.cal_guarantee.proofs.Sums.{one_if, sum_same, sum_but_one, count_same, count_but_one}
 use Rattle.cal_guarantee.proofs.Holders.{Moves, Stays, moved_count, moved_same, stays_same, moves_revoke, moves_grant}
 

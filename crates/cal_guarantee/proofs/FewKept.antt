@@ -1,22 +1,6 @@
 -- Of a short task fewer open cores are kept than are lacking.
-use Rattle.std.proofs.Common.{◌≡◌, ℕ, ◌<◌, ◌≤◌, Bool, true, false, not, ◌&&◌, cond, eqb, ltb, List, [], ◌∷◌, length, Option, Some, None, refl, ap, sym, ◌∙◌, arith, ⊎_elim, zero, suc}
-use Rattle.std.proofs.lemmas.Bool.{cases_lt, and_parts, and_from, eqb-false, eq-eqb, ne_eqb, ltb-true, lt-ltb, not-true, not-false}
-use Rattle.std.specs.Option.{option_or}
-use Rattle.cal_machine.specs.Machine.{sibling_of}
-use Rattle.cal_machine.specs.Table.{Table}
-use Rattle.cal_machine.specs.Tasks.{task_at}
+use Rattle.cal_guarantee.proofs.Common.{◌≡◌, ℕ, ◌<◌, ◌≤◌, Bool, true, false, not, ◌&&◌, cond, eqb, ltb, List, [], ◌∷◌, length, Option, Some, None, refl, ap, sym, ◌∙◌, arith, ⊎_elim, zero, suc, cases_lt, and_parts, and_from, eqb-false, eq-eqb, ne_eqb, ltb-true, lt-ltb, not-true, not-false, option_or, sibling_of, Table, task_at, guaranteed_of, Action, Candidate, holder_of, last_thread, comes_before, Setting, count_below, best_below, better, idle_class, owed_to, is_task, owed_below, is_short, lacks, lacking, is_open, open_cores, waits_short, waits, is_kept, is_kept_for_short, may_take, open_class, owed_class, open_choice}
 use Rattle.cal_machine.specs.declared.task.Task.{Task}
-use Rattle.cal_machine.specs.TableTasks.{guaranteed_of}
-use Rattle.cal_policy.specs.declared.history.action.Action.{Action}
-use Rattle.cal_policy.specs.declared.pass.choice.Candidate.{Candidate}
-use Rattle.cal_policy.specs.History.{holder_of, last_thread}
-use Rattle.cal_policy.specs.History.CoreClasses.{comes_before}
-use Rattle.cal_policy.specs.Setting.{Setting}
-use Rattle.cal_policy.specs.Pass.Choice.{count_below, best_below, better}
-use Rattle.cal_policy.specs.Pass.Grants.{idle_class}
-use Rattle.cal_policy.specs.Assured.Owed.{owed_to, is_task, owed_below}
-use Rattle.cal_policy.specs.Assured.Short.{is_short, lacks, lacking, is_open, open_cores, waits_short, waits}
-use Rattle.cal_policy.specs.Assured.Taking.{is_kept, is_kept_for_short, may_take, open_class, owed_class, open_choice}
 use Rattle.cal_guarantee.proofs.Sums.{sum_le, sum_but_one, covered, first_ones}
 use Rattle.cal_guarantee.proofs.Counts.{short_parts, lacks_short}
 

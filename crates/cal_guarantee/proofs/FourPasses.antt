@@ -1,24 +1,14 @@
 -- The run of four passes is legal, and in it a task waits to the last.
-use Rattle.std.proofs.Common.{◌≡◌, ℕ, ◌<◌, ◌≤◌, true, false, List, [], ◌∷◌, take, Some, slice_get, refl, ap, sym, ◌∙◌, subst, arith, zero, suc, All}
+use Rattle.cal_guarantee.proofs.Common.{◌≡◌, ℕ, ◌<◌, ◌≤◌, true, false, List, [], ◌∷◌, take, Some, slice_get, refl, ap, sym, ◌∙◌, subst, arith, zero, suc, All, IsTable, IsTask, task_of, owner_of, Revoke, Grant, PassEntry, actions_of, looks_of, holder_of, setting_of, so_far, is_leaving, WasLongRevoked, IsFreedIn, AsksOfPass, bounded_of, pass_of, IsPass, waits_short}
 use Rattle.std.proofs.lemmas.List.Elements.{All-cons}
 use Rattle.std.specs.Prelude.{slice_index_or}
 use Rattle.cal_signal.specs.declared.record.Record.{Record}
 use Rattle.cal_signal.specs.Records.{IsLater, IsShaped}
 use Rattle.cal_signal.specs.Shown.{IsFitShown}
-use Rattle.cal_machine.specs.Table.{IsTable, IsTask}
-use Rattle.cal_machine.specs.Tasks.{task_of}
-use Rattle.cal_machine.specs.TableTasks.{owner_of}
-use Rattle.cal_policy.specs.declared.history.action.Action.TheVariants.{Revoke, Grant}
 use Rattle.cal_policy.specs.declared.history.action.Cause.TheVariants as causes
-use Rattle.cal_policy.specs.declared.history.entry.PassEntry.{PassEntry}
 use Rattle.cal_policy.specs.declared.history.look.Seen.{Seen}
-use Rattle.cal_policy.specs.History.{actions_of, looks_of, holder_of}
 use Rattle.cal_policy.specs.History.Looks.{last_shown, look_of}
 use Rattle.cal_policy.specs.Judgement.Judging.{IsFitLook, IsInput, judged}
-use Rattle.cal_policy.specs.Setting.{setting_of, so_far}
-use Rattle.cal_assured.specs.Guarantee.{is_leaving, WasLongRevoked, IsFreedIn, AsksOfPass}
-use Rattle.cal_policy.specs.Assured.Pass.{bounded_of, pass_of, IsPass}
-use Rattle.cal_policy.specs.Assured.Short.{waits_short}
 use Rattle.cal_guarantee.specs.Example.{first_task, second_task, two_tasks, shown, first_pass, second_pass, third_pass, fourth_pass, four_passes, TheBoundIsReached}
 
 -- each pass does what it says

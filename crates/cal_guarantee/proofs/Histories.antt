@@ -1,20 +1,7 @@
 -- Legal histories of this policy, pass by pass.
-use Rattle.std.proofs.Common.{◌≡◌, ℕ, ◌+◌, ◌<◌, ◌≤◌, true, List, [], ◌∷◌, ◌++◌, length, take, Some, slice_get, get_or, ap, sym, ◌∙◌, subst, arith, ⊎_elim, zero, suc}
-use Rattle.std.proofs.lemmas.List.{append-nil, take_more, take_all}
+use Rattle.cal_guarantee.proofs.Common.{◌≡◌, ℕ, ◌+◌, ◌<◌, ◌≤◌, true, List, [], ◌∷◌, ◌++◌, length, take, Some, slice_get, get_or, ap, sym, ◌∙◌, subst, arith, ⊎_elim, zero, suc, append-nil, take_more, take_all, Table, IsTable, Action, Free, PassEntry, actions_of, Setting, setting_of, so_far, frees, EachAfter, IsSteady, each_append, each_at, Steady_start, pass_of, IsLegal}
 use Rattle.std.proofs.lemmas.Grind.{flat_map-append}
 use Rattle.std.proofs.lemmas.Option.{slice_get_within, slice_get_cases, get_or_from_slice_get}
-use Rattle.cal_machine.specs.Table.{Table, IsTable}
-use Rattle.cal_policy.specs.declared.history.action.Action.{Action}
-use Rattle.cal_policy.specs.declared.history.action.Action.TheVariants.{Free}
-use Rattle.cal_policy.specs.declared.history.entry.PassEntry.{PassEntry}
-use Rattle.cal_policy.specs.History.{actions_of}
-use Rattle.cal_policy.specs.Setting.{Setting, setting_of, so_far}
-use Rattle.cal_policy.specs.Pass.Frees.{frees}
-use Rattle.cal_policy.specs.Pass.Made.{EachAfter}
-use Rattle.cal_policy.specs.Pass.Steady.{IsSteady}
-use Rattle.cal_policy.proofs.ListLemmas.EachAfter.{each_append, each_at}
-use Rattle.cal_policy.proofs.PassLemmas.Steady.{Steady_start}
-use Rattle.cal_policy.specs.Assured.Pass.{pass_of, IsLegal}
 use Rattle.cal_guarantee.proofs.Steps.{IsStep}
 use Rattle.cal_guarantee.proofs.KeptAlong.{along, steady_step}
 use Rattle.cal_guarantee.proofs.Freed.{was_left, frees_left, later_left, FreesLeft, frees_steady}

@@ -1,21 +1,9 @@
 -- What one more action does to who has a core, and to the counts of cores.
-use Rattle.std.proofs.Common.{◌≡◌, ℕ, ◌+◌, ◌<◌, ◌⊎◌, Bool, cond, eqb, List, [], ◌∷◌, ◌++◌, Option, Some, None, refl, ap, sym, ◌∙◌, arith, inl, inr}
-use Rattle.std.proofs.lemmas.Bool.{cases_eq, eq-eqb, ne_eqb}
-use Rattle.std.specs.Option.{unwrap_or}
-use Rattle.cal_machine.proofs.Booleans.{unwrap_if}
-use Rattle.cal_policy.specs.declared.history.action.Action.{Action}
-use Rattle.cal_policy.specs.declared.history.action.Action.TheVariants.{Unban, Ban, Revoke, Cap, Grant}
+use Rattle.cal_guarantee.proofs.Common.{◌≡◌, ℕ, ◌+◌, ◌<◌, ◌⊎◌, Bool, cond, eqb, List, [], ◌∷◌, ◌++◌, Option, Some, None, refl, ap, sym, ◌∙◌, arith, inl, inr, cases_eq, eq-eqb, ne_eqb, unwrap_or, unwrap_if, Action, Unban, Ban, Revoke, Cap, Grant, Holder, holder_of, last_placement, placed, left_by, last_of, count_below, holder_push, granted_holder, owed_to, owed_made}
 use Rattle.cal_policy.specs.declared.history.action.Cause.{Cause}
 use Rattle.cal_policy.specs.declared.board.holders.Placement as placements
-use Rattle.cal_policy.specs.declared.board.holders.Holder.{Holder}
 use Rattle.cal_policy.specs.declared.board.holders.Holder.TheVariants as holders
-use Rattle.cal_policy.specs.History.{holder_of, last_placement, placed, left_by}
-use Rattle.cal_policy.specs.History.Lists.{last_of}
-use Rattle.cal_policy.specs.Pass.Choice.{count_below}
-use Rattle.cal_policy.proofs.HistoryLemmas.OneMore.{holder_push}
 use Rattle.cal_policy.proofs.ListLemmas.OneMore.{last_of_push, unwrap_or_or}
-use Rattle.cal_policy.proofs.PassLemmas.Steady.{granted_holder}
-use Rattle.cal_policy.specs.Assured.Owed.{owed_to, owed_made}
 use Rattle.cal_guarantee.proofs.Sums.{one_if, count_same, count_but_one}
 
 -- after y core a has the holder h, and the others have the ones that they had after x

@@ -1,27 +1,6 @@
 -- What holds along the actions of a pass, where each keeps it.
-use Rattle.std.proofs.Common.{◌≡◌, ℕ, ◌<◌, ◌≤◌, true, false, not, ◌&&◌, ◌||◌, eqb, ltb, leb, List, [], ◌∷◌, ◌++◌, length, Some, ap, sym, ◌∙◌, subst, arith, ⊎_elim, append_assoc}
-use Rattle.std.proofs.lemmas.List.{append-nil}
-use Rattle.std.proofs.lemmas.Bool.{cases_Bool, and_parts, or_parts, false_from_ne_true, eqb-true, ne_eqb, ltb-true, leb-false, not-true}
-use Rattle.cal_machine.specs.Table.{Table}
-use Rattle.cal_machine.specs.TableTasks.{owner_of, limit_of, guaranteed_of, is_latency_critical, threads_of_table}
-use Rattle.cal_machine.proofs.ThreadNumbers.{next_le}
-use Rattle.cal_policy.specs.declared.history.action.Action.{Action}
-use Rattle.cal_policy.specs.declared.history.action.Action.TheVariants.{Free, Unban, Ban, Revoke, Cap, Grant}
+use Rattle.cal_guarantee.proofs.Common.{◌≡◌, ℕ, ◌<◌, ◌≤◌, true, false, not, ◌&&◌, ◌||◌, eqb, ltb, leb, List, [], ◌∷◌, ◌++◌, length, Some, ap, sym, ◌∙◌, subst, arith, ⊎_elim, append_assoc, append-nil, cases_Bool, and_parts, or_parts, false_from_ne_true, eqb-true, ne_eqb, ltb-true, leb-false, not-true, Table, owner_of, limit_of, guaranteed_of, is_latency_critical, threads_of_table, next_le, Action, Free, Unban, Ban, Revoke, Cap, Grant, holder_of, is_banned, last_placement, placed, placement_of, is_free, is_held, is_booked_for, held_by, booked_by, cap_of, Setting, so_far, EachAfter, may_book, IsSteady, held_le_booked, so_far_more, Steady_shrinks, Steady_grant, Shrinks_unban, Shrinks_ban, Shrinks_cap, Shrinks_revoke, pressing, is_short, lacking, is_open, open_cores, surplus, waits, waits_short, some_waits_short, are_lacked, is_kept, is_kept_for, may_take, owed_to}
 use Rattle.cal_policy.specs.declared.board.holders.Holder.TheVariants as holders
-use Rattle.cal_policy.specs.History.{holder_of, is_banned, last_placement, placed}
-use Rattle.cal_policy.specs.Board.{placement_of}
-use Rattle.cal_policy.specs.Board.Counts.{is_free, is_held, is_booked_for, held_by, booked_by, cap_of}
-use Rattle.cal_policy.specs.Setting.{Setting, so_far}
-use Rattle.cal_policy.specs.Pass.Made.{EachAfter}
-use Rattle.cal_policy.specs.Pass.Grants.{may_book}
-use Rattle.cal_policy.specs.Pass.Steady.{IsSteady}
-use Rattle.cal_policy.proofs.PassLemmas.Fits.{held_le_booked}
-use Rattle.cal_policy.proofs.PassLemmas.Pairs.{so_far_more}
-use Rattle.cal_policy.proofs.PassLemmas.Steady.{Steady_shrinks, Steady_grant, Shrinks_unban, Shrinks_ban, Shrinks_cap, Shrinks_revoke}
-use Rattle.cal_policy.specs.Assured.InFlight.{pressing}
-use Rattle.cal_policy.specs.Assured.Short.{is_short, lacking, is_open, open_cores, surplus, waits, waits_short, some_waits_short, are_lacked}
-use Rattle.cal_policy.specs.Assured.Taking.{is_kept, is_kept_for, may_take}
-use Rattle.cal_policy.specs.Assured.Owed.{owed_to}
 use Rattle.cal_guarantee.proofs.Sums.{count_some}
 use Rattle.cal_guarantee.proofs.Holders.{moves_revoke, moves_grant, stays_unban, stays_ban, stays_cap}
 use Rattle.cal_guarantee.proofs.Steps.{IsStep, IsRevokeStep, IsGrantStep}

@@ -1,27 +1,7 @@
 -- A pass in which a short task that waits is granted no core at its turn: then too few cores were open
 -- after the second part, and none was owed to it after the first.
-use Rattle.std.proofs.Common.{◌≡◌, ℕ, ◌<◌, Bool, true, false, not, ◌&&◌, cond, eqb, List, [], ◌∷◌, ◌++◌, length, Option, Some, None, refl, ap, sym, ◌∙◌, subst, arith, inl, inr, ⊎_elim}
-use Rattle.std.proofs.lemmas.Bool.{and_from, and_left, eqb-true, eq-eqb, not_from_true}
-use Rattle.cal_machine.specs.Table.{IsTable}
-use Rattle.cal_machine.proofs.Booleans.{unwrap_if}
-use Rattle.cal_policy.specs.declared.history.action.Action.{Action}
-use Rattle.cal_policy.specs.declared.history.action.Action.TheVariants.{Free, Unban, Ban, Revoke, Cap, Grant}
-use Rattle.cal_policy.specs.declared.board.holders.Holder.{Holder}
+use Rattle.cal_guarantee.proofs.Common.{◌≡◌, ℕ, ◌<◌, Bool, true, false, not, ◌&&◌, cond, eqb, List, [], ◌∷◌, ◌++◌, length, Option, Some, None, refl, ap, sym, ◌∙◌, subst, arith, inl, inr, ⊎_elim, and_from, and_left, eqb-true, eq-eqb, not_from_true, IsTable, unwrap_if, Action, Free, Unban, Ban, Revoke, Cap, Grant, Holder, actions_of, holder_of, is_banned, last_placement, left_by, placed, is_free, Setting, so_far, lowest_below, frees, EachAfter, IsSteady, holder_push, lowest_passes, lowest_first, lowest_missing, unbans, owed_to, is_task, left_for, is_short, is_open, waits_short, is_kept, is_kept_for_short, may_take, open_choice, unbanned_of, bounded_of}
 use Rattle.cal_policy.specs.declared.board.holders.Holder.TheVariants as holders
-use Rattle.cal_policy.specs.History.{actions_of, holder_of, is_banned, last_placement, left_by, placed}
-use Rattle.cal_policy.specs.Board.Counts.{is_free}
-use Rattle.cal_policy.specs.Setting.{Setting, so_far}
-use Rattle.cal_policy.specs.Pass.Choice.{lowest_below}
-use Rattle.cal_policy.specs.Pass.Frees.{frees}
-use Rattle.cal_policy.specs.Pass.Made.{EachAfter}
-use Rattle.cal_policy.specs.Pass.Steady.{IsSteady}
-use Rattle.cal_policy.proofs.HistoryLemmas.OneMore.{holder_push}
-use Rattle.cal_policy.proofs.ListLemmas.Counted.{lowest_passes, lowest_first, lowest_missing}
-use Rattle.cal_policy.specs.Assured.Hyperthreads.{unbans}
-use Rattle.cal_policy.specs.Assured.Owed.{owed_to, is_task, left_for}
-use Rattle.cal_policy.specs.Assured.Short.{is_short, is_open, waits_short}
-use Rattle.cal_policy.specs.Assured.Taking.{is_kept, is_kept_for_short, may_take, open_choice}
-use Rattle.cal_policy.specs.Assured.Pass.{unbanned_of, bounded_of}
 use Rattle.cal_guarantee.proofs.Holders.{owed_push}
 use Rattle.cal_guarantee.proofs.Steps.{unbans_steps}
 use Rattle.cal_guarantee.proofs.Own.{waits_parts}

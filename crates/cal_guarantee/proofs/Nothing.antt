@@ -1,28 +1,8 @@
 -- Where a short task found nothing to take at its turn, no task holds more than it is guaranteed.
-use Rattle.std.proofs.Common.{◌≡◌, ℕ, ◌<◌, ◌≤◌, ◌⊎◌, Bool, true, false, not, ◌&&◌, cond, eqb, ltb, List, [], ◌∷◌, ◌++◌, length, Some, None, refl, ap, sym, ◌∙◌, subst, arith, inl, inr, ⊎_elim}
-use Rattle.std.proofs.lemmas.Bool.{cases_eq, cases_lt, and_from, lt-ltb, ne_eqb}
-use Rattle.std.specs.Option.{is_some, option_or}
-use Rattle.cal_machine.specs.Table.{Table, IsTable}
-use Rattle.cal_machine.specs.TableTasks.{owner_of, guaranteed_of, is_latency_critical, threads_of_table}
-use Rattle.cal_policy.specs.declared.history.action.Action.{Action}
-use Rattle.cal_policy.specs.declared.history.action.Action.TheVariants.{Free, Unban, Ban, Revoke, Cap, Grant}
+use Rattle.cal_guarantee.proofs.Common.{◌≡◌, ℕ, ◌<◌, ◌≤◌, ◌⊎◌, Bool, true, false, not, ◌&&◌, cond, eqb, ltb, List, [], ◌∷◌, ◌++◌, length, Some, None, refl, ap, sym, ◌∙◌, subst, arith, inl, inr, ⊎_elim, cases_eq, cases_lt, and_from, lt-ltb, ne_eqb, is_some, option_or, Table, IsTable, owner_of, guaranteed_of, is_latency_critical, threads_of_table, Action, Free, Unban, Ban, Revoke, Cap, Grant, actions_of, holder_of, last_thread, thread_granted, placed, comes_before, placement_of, is_held_for, held_by, booked_by, is_over, Setting, so_far, has_room, is_held_with_room, frees, is_granted_in, preempt_class, IsSteady, last_thread_push, held_le_booked, so_far_more, waits_short, held_class, held_choice, bounded_of}
 use Rattle.cal_policy.specs.declared.history.core_class.CoreClass.TheVariants as classes
 use Rattle.cal_policy.specs.declared.board.holders.Placement as placements
 use Rattle.cal_policy.specs.declared.board.holders.Holder.TheVariants as holders
-use Rattle.cal_policy.specs.History.{actions_of, holder_of, last_thread, thread_granted, placed}
-use Rattle.cal_policy.specs.History.CoreClasses.{comes_before}
-use Rattle.cal_policy.specs.Board.{placement_of}
-use Rattle.cal_policy.specs.Board.Counts.{is_held_for, held_by, booked_by, is_over}
-use Rattle.cal_policy.specs.Setting.{Setting, so_far, has_room, is_held_with_room}
-use Rattle.cal_policy.specs.Pass.Frees.{frees}
-use Rattle.cal_policy.specs.Pass.Grants.{is_granted_in, preempt_class}
-use Rattle.cal_policy.specs.Pass.Steady.{IsSteady}
-use Rattle.cal_policy.proofs.HistoryLemmas.OneMore.{last_thread_push}
-use Rattle.cal_policy.proofs.PassLemmas.Fits.{held_le_booked}
-use Rattle.cal_policy.proofs.PassLemmas.Pairs.{so_far_more}
-use Rattle.cal_policy.specs.Assured.Short.{waits_short}
-use Rattle.cal_policy.specs.Assured.Taking.{held_class, held_choice}
-use Rattle.cal_policy.specs.Assured.Pass.{bounded_of}
 use Rattle.cal_guarantee.proofs.Sums.{some_counted}
 use Rattle.cal_guarantee.proofs.Holders.{Stays, moves_revoke, moves_grant, stays_unban, stays_ban, stays_cap}
 use Rattle.cal_guarantee.proofs.Steps.{IsStep, held_of}

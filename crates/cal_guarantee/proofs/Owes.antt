@@ -1,20 +1,6 @@
 -- A core that is owed to a short task that waits comes to it.
-use Rattle.std.proofs.Common.{◌≡◌, ℕ, ◌<◌, ◌⊎◌, Bool, true, false, not, ◌&&◌, ◌||◌, cond, eqb, ltb, List, [], ◌∷◌, ◌++◌, length, Option, Some, None, refl, ap, sym, ◌∙◌, arith, inl, inr, ⊎_elim}
-use Rattle.std.proofs.lemmas.Bool.{cases_eq, and_from, and_right, or_right, ne_eqb, lt-ltb}
-use Rattle.cal_machine.specs.Table.{Table}
-use Rattle.cal_machine.proofs.Booleans.{unwrap_if}
-use Rattle.cal_policy.specs.declared.history.action.Action.{Action}
-use Rattle.cal_policy.specs.declared.history.action.Action.TheVariants.{Free, Unban, Ban, Revoke, Cap, Grant}
+use Rattle.cal_guarantee.proofs.Common.{◌≡◌, ℕ, ◌<◌, ◌⊎◌, Bool, true, false, not, ◌&&◌, ◌||◌, cond, eqb, ltb, List, [], ◌∷◌, ◌++◌, length, Option, Some, None, refl, ap, sym, ◌∙◌, arith, inl, inr, ⊎_elim, cases_eq, and_from, and_right, or_right, ne_eqb, lt-ltb, Table, unwrap_if, Action, Free, Unban, Ban, Revoke, Cap, Grant, holder_of, is_free, Setting, so_far, EachAfter, IsSteady, holder_push, owed_to, is_task, owed_below, is_short, lacks, is_open, waits, waits_short, are_lacked, is_kept, is_kept_for, is_kept_for_short, may_take}
 use Rattle.cal_policy.specs.declared.board.holders.Holder.TheVariants as holders
-use Rattle.cal_policy.specs.History.{holder_of}
-use Rattle.cal_policy.specs.Board.Counts.{is_free}
-use Rattle.cal_policy.specs.Setting.{Setting, so_far}
-use Rattle.cal_policy.specs.Pass.Made.{EachAfter}
-use Rattle.cal_policy.specs.Pass.Steady.{IsSteady}
-use Rattle.cal_policy.proofs.HistoryLemmas.OneMore.{holder_push}
-use Rattle.cal_policy.specs.Assured.Owed.{owed_to, is_task, owed_below}
-use Rattle.cal_policy.specs.Assured.Short.{is_short, lacks, is_open, waits, waits_short, are_lacked}
-use Rattle.cal_policy.specs.Assured.Taking.{is_kept, is_kept_for, is_kept_for_short, may_take}
 use Rattle.cal_guarantee.proofs.Sums.{none_counts}
 use Rattle.cal_guarantee.proofs.Holders.{moves_revoke, moves_grant, stays_ban, owed_push}
 use Rattle.cal_guarantee.proofs.Steps.{IsStep, IsRevokeStep, IsGrantStep}

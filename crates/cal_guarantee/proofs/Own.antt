@@ -1,21 +1,7 @@
 -- Where a task's own cores are the same, it is short and waits as before.
-use Rattle.std.proofs.Common.{◌≡◌, ℕ, ◌<◌, ◌⊎◌, Bool, true, false, not, ◌&&◌, ◌||◌, cond, eqb, ltb, List, length, Option, Some, None, refl, ap, sym, ◌∙◌, arith, inl, inr, ⊎_elim, zero, suc}
-use Rattle.std.proofs.lemmas.Bool.{and_parts, and_from, or_left, false_from_ne_true, eqb-true, eq-eqb, cases_eq}
-use Rattle.std.specs.Option.{is_some}
+use Rattle.cal_guarantee.proofs.Common.{◌≡◌, ℕ, ◌<◌, ◌⊎◌, Bool, true, false, not, ◌&&◌, ◌||◌, cond, eqb, ltb, List, length, Option, Some, None, refl, ap, sym, ◌∙◌, arith, inl, inr, ⊎_elim, zero, suc, and_parts, and_from, or_left, false_from_ne_true, eqb-true, eq-eqb, cases_eq, is_some, Table, owner_of, thread_of, limit_of, is_latency_critical, task_there, Action, Holder, holder_of, is_booked_for, is_with, booked_by, cores_of_thread, cap_of, Setting, kept_now, has_room, count_below, best_below, better, thread_choice, thread_rank, thread_delay, may_book, is_untaken, is_in_flight, is_late, pressing, is_short, surplus, waits, waits_short}
 use Rattle.cal_signal.specs.declared.record.Record.{Record}
-use Rattle.cal_machine.specs.Table.{Table}
-use Rattle.cal_machine.specs.TableTasks.{owner_of, thread_of, limit_of, is_latency_critical}
-use Rattle.cal_machine.proofs.ThreadNumbers.{task_there}
-use Rattle.cal_policy.specs.declared.history.action.Action.{Action}
-use Rattle.cal_policy.specs.declared.board.holders.Holder.{Holder}
 use Rattle.cal_policy.specs.declared.board.holders.Holder.TheVariants as holders
-use Rattle.cal_policy.specs.History.{holder_of}
-use Rattle.cal_policy.specs.Board.Counts.{is_booked_for, is_with, booked_by, cores_of_thread, cap_of}
-use Rattle.cal_policy.specs.Setting.{Setting, kept_now, has_room}
-use Rattle.cal_policy.specs.Pass.Choice.{count_below, best_below, better}
-use Rattle.cal_policy.specs.Pass.Grants.{thread_choice, thread_rank, thread_delay, may_book}
-use Rattle.cal_policy.specs.Assured.InFlight.{is_untaken, is_in_flight, is_late, pressing}
-use Rattle.cal_policy.specs.Assured.Short.{is_short, surplus, waits, waits_short}
 use Rattle.cal_guarantee.proofs.Sums.{count_same}
 use Rattle.cal_guarantee.proofs.Holders.{Moves, Stays}
 use Rattle.cal_guarantee.proofs.Counts.{short_same, short_parts}

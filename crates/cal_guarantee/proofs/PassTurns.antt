@@ -1,25 +1,7 @@
 -- A pass in which a task is short and waits where the grants begin: up to the turn of the task, the
 -- turn, and the rest.
-use Rattle.std.proofs.Common.{◌≡◌, ℕ, ◌<◌, ◌≤◌, Bool, true, false, cond, eqb, ltb, List, [], ◌++◌, length, Some, refl, ap, sym, ◌∙◌, subst, arith, ⊎_elim, append_assoc, zero, suc}
-use Rattle.std.proofs.lemmas.List.{append-nil}
-use Rattle.std.proofs.lemmas.Bool.{cases_Bool, cases_lt, eqb-true, lt-ltb}
-use Rattle.cal_machine.specs.Table.{IsTable}
-use Rattle.cal_machine.specs.TableTasks.{is_latency_critical}
-use Rattle.cal_policy.specs.declared.history.action.Action.{Action}
-use Rattle.cal_policy.specs.History.{actions_of}
-use Rattle.cal_policy.specs.History.Lists.{in_turn}
-use Rattle.cal_policy.specs.Setting.{Setting, so_far}
-use Rattle.cal_policy.specs.Pass.Frees.{frees}
+use Rattle.cal_guarantee.proofs.Common.{◌≡◌, ℕ, ◌<◌, ◌≤◌, Bool, true, false, cond, eqb, ltb, List, [], ◌++◌, length, Some, refl, ap, sym, ◌∙◌, subst, arith, ⊎_elim, append_assoc, zero, suc, append-nil, cases_Bool, cases_lt, eqb-true, lt-ltb, IsTable, is_latency_critical, Action, actions_of, in_turn, Setting, so_far, frees, EachAfter, IsSteady, lowest_passes, each_append, unbans, bans, is_short, waits_short, group_of, goes_before, place_of, task_in_place, grant_at, grant_in_place, grants_of_first, grants, unbanned_of, bounded_of, pass_of}
 use Rattle.cal_policy.specs.Pass.Bandwidth.{bandwidth_part}
-use Rattle.cal_policy.specs.Pass.Made.{EachAfter}
-use Rattle.cal_policy.specs.Pass.Steady.{IsSteady}
-use Rattle.cal_policy.proofs.ListLemmas.Counted.{lowest_passes}
-use Rattle.cal_policy.proofs.ListLemmas.EachAfter.{each_append}
-use Rattle.cal_policy.specs.Assured.Hyperthreads.{unbans, bans}
-use Rattle.cal_policy.specs.Assured.Short.{is_short, waits_short}
-use Rattle.cal_policy.specs.Assured.Order.{group_of, goes_before, place_of, task_in_place}
-use Rattle.cal_policy.specs.Assured.Grants.{grant_at, grant_in_place, grants_of_first, grants}
-use Rattle.cal_policy.specs.Assured.Pass.{unbanned_of, bounded_of, pass_of}
 use Rattle.cal_policy.proofs.AssuredLemmas.TurnOrder.{tasks_placed, place_lower}
 use Rattle.cal_guarantee.proofs.Steps.{IsStep, unbans_steps, bans_steps, bandwidth_steps, grants_steps, place_step}
 use Rattle.cal_guarantee.proofs.Counts.{short_same}

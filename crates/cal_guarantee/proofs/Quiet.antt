@@ -1,32 +1,11 @@
 -- A pass that finds nothing to take leaves all calm; and where nothing is being left after the first
 -- part, the next finds a core.
-use Rattle.std.proofs.Common.{◌≡◌, ℕ, ◌+◌, ◌<◌, ◌≤◌, true, false, not, List, [], ◌∷◌, ◌++◌, length, take, None, refl, ap, sym, ◌∙◌, subst, arith, ⊎_elim, zero, suc}
-use Rattle.std.proofs.lemmas.List.{append-nil}
+use Rattle.cal_guarantee.proofs.Common.{◌≡◌, ℕ, ◌+◌, ◌<◌, ◌≤◌, true, false, not, List, [], ◌∷◌, ◌++◌, length, take, None, refl, ap, sym, ◌∙◌, subst, arith, ⊎_elim, zero, suc, append-nil, cases_Bool, and_from, eq-eqb, not-true, false_from_ne_true, Table, IsTable, no_task, owner_of, guaranteed_of, Action, Holder, actions_of, holder_of, is_banned, is_free, is_held_for, held_by, Setting, so_far, sum_below, frees, EachAfter, IsSteady, held_le_booked, is_leaving, unbans, is_short, lacks, lacking, is_open, open_cores, waits_short, open_choice, grant_at, unbanned_of, bounded_of, pass_of}
 use Rattle.std.proofs.lemmas.List.Sums.{sum_by_more, sum_by-take-le}
-use Rattle.std.proofs.lemmas.Bool.{cases_Bool, and_from, eq-eqb, not-true, false_from_ne_true}
 use Rattle.std.specs.Prelude.{sum_by}
-use Rattle.cal_machine.specs.Table.{Table, IsTable}
-use Rattle.cal_machine.specs.Tasks.{no_task}
-use Rattle.cal_machine.specs.TableTasks.{owner_of, guaranteed_of}
-use Rattle.cal_policy.specs.declared.history.action.Action.{Action}
 use Rattle.cal_policy.specs.declared.board.holders.Placement as placements
-use Rattle.cal_policy.specs.declared.board.holders.Holder.{Holder}
 use Rattle.cal_policy.specs.declared.board.holders.Holder.TheVariants as holders
-use Rattle.cal_policy.specs.History.{actions_of, holder_of, is_banned}
-use Rattle.cal_policy.specs.Board.Counts.{is_free, is_held_for, held_by}
-use Rattle.cal_policy.specs.Setting.{Setting, so_far}
-use Rattle.cal_policy.specs.Pass.Choice.{sum_below}
-use Rattle.cal_policy.specs.Pass.Frees.{frees}
-use Rattle.cal_policy.specs.Pass.Made.{EachAfter}
-use Rattle.cal_policy.specs.Pass.Steady.{IsSteady}
 use Rattle.cal_policy.proofs.ListLemmas.OneNumberMore.{count_both}
-use Rattle.cal_policy.proofs.PassLemmas.Fits.{held_le_booked}
-use Rattle.cal_assured.specs.Guarantee.{is_leaving}
-use Rattle.cal_policy.specs.Assured.Hyperthreads.{unbans}
-use Rattle.cal_policy.specs.Assured.Short.{is_short, lacks, lacking, is_open, open_cores, waits_short}
-use Rattle.cal_policy.specs.Assured.Taking.{open_choice}
-use Rattle.cal_policy.specs.Assured.Grants.{grant_at}
-use Rattle.cal_policy.specs.Assured.Pass.{unbanned_of, bounded_of, pass_of}
 use Rattle.cal_guarantee.proofs.Sums.{sum_le, sum_add, covered}
 use Rattle.cal_guarantee.proofs.Steps.{IsStep, unbans_steps}
 use Rattle.cal_guarantee.proofs.Counts.{lacks_short, lacks_none}

@@ -1,20 +1,5 @@
 -- A pass in which a short task that waits may take an open core at its turn grants it one.
-use Rattle.std.proofs.Common.{◌≡◌, ℕ, ◌<◌, ◌⊎◌, true, ltb, List, [], ◌∷◌, ◌++◌, length, Option, Some, None, slice_get, refl, ap, ◌∙◌, inl, inr, ⊎_elim, append_assoc}
-use Rattle.cal_machine.specs.Table.{IsTable}
-use Rattle.cal_machine.specs.TableTasks.{thread_of, limit_of}
-use Rattle.cal_policy.specs.declared.history.action.Action.TheVariants.{Grant}
-use Rattle.cal_policy.specs.declared.history.core_class.CoreClass.{CoreClass}
-use Rattle.cal_policy.specs.declared.pass.choice.Candidate.{Candidate}
-use Rattle.cal_policy.specs.History.{actions_of}
-use Rattle.cal_policy.specs.History.CoreClasses.{class_number}
-use Rattle.cal_policy.specs.Setting.{Setting, so_far}
-use Rattle.cal_policy.specs.Pass.Grants.{thread_rank}
-use Rattle.cal_policy.specs.Pass.Steady.{IsSteady}
-use Rattle.cal_policy.proofs.ListLemmas.Counted.{best_ranked}
-use Rattle.cal_policy.specs.Assured.Short.{waits_short}
-use Rattle.cal_policy.specs.Assured.Taking.{open_choice}
-use Rattle.cal_policy.specs.Assured.Pass.{bounded_of, pass_of}
-use Rattle.cal_guarantee.specs.OnePass.{FewCoresAreKept, IsServed, OpenCoresCome, OwedCoresCome}
+use Rattle.cal_guarantee.proofs.Common.{◌≡◌, ℕ, ◌<◌, ◌⊎◌, true, ltb, List, [], ◌∷◌, ◌++◌, length, Option, Some, None, slice_get, refl, ap, ◌∙◌, inl, inr, ⊎_elim, append_assoc, IsTable, thread_of, limit_of, Grant, CoreClass, Candidate, actions_of, class_number, Setting, so_far, thread_rank, IsSteady, best_ranked, waits_short, open_choice, bounded_of, pass_of, FewCoresAreKept, IsServed, OpenCoresCome, OwedCoresCome}
 use Rattle.cal_guarantee.proofs.Steps.{open_taken}
 use Rattle.cal_guarantee.proofs.Own.{thread_owner, waits_parts}
 use Rattle.cal_guarantee.proofs.FewKept.{few_kept}

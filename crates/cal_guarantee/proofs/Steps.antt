@@ -1,45 +1,16 @@
 -- What each action of a pass rests on, at its own place.
-use Rattle.std.proofs.Common.{◌≡◌, ℕ, ◌<◌, ◌⊎◌, Bool, true, false, not, ◌&&◌, cond, eqb, ltb, List, [], ◌∷◌, ◌++◌, length, Option, Some, None, refl, ap, sym, ◌∙◌, subst, arith, inl, inr, ⊎_elim, All, zero, suc, ◌-◌}
-use Rattle.std.specs.Option.{is_some, option_or}
+use Rattle.cal_guarantee.proofs.Common.{◌≡◌, ℕ, ◌<◌, ◌⊎◌, Bool, true, false, not, ◌&&◌, cond, eqb, ltb, List, [], ◌∷◌, ◌++◌, length, Option, Some, None, refl, ap, sym, ◌∙◌, subst, arith, inl, inr, ⊎_elim, All, zero, suc, ◌-◌, is_some, option_or, and_parts, eqb-true, eq-eqb, ltb-true, not-true, sibling_of, Table, IsTable, IsTask, task_at, owner_of, thread_of, limit_of, guaranteed_of, is_latency_critical, is_critical_kind, some_then, some_else, Action, Free, Unban, Ban, Revoke, Cap, Grant, CoreClass, Candidate, Holder, holder_of, ban_of, is_banned, last_thread, in_turn, comes_before, is_idle, class_number, is_free, is_held, is_held_for, held_by, booked_by, is_over, Setting, so_far, kept_now, has_room, is_held_with_room, best_below, EachAfter, thread_choice, grant_of, preempt_class, idle_class, is_granted_in, is_thread_for, thread_rank, highest_passes, lowest_passes, best_ranked, each_append, each_in_turn, so_far_more, unban_for, unban_at, unbans, due_for, bans_at, bans, owed_to, is_task, are_lacked, waits, may_take, open_class, owed_class, open_choice, held_class, held_choice, may_preempt, choice_for, grant_at, grant_in_place, grants_of_first, task_in_place, place_of}
 use Rattle.std.proofs.lemmas.List.Elements.{All-head, All-tail}
-use Rattle.std.proofs.lemmas.Bool.{and_parts, eqb-true, eq-eqb, ltb-true, not-true}
-use Rattle.cal_machine.specs.Machine.{sibling_of}
-use Rattle.cal_machine.specs.Table.{Table, IsTable, IsTask}
-use Rattle.cal_machine.specs.Tasks.{task_at}
-use Rattle.cal_machine.specs.TableTasks.{owner_of, thread_of, limit_of, guaranteed_of, is_latency_critical, is_critical_kind}
 use Rattle.cal_machine.specs.declared.task.Task.{Task}
 use Rattle.cal_machine.specs.declared.task.Kind.{Kind}
 use Rattle.cal_machine.specs.declared.task.Kind.TheVariants as kinds
-use Rattle.cal_machine.proofs.Booleans.{some_then, some_else}
-use Rattle.cal_policy.specs.declared.history.action.Action.{Action}
-use Rattle.cal_policy.specs.declared.history.action.Action.TheVariants.{Free, Unban, Ban, Revoke, Cap, Grant}
 use Rattle.cal_policy.specs.declared.history.action.Cause.TheVariants as causes
-use Rattle.cal_policy.specs.declared.history.core_class.CoreClass.{CoreClass}
 use Rattle.cal_policy.specs.declared.history.core_class.CoreClass.TheVariants as classes
-use Rattle.cal_policy.specs.declared.pass.choice.Candidate.{Candidate}
 use Rattle.cal_policy.specs.declared.board.bans.BannedFor.{BannedFor}
 use Rattle.cal_policy.specs.declared.board.holders.Placement as placements
-use Rattle.cal_policy.specs.declared.board.holders.Holder.{Holder}
 use Rattle.cal_policy.specs.declared.board.holders.Holder.TheVariants as holders
-use Rattle.cal_policy.specs.History.{holder_of, ban_of, is_banned, last_thread}
-use Rattle.cal_policy.specs.History.Lists.{in_turn}
-use Rattle.cal_policy.specs.History.CoreClasses.{comes_before, is_idle, class_number}
-use Rattle.cal_policy.specs.Board.Counts.{is_free, is_held, is_held_for, held_by, booked_by, is_over}
-use Rattle.cal_policy.specs.Setting.{Setting, so_far, kept_now, has_room, is_held_with_room}
-use Rattle.cal_policy.specs.Pass.Choice.{best_below}
-use Rattle.cal_policy.specs.Pass.Made.{EachAfter}
 use Rattle.cal_policy.specs.Pass.Bans.{ban_for, ban_due, may_ban_beside, may_be_emptied}
 use Rattle.cal_policy.specs.Pass.Bandwidth.{bandwidth_part, cut_of, cut_at, rise_of, victim_of, victim_rank, core_to_lose, can_lose, task_misses}
-use Rattle.cal_policy.specs.Pass.Grants.{thread_choice, grant_of, preempt_class, idle_class, is_granted_in, is_thread_for, thread_rank}
-use Rattle.cal_policy.proofs.ListLemmas.Counted.{highest_passes, lowest_passes, best_ranked}
-use Rattle.cal_policy.proofs.ListLemmas.EachAfter.{each_append, each_in_turn}
-use Rattle.cal_policy.proofs.PassLemmas.Pairs.{so_far_more}
-use Rattle.cal_policy.specs.Assured.Hyperthreads.{unban_for, unban_at, unbans, due_for, bans_at, bans}
-use Rattle.cal_policy.specs.Assured.Owed.{owed_to, is_task}
-use Rattle.cal_policy.specs.Assured.Short.{are_lacked, waits}
-use Rattle.cal_policy.specs.Assured.Taking.{may_take, open_class, owed_class, open_choice, held_class, held_choice, may_preempt, choice_for}
-use Rattle.cal_policy.specs.Assured.Grants.{grant_at, grant_in_place, grants_of_first}
-use Rattle.cal_policy.specs.Assured.Order.{task_in_place, place_of}
 use Rattle.cal_guarantee.proofs.Sums.{count_some}
 use Rattle.cal_guarantee.proofs.Holders.{Stays, stays_ban, stays_cap, stays_same}
 

@@ -1,7 +1,5 @@
 -- Counts and sums among the numbers below n.
-use Rattle.std.proofs.Common.{◌≡◌, ℕ, ◌+◌, ◌<◌, ◌≤◌, Bool, true, false, cond, refl, ap, arith, ⊎_elim, zero, suc}
-use Rattle.std.proofs.lemmas.Bool.{cases_lt}
-use Rattle.cal_policy.specs.Pass.Choice.{count_below, sum_below}
+use Rattle.cal_guarantee.proofs.Common.{◌≡◌, ℕ, ◌+◌, ◌<◌, ◌≤◌, Bool, true, false, cond, refl, ap, arith, ⊎_elim, zero, suc, cases_lt, count_below, sum_below}
 use Rattle.cal_policy.proofs.ListLemmas.OneNumberMore.{count_within}
 
 -- where each is as great, so is the sum

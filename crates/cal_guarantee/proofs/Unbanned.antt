@@ -1,24 +1,7 @@
 -- After the second part as many cores are open as are lacking, or no free core is banned.
-use Rattle.std.proofs.Common.{◌≡◌, ℕ, ◌<◌, ◌≤◌, ◌⊎◌, Bool, true, false, not, ◌&&◌, cond, ltb, List, [], ◌∷◌, ◌++◌, length, Option, Some, None, refl, ap, sym, ◌∙◌, subst, arith, inl, inr, ⊎_elim, append_assoc, zero, suc}
-use Rattle.std.proofs.lemmas.List.{append-nil}
-use Rattle.std.proofs.lemmas.Bool.{cases_Bool, cases_lt, and_parts, eq-eqb, ltb-false, not-true}
-use Rattle.std.specs.Option.{is_some, unwrap_or}
-use Rattle.cal_machine.specs.Machine.{sibling_of}
-use Rattle.cal_machine.specs.Table.{Table}
-use Rattle.cal_policy.specs.declared.history.action.Action.{Action}
-use Rattle.cal_policy.specs.declared.history.action.Action.TheVariants.{Unban}
+use Rattle.cal_guarantee.proofs.Common.{◌≡◌, ℕ, ◌<◌, ◌≤◌, ◌⊎◌, Bool, true, false, not, ◌&&◌, cond, ltb, List, [], ◌∷◌, ◌++◌, length, Option, Some, None, refl, ap, sym, ◌∙◌, subst, arith, inl, inr, ⊎_elim, append_assoc, zero, suc, append-nil, cases_lt, and_parts, eq-eqb, ltb-false, not-true, is_some, unwrap_or, sibling_of, Table, Action, Unban, holder_of, ban_of, is_banned, in_turn, is_free, Setting, so_far, kept_now, IsSteady, holder_push, ban_push, each_in_turn, so_far_more, unban_for, unban_at, unbans, lacking, open_cores, waits_short, some_waits_short, are_wanted}
 use Rattle.cal_policy.specs.declared.board.bans.BannedFor.{BannedFor}
-use Rattle.cal_policy.specs.History.{holder_of, ban_of, is_banned}
-use Rattle.cal_policy.specs.History.Lists.{in_turn}
-use Rattle.cal_policy.specs.Board.Counts.{is_free}
-use Rattle.cal_policy.specs.Setting.{Setting, so_far, kept_now}
 use Rattle.cal_policy.specs.Pass.Bans.{still_shows}
-use Rattle.cal_policy.specs.Pass.Steady.{IsSteady}
-use Rattle.cal_policy.proofs.HistoryLemmas.OneMore.{holder_push, ban_push}
-use Rattle.cal_policy.proofs.ListLemmas.EachAfter.{each_in_turn}
-use Rattle.cal_policy.proofs.PassLemmas.Pairs.{so_far_more}
-use Rattle.cal_policy.specs.Assured.Hyperthreads.{unban_for, unban_at, unbans}
-use Rattle.cal_policy.specs.Assured.Short.{lacking, open_cores, waits_short, some_waits_short, are_wanted}
 use Rattle.cal_guarantee.proofs.Steps.{IsStep, unban_for_step}
 use Rattle.cal_guarantee.proofs.Counts.{unban_at_most}
 use Rattle.cal_guarantee.proofs.KeptAlong.{NoGrant, AreEnough, enough_step, with_along, some_waits}

@@ -1,17 +1,5 @@
 -- Who is short and waits does so up to its own turn.
-use Rattle.std.proofs.Common.{◌≡◌, ℕ, true, List, [], ◌∷◌, ◌++◌, ap, sym, ◌∙◌, subst, arith, refl}
-use Rattle.cal_policy.specs.declared.history.action.Action.{Action}
-use Rattle.cal_policy.specs.declared.history.action.Action.TheVariants.{Free, Unban, Ban, Revoke, Cap, Grant}
-use Rattle.cal_policy.specs.Board.Counts.{booked_by}
-use Rattle.cal_policy.specs.Setting.{Setting, so_far}
-use Rattle.cal_policy.specs.Pass.Frees.{frees}
-use Rattle.cal_policy.specs.Pass.Made.{EachAfter}
-use Rattle.cal_policy.specs.Pass.Steady.{IsSteady}
-use Rattle.cal_policy.specs.Assured.Pass.{bounded_of}
-use Rattle.cal_policy.specs.Assured.Order.{place_of}
-use Rattle.cal_policy.specs.Assured.Grants.{grants_of_first}
-use Rattle.cal_policy.specs.Assured.Short.{waits_short}
-use Rattle.cal_guarantee.specs.OnePass.{ShortLastsToTheTurn, WaitsLastToTheGrants, WaitsLastToTheTurn}
+use Rattle.cal_guarantee.proofs.Common.{◌≡◌, ℕ, true, List, [], ◌∷◌, ◌++◌, ap, sym, ◌∙◌, subst, arith, refl, Action, Free, Unban, Ban, Revoke, Cap, Grant, booked_by, Setting, so_far, frees, EachAfter, IsSteady, bounded_of, place_of, grants_of_first, waits_short, ShortLastsToTheTurn, WaitsLastToTheGrants, WaitsLastToTheTurn}
 use Rattle.cal_guarantee.proofs.Steps.{IsStep, grants_steps}
 use Rattle.cal_guarantee.proofs.Holders.{moves_revoke, stays_unban, stays_ban, stays_cap}
 use Rattle.cal_guarantee.proofs.Counts.{books_stay, books_left, short_same}

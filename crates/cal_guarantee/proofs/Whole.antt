@@ -1,23 +1,8 @@
 -- A guarantee is given: the passes together.
-use Rattle.std.proofs.Common.{◌≡◌, ℕ, ◌+◌, ◌-◌, ◌<◌, ◌≤◌, ◌⊎◌, true, false, cond, ltb, List, [], length, Some, None, slice_get, refl, ap, sym, ◌∙◌, subst, arith, inl, inr, ⊎_elim, zero, suc}
-use Rattle.std.proofs.lemmas.Bool.{cases_lt, and_from, lt-ltb, eqb-true, and_right, false_from_ne_true}
-use Rattle.cal_machine.specs.Table.{Table}
-use Rattle.cal_policy.specs.declared.history.action.Action.{Action}
+use Rattle.cal_guarantee.proofs.Common.{◌≡◌, ℕ, ◌+◌, ◌-◌, ◌<◌, ◌≤◌, ◌⊎◌, true, false, cond, ltb, List, [], length, Some, None, slice_get, refl, ap, sym, ◌∙◌, subst, arith, inl, inr, ⊎_elim, zero, suc, cases_lt, and_from, lt-ltb, eqb-true, and_right, false_from_ne_true, Table, Action, PassEntry, Holder, actions_of, holder_of, Setting, so_far, frees, leaves_for, IsSteady, is_leaving, IsGiven, GuaranteesAreGiven, owed_to, left_for, open_choice, pass_of, IsServed}
 use Rattle.cal_policy.specs.declared.history.action.Cause.TheVariants as causes
-use Rattle.cal_policy.specs.declared.history.entry.PassEntry.{PassEntry}
-use Rattle.cal_policy.specs.declared.board.holders.Holder.{Holder}
 use Rattle.cal_policy.specs.declared.board.holders.Holder.TheVariants as holders
-use Rattle.cal_policy.specs.History.{actions_of, holder_of}
-use Rattle.cal_policy.specs.Setting.{Setting, so_far}
-use Rattle.cal_policy.specs.Pass.Frees.{frees}
-use Rattle.cal_policy.specs.Pass.Grants.{leaves_for}
-use Rattle.cal_policy.specs.Pass.Steady.{IsSteady}
-use Rattle.cal_assured.specs.Guarantee.{is_leaving, IsGiven, GuaranteesAreGiven}
-use Rattle.cal_policy.specs.Assured.Owed.{owed_to, left_for}
-use Rattle.cal_policy.specs.Assured.Taking.{open_choice}
-use Rattle.cal_policy.specs.Assured.Pass.{pass_of}
 use Rattle.cal_guarantee.specs.Enough.{IsShortOfCores, WaitsFromTo, FirstAndLastAreEnough}
-use Rattle.cal_guarantee.specs.OnePass.{IsServed}
 use Rattle.cal_guarantee.proofs.Freed.{was_left, after_frees, frees_steady}
 use Rattle.cal_guarantee.proofs.Calm.{IsCalm, NoneLeaves, leaves_refl, leaves_chain, calm_frees}
 use Rattle.cal_guarantee.proofs.PassTurns.{before_turn, after_freed, pass_freed, after_steps, ToAny}

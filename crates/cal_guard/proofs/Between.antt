@@ -1,18 +1,8 @@
 -- What stands after the whole passes of a permitted history.
-use Rattle.std.proofs.Common.{◌≤◌, List, length, take, arith, subst}
-use Rattle.std.proofs.Math.Seq.{take-length}
-use Rattle.cal_policy.specs.Pass.Bans.{NoPairBanned}
-use Rattle.cal_policy.specs.declared.history.entry.PassEntry.{PassEntry}
-use Rattle.cal_policy.specs.History.{actions_of}
-use Rattle.cal_policy.specs.Laws.{ActionIsOneMore, LastThreadIsPlaced}
-use Rattle.cal_policy.specs.Pass.Steady.{IsSteady}
+use Rattle.cal_guard.proofs.Common.{◌≤◌, List, length, take, arith, subst, take-length, NoPairBanned, PassEntry, actions_of, ActionIsOneMore, LastThreadIsPlaced, IsSteady, Excludes, excludes_after, PermittedIsSafe, PermittedIsSteady, PermittedIsSafeBetween, held_le_booked}
 use Rattle.cal_laws.specs.Runs.{RunsStand}
-use Rattle.cal_laws.proofs.ExclusionLemmas.Excluded.{Excludes, excludes_after}
 use Rattle.cal_laws.proofs.ExclusionLemmas.Standing.{runs_after}
-use Rattle.cal_guard.specs.Histories.{PermittedIsSafe, PermittedIsSteady}
-use Rattle.cal_guard.specs.Laws.{PermittedIsSafeBetween}
 use Rattle.cal_guard.proofs.Emptying.{mended, apart_after}
-use Rattle.cal_policy.proofs.PassLemmas.Fits.{held_le_booked}
 
 -- what is so after each number of passes is so after all
 whole : (history : List PassEntry) (P : List PassEntry → Type 0) → P (take (length history) history) → P history

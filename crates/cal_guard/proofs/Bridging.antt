@@ -1,36 +1,13 @@
 -- A legal history is permitted, and each of its actions is for its cause: by the laws of cal_laws.
-use Rattle.std.proofs.Common.{◌≡◌, ℕ, ◌+◌, ◌≤◌, Bool, true, false, cond, eqb, List, [], ◌∷◌, ◌++◌, length, take, Some, sym, ap, ◌∙◌, arith, subst, append_assoc, ⊎_elim}
-use Rattle.std.specs.List.{slice_get}
-use Rattle.std.proofs.Math.Seq.{take-length}
-use Rattle.std.proofs.lemmas.Bool.Decides.{nat_tests}
-use Rattle.std.proofs.lemmas.Option.{slice_get_within}
-use Rattle.cal_machine.specs.declared.command.Command.{Command}
-use Rattle.cal_machine.specs.declared.command.Command.TheVariants.{Run, Park}
-use Rattle.cal_machine.specs.Table.{Table, IsTable}
-use Rattle.cal_policy.specs.declared.history.action.Action.{Action}
-use Rattle.cal_policy.specs.declared.history.action.Action.TheVariants.{Free, Unban, Ban, Revoke, Cap, Grant}
+use Rattle.cal_guard.proofs.Common.{◌≡◌, ℕ, ◌+◌, ◌≤◌, Bool, true, false, cond, eqb, List, [], ◌∷◌, ◌++◌, length, take, Some, sym, ap, ◌∙◌, arith, subst, append_assoc, ⊎_elim, slice_get, take-length, nat_tests, slice_get_within, Command, Run, Park, Table, IsTable, Action, Free, Unban, Ban, Revoke, Cap, Grant, PassEntry, actions_of, command_to, sends, sent_to, is_latency_critical, held_by, cap_of, placement_of, so_far, LegalIsSound, LastThreadIsPlaced, Point, IsPoint, made_at, actions_at, next_at, NoneHeld, NoBannedIsGranted, BannedAreEmptyAfterPasses, BannedAreEmptiedAtOnce, BansAreDue, BansEndUnshown, GrantsKeepToCaps, RevocationsLeaveGuarantees, TasksKeepToCaps, last_loser, actions_more, sound_at, MayBeSent, MayBeMade, IsPermitted, core_revoked, LegalIsPermitted, sent_push, sent_grows}
 use Rattle.cal_policy.specs.declared.history.action.Cause.TheVariants as causes
-use Rattle.cal_policy.specs.declared.history.entry.PassEntry.{PassEntry}
-use Rattle.cal_policy.specs.History.{actions_of, command_to, sends, sent_to}
-use Rattle.cal_machine.specs.TableTasks.{is_latency_critical}
-use Rattle.cal_policy.specs.Board.Counts.{held_by, cap_of}
-use Rattle.cal_policy.specs.Board.{placement_of}
-use Rattle.cal_policy.specs.Setting.{so_far}
 use Rattle.cal_policy.specs.Pass.{IsLegal}
-use Rattle.cal_policy.specs.Laws.{LegalIsSound, LastThreadIsPlaced}
 use Rattle.cal_policy.proofs.PassLemmas.Legality.{legal_upto}
-use Rattle.cal_laws.specs.Point.{Point, IsPoint, setting_at, made_at, actions_at, next_at}
-use Rattle.cal_laws.specs.Bans.{NoneHeld, NoBannedIsGranted, BannedAreEmptyAfterPasses, BannedAreEmptiedAtOnce, BansAreDue, BansEndUnshown}
+use Rattle.cal_laws.specs.Point.{setting_at}
 use Rattle.cal_laws.specs.Caps.{CapsAreDue}
 use Rattle.cal_laws.specs.Cause.{RevocationsHaveCause}
-use Rattle.cal_laws.specs.Limits.{GrantsKeepToCaps, RevocationsLeaveGuarantees, TasksKeepToCaps}
 use Rattle.cal_laws.specs.OneEach.{CommandsGoWhereIsRoom, ThreadsAreSentOneCommand, PassesAreShort}
-use Rattle.cal_laws.proofs.ExclusionLemmas.Excluded.{last_loser}
-use Rattle.cal_laws.proofs.PointLemmas.EachAction.{actions_more, sound_at}
-use Rattle.cal_guard.specs.Permitted.{MayBeSent, MayBeMade, IsPermitted, core_revoked}
-use Rattle.cal_guard.specs.Histories.{LegalIsPermitted}
 use Rattle.cal_guard.specs.Causes.{IsForItsCause, LegalIsRight}
-use Rattle.cal_policy.proofs.HistoryLemmas.OneMore.{sent_push, sent_grows}
 use Rattle.cal_machine.proofs.Last.{take_next}
 
 -- the laws that are cited

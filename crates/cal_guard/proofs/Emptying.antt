@@ -1,25 +1,7 @@
 -- What a ban or a cap leaves undone in a permitted history, the next action does.
-use Rattle.std.proofs.Common.{◌≡◌, ℕ, ◌+◌, ◌<◌, ◌≤◌, zero, suc, true, false, List, [], ◌∷◌, ◌++◌, length, take, sym, ap, ◌∙◌, arith, subst, ⊎_elim, ◌⊎◌, inl, inr}
-use Rattle.std.proofs.Math.Seq.{take-length}
-use Rattle.std.proofs.lemmas.Bool.{both_ways, cases_lt}
-use Rattle.std.proofs.lemmas.Option.{slice_get_cases}
-use Rattle.cal_machine.specs.Table.{Table}
-use Rattle.cal_policy.specs.declared.history.action.Action.{Action}
-use Rattle.cal_policy.specs.declared.history.entry.PassEntry.{PassEntry}
-use Rattle.cal_policy.specs.History.{actions_of, holder_of, is_banned}
-use Rattle.cal_policy.specs.Board.Counts.{is_held, held_by, cap_of}
-use Rattle.cal_machine.specs.TableTasks.{is_latency_critical}
-use Rattle.cal_policy.specs.Pass.Bans.{NoPairBanned}
-use Rattle.cal_policy.specs.Setting.{setting_of, so_far}
-use Rattle.cal_policy.proofs.PassLemmas.Apart.{apart_push, none_banned}
-use Rattle.cal_laws.specs.Bans.{NoneHeld}
-use Rattle.cal_laws.specs.Point.{Point, setting_at, made_at, actions_at}
-use Rattle.cal_laws.proofs.PointLemmas.EachAction.{actions_more, after_passes}
-use Rattle.cal_guard.specs.Permitted.{IsPermitted, IsPermittedHistory, NoneOverCap, LeavesNothing}
-use Rattle.cal_guard.specs.Histories.{IsPermittedPoint}
-use Rattle.cal_guard.specs.Laws.{IsRevokedNext, IsLoweredNext}
+use Rattle.cal_guard.proofs.Common.{◌≡◌, ℕ, ◌+◌, ◌<◌, ◌≤◌, zero, suc, true, false, List, [], ◌∷◌, ◌++◌, length, take, sym, ap, ◌∙◌, arith, subst, ⊎_elim, ◌⊎◌, inl, inr, take-length, both_ways, cases_lt, slice_get_cases, Table, Action, PassEntry, actions_of, holder_of, is_banned, is_held, held_by, cap_of, is_latency_critical, NoPairBanned, setting_of, so_far, apart_push, none_banned, NoneHeld, Point, made_at, actions_at, actions_more, after_passes, IsPermitted, IsPermittedHistory, NoneOverCap, LeavesNothing, IsPermittedPoint, IsRevokedNext, IsLoweredNext, none_counted}
+use Rattle.cal_laws.specs.Point.{setting_at}
 use Rattle.cal_guard.proofs.Steady.{each_permitted, permitted_at, at_point}
-use Rattle.cal_policy.proofs.PassLemmas.Steady.{none_counted}
 
 -- no ban and no cap is left undone after the actions x
 pub record IsMended (table : Table) (x : List Action) : Type 0 where

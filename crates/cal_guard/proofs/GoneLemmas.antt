@@ -1,49 +1,23 @@
 -- After a permitted history the record for a thread that is gone fits, is kept, and lets its core be
 -- freed.
-use Rattle.std.proofs.Common.{◌≡◌, ℕ, ◌+◌, ◌<◌, ◌≤◌, ◌^◌, ◌-◌, ◌==◌, ◌&&◌, nat_lt, nat_le, zero, suc, Bool, true, false, cond, List, [], ◌∷◌, length, take, Option, Some, None, slice_get, refl, sym, ap, subst, ◌∙◌, arith, length-append}
+use Rattle.cal_guard.proofs.Common.{◌≡◌, ℕ, ◌+◌, ◌<◌, ◌≤◌, ◌^◌, ◌-◌, ◌==◌, ◌&&◌, nat_lt, nat_le, zero, suc, Bool, true, false, cond, List, [], ◌∷◌, length, take, Option, Some, None, refl, sym, ap, subst, ◌∙◌, arith, length-append, option_map, option_and_then, unwrap_or, is_some, and_parts, leb-true, le-leb, le-ltb, nat_tests, append-nil, slice_get-map, unwrap_if, Table, Run, Park, Action, Free, Holder, Seen, Whole, PassEntry, Input, placement_of, is_free, is_held, held_by, cap_of, actions_of, looks_of, sent_to, holder_of, is_banned, IsOrderly, fits_state, ActionIsOneMore, setting, so_far, kept_now, kept_push, holder_push, ban_push, held_freed, cap_same, IsByLastRun, PermittedIsOrderly, PermittedIsSafeBetween, IsPermitted, IsPermittedHistory, LeavesNothing}
+use Rattle.std.proofs.Common.{slice_get}
 use mathlib.Core.Bool.{true≢false}
-use Rattle.std.specs.Option.{option_map, option_and_then, unwrap_or, is_some}
-use Rattle.std.proofs.lemmas.Bool.{and_parts, leb-true, le-leb, le-ltb}
-use Rattle.std.proofs.lemmas.Bool.Decides.{nat_tests}
-use Rattle.std.proofs.lemmas.List.{append-nil}
-use Rattle.std.proofs.lemmas.Option.{slice_get-map}
-use Rattle.cal_machine.proofs.Booleans.{unwrap_if}
-use Rattle.cal_machine.specs.Table.{Table}
-use Rattle.cal_machine.specs.declared.command.Command.TheVariants.{Run, Park}
 use Rattle.cal_signal.specs.declared.record.Record.{Record}
 use Rattle.cal_signal.specs.declared.shown.Shown.{Shown}
 use Rattle.cal_signal.specs.declared.look.Look.TheVariants as found
 use Rattle.cal_signal.specs.Records.{IsShaped}
 use Rattle.cal_signal.specs.Shown.{IsFitShown}
-use Rattle.cal_policy.specs.declared.history.action.Action.{Action}
-use Rattle.cal_policy.specs.declared.history.action.Action.TheVariants.{Free}
-use Rattle.cal_policy.specs.declared.board.holders.Holder.{Holder}
 use Rattle.cal_policy.specs.declared.board.holders.Holder.TheVariants as holders
 use Rattle.cal_policy.specs.declared.board.holders.Placement as placements
-use Rattle.cal_policy.specs.declared.history.look.Seen.{Seen}
-use Rattle.cal_policy.specs.declared.history.look.Seen.TheVariants.{Whole}
-use Rattle.cal_policy.specs.declared.history.entry.PassEntry.{PassEntry}
-use Rattle.cal_policy.specs.declared.history.input.Input.{Input}
-use Rattle.cal_policy.specs.Board.{placement_of}
-use Rattle.cal_policy.specs.Board.Counts.{is_free, is_held, held_by, cap_of}
 use Rattle.cal_policy.specs.History.Lists.{last_of}
-use Rattle.cal_policy.specs.History.{actions_of, looks_of, sent_to, holder_of, is_banned}
 use Rattle.cal_policy.specs.History.Looks.{last_shown, shown_at, shown_by}
 use Rattle.cal_policy.specs.Judgement.Judging.{judged}
 use Rattle.cal_policy.specs.Judgement.Gone.{shown_when_gone}
-use Rattle.cal_policy.specs.Judgement.Orderly.{IsOrderly, fits_state}
-use Rattle.cal_policy.specs.Laws.{ActionIsOneMore}
 use Rattle.cal_policy.specs.Pass.Frees.{has_left, shows_left}
-use Rattle.cal_policy.specs.Setting.{setting, so_far, kept_now}
-use Rattle.cal_policy.proofs.HistoryLemmas.OneMore.{kept_push, holder_push, ban_push}
 use Rattle.cal_policy.proofs.JudgementLemmas.Gone.{last_of_all, shown_shaped}
 use Rattle.cal_policy.proofs.JudgementLemmas.OneByOne.{only_faults_are_refused}
-use Rattle.cal_laws.proofs.CapLemmas.Held.{held_freed, cap_same}
-use Rattle.cal_laws.specs.Exclusion.{IsByLastRun}
 use Rattle.cal_guard.specs.Gone.{PermittedGoneIsKept, GoneMayBeFreed}
-use Rattle.cal_guard.specs.Histories.{PermittedIsOrderly}
-use Rattle.cal_guard.specs.Laws.{PermittedIsSafeBetween}
-use Rattle.cal_guard.specs.Permitted.{IsPermitted, IsPermittedHistory, LeavesNothing}
 use Rattle.cal_guard.proofs.Emptying.{mended}
 
 -- the looks of a pass of an orderly history

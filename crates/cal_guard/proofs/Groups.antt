@@ -1,13 +1,5 @@
 -- A pass that is taken group by group.
-use Rattle.std.proofs.Common.{◌≡◌, ℕ, ◌+◌, zero, suc, List, [], ◌∷◌, ◌++◌, length, take, Some, sym, ap, ◌∙◌, arith, subst, ⊎_elim, length-append}
-use Rattle.std.specs.List.{slice_get}
-use Rattle.std.proofs.lemmas.List.{take-append-le}
-use Rattle.std.proofs.lemmas.Option.{slice_get_within}
-use Rattle.cal_policy.specs.declared.history.action.Action.{Action}
-use Rattle.cal_policy.specs.Setting.{Setting}
-use Rattle.cal_guard.specs.Permitted.{IsPermitted, ArePermitted}
-use Rattle.cal_guard.specs.Refusals.{MayEndWith}
-use Rattle.cal_guard.specs.Guarded.{GroupsMakeAPass}
+use Rattle.cal_guard.proofs.Common.{◌≡◌, ℕ, ◌+◌, zero, suc, List, [], ◌∷◌, ◌++◌, length, take, Some, sym, ap, ◌∙◌, arith, subst, ⊎_elim, length-append, slice_get, take-append-le, slice_get_within, Action, Setting, IsPermitted, ArePermitted, MayEndWith, GroupsMakeAPass}
 use Rattle.cal_machine.proofs.Places.{slice_get_parts}
 
 -- what stands behind a list stands there when the list comes before it

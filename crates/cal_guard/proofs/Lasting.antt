@@ -1,14 +1,5 @@
 -- A permitted history can always go on.
-use Rattle.std.proofs.Common.{◌≡◌, ℕ, ◌+◌, zero, suc, [], ◌∷◌, ◌++◌, length, take, Some, None, sym, subst, arith, ⊎_elim}
-use Rattle.std.specs.List.{slice_get}
-use Rattle.std.proofs.Math.Seq.{take-append_seam}
-use Rattle.std.proofs.lemmas.List.{append-nil, take-append-le}
-use Rattle.std.proofs.lemmas.Option.{slice_get_within}
-use Rattle.cal_policy.specs.declared.history.entry.PassEntry.{PassEntry}
-use Rattle.cal_policy.specs.History.{actions_of}
-use Rattle.cal_laws.specs.Bans.{NoneHeld}
-use Rattle.cal_guard.specs.Permitted.{NoneOverCap, IsPermittedPass}
-use Rattle.cal_guard.specs.Histories.{DoingNothingIsPermitted, PermittedGoesOn}
+use Rattle.cal_guard.proofs.Common.{◌≡◌, ℕ, ◌+◌, zero, suc, [], ◌∷◌, ◌++◌, length, take, Some, None, sym, subst, arith, ⊎_elim, slice_get, take-append_seam, append-nil, take-append-le, slice_get_within, PassEntry, actions_of, NoneHeld, NoneOverCap, IsPermittedPass, DoingNothingIsPermitted, PermittedGoesOn}
 use Rattle.cal_guard.proofs.Emptying.{mended}
 use Rattle.cal_machine.proofs.Places.{slice_get_parts}
 

@@ -1,3 +1,4 @@
+mod Common
 pub mod AssuredLemmas
 pub mod Steady
 pub mod Sending

@@ -1,25 +1,7 @@
 -- Cores that are held are the machine's.
-use Rattle.std.proofs.Common.{◌≡◌, ℕ, ◌<◌, Bool, true, false, cond, eqb, List, [], ◌∷◌, ◌++◌, length, Option, Some, None, refl, sym, ap, ◌∙◌, arith, subst}
-use Rattle.std.specs.Option.{unwrap_or}
-use Rattle.std.proofs.Math.Seq.{take-length}
-use Rattle.std.proofs.lemmas.Bool.{eqb-true}
-use Rattle.std.proofs.lemmas.List.{append-nil}
-use Rattle.cal_machine.specs.Table.{Table}
-use Rattle.cal_policy.specs.declared.history.action.Action.{Action}
-use Rattle.cal_policy.specs.declared.history.action.Action.TheVariants.{Free, Unban, Ban, Revoke, Cap, Grant}
-use Rattle.cal_policy.specs.declared.history.action.Cause.{Cause}
-use Rattle.cal_policy.specs.declared.history.entry.PassEntry.{PassEntry}
+use Rattle.cal_guard.proofs.Common.{◌≡◌, ℕ, ◌<◌, Bool, true, false, cond, eqb, List, [], ◌∷◌, ◌++◌, length, Option, Some, None, refl, sym, ap, ◌∙◌, arith, subst, unwrap_or, take-length, eqb-true, append-nil, Table, Action, Free, Unban, Ban, Revoke, Cap, Grant, Cause, PassEntry, Holder, actions_of, holder_of, holder_made, last_placement, left_by, placed, is_held, fits_state, holder_push, gives_free, after_passes, IsPermitted, IsPermittedHistory, HeldAreLow}
 use Rattle.cal_policy.specs.declared.board.holders.Placement as placements
-use Rattle.cal_policy.specs.declared.board.holders.Holder.{Holder}
 use Rattle.cal_policy.specs.declared.board.holders.Holder.TheVariants as holders
-use Rattle.cal_policy.specs.History.{actions_of, holder_of, holder_made, last_placement, left_by, placed}
-use Rattle.cal_policy.specs.Board.Counts.{is_held}
-use Rattle.cal_policy.specs.Judgement.Orderly.{fits_state}
-use Rattle.cal_policy.proofs.HistoryLemmas.OneMore.{holder_push}
-use Rattle.cal_laws.proofs.ChoiceLemmas.Granted.{gives_free}
-use Rattle.cal_laws.proofs.PointLemmas.EachAction.{after_passes}
-use Rattle.cal_guard.specs.Permitted.{IsPermitted, IsPermittedHistory}
-use Rattle.cal_guard.specs.Passing.{HeldAreLow}
 use Rattle.cal_guard.proofs.Steady.{each_permitted}
 
 low_by : (table : Table) (c core : ℕ) (b : Bool) (p : placements.Placement) (h : Holder) → eqb core c ≡ b → core < table.cores → (is_held h ≡ true → c < table.cores) →

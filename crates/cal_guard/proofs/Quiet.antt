@@ -1,36 +1,18 @@
 -- After a permitted history a kept record is judged Whole wherever it is found.
-use Rattle.std.proofs.Common.{◌≡◌, ◌≢◌, ℕ, ◌+◌, ◌-◌, ◌<◌, ◌≤◌, Bool, true, false, eqb, leb, ltb, List, [], ◌∷◌, ◌++◌, length, take, Some, eq-eqb, refl, sym, ap, subst, ◌∙◌, arith, ⊎_elim}
-use Rattle.std.specs.Option.{unwrap_or, option_and_then}
-use Rattle.std.proofs.Math.Seq.{take-length}
-use Rattle.std.proofs.lemmas.Bool.{and_from, le-leb}
-use Rattle.std.proofs.lemmas.Bool.Decides.{nat_tests}
-use Rattle.std.proofs.lemmas.List.{nil_from_length}
-use Rattle.std.proofs.lemmas.Option.{slice_get_cases}
-use Rattle.cal_machine.specs.Table.{Table}
+use Rattle.cal_guard.proofs.Common.{◌≡◌, ◌≢◌, ℕ, ◌+◌, ◌-◌, ◌<◌, ◌≤◌, Bool, true, false, eqb, leb, ltb, List, [], ◌∷◌, ◌++◌, length, take, Some, refl, sym, ap, subst, ◌∙◌, arith, ⊎_elim, unwrap_or, option_and_then, take-length, and_from, le-leb, nat_tests, nil_from_length, slice_get_cases, Table, Action, PassEntry, Seen, Whole, Holder, placement_of, actions_of, looks_of, holder_of, sent_to, kept_now, kept_push, shown_push, Point, actions_at, IsPermittedPoint, PermittedIsOrderly, KeptRecordsAreTrue, KeptThreadsAreOnCore, IsPermittedHistory}
+use Rattle.std.proofs.Common.{eq-eqb}
 use Rattle.cal_signal.specs.declared.record.Record.{Record}
 use Rattle.cal_signal.specs.declared.shown.Shown.{Shown}
 use Rattle.cal_signal.specs.declared.look.Look.TheVariants as found
-use Rattle.cal_policy.specs.declared.history.action.Action.{Action}
-use Rattle.cal_policy.specs.declared.history.entry.PassEntry.{PassEntry}
-use Rattle.cal_policy.specs.declared.history.look.Seen.{Seen}
-use Rattle.cal_policy.specs.declared.history.look.Seen.TheVariants.{Whole}
-use Rattle.cal_policy.specs.declared.board.holders.Holder.{Holder}
 use Rattle.cal_policy.specs.declared.board.holders.Holder.TheVariants as holders
 use Rattle.cal_policy.specs.declared.board.holders.Placement as placements
-use Rattle.cal_policy.specs.Board.{placement_of}
-use Rattle.cal_policy.specs.History.{actions_of, looks_of, holder_of, sent_to}
 use Rattle.cal_policy.specs.History.Looks.{kept_by, last_shown, record_to_keep}
 use Rattle.cal_policy.specs.Judgement.Judging.{judged, is_foreign, is_acknowledged_by}
-use Rattle.cal_policy.specs.Setting.{kept_now}
-use Rattle.cal_policy.proofs.HistoryLemmas.OneMore.{kept_push, shown_push}
 use Rattle.cal_laws.specs.Ends.{end_of}
 use Rattle.cal_laws.specs.Kept.{IsOnItsCore}
-use Rattle.cal_laws.specs.Point.{Point, setting_at, actions_at}
+use Rattle.cal_laws.specs.Point.{setting_at}
 use Rattle.cal_laws.proofs.KeptLemmas.Truth.{looks_more}
 use Rattle.cal_laws.proofs.PointLemmas.EndPoints.{is_end}
-use Rattle.cal_guard.specs.Histories.{IsPermittedPoint, PermittedIsOrderly}
-use Rattle.cal_guard.specs.Laws.{KeptRecordsAreTrue, KeptThreadsAreOnCore}
-use Rattle.cal_guard.specs.Permitted.{IsPermittedHistory}
 use Rattle.cal_guard.specs.Settled.{PermittedSettledIsNoNews}
 use Rattle.cal_guard.proofs.GoneLemmas.{last_is_shaped}
 

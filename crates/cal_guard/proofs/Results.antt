@@ -1,8 +1,5 @@
 -- What a call was given, and what is so of its error.
-use Rattle.std.proofs.Common.{◌≡◌, ◌==◌, List, [], ◌∷◌, length, true, Result, Ok, Err, refl, arith}
-use Rattle.std.proofs.lemmas.Bool.{eqb-true}
-use Rattle.std.specs.Prelude.{IfErr}
-use Rattle.cal_policy.specs.declared.history.action.Action.{Action}
+use Rattle.cal_guard.proofs.Common.{◌≡◌, ◌==◌, List, [], ◌∷◌, length, true, Result, Ok, Err, refl, arith, eqb-true, IfErr, Action}
 
 -- what follows from what is so of an error is so of it
 pub if_err : {X Y : Type 0} (r : Result X Y) (P Q : Y → Type 0) → ((why : Y) → P why → Q why) → IfErr r P → IfErr r Q

@@ -1,21 +1,6 @@
 -- What a permitted action sends: at most one command, to a thread that may be sent one.
-use Rattle.std.proofs.Common.{◌≡◌, ℕ, ◌+◌, ◌<◌, ◌≤◌, Bool, true, false, cond, eqb, List, [], ◌∷◌, ◌++◌, length, take, Option, Some, sym, ap, arith, subst, ⊎_elim, refl}
-use Rattle.std.proofs.lemmas.Bool.{eqb-true, cases_lt}
-use Rattle.cal_machine.specs.declared.command.Command.{Command}
-use Rattle.cal_machine.specs.declared.command.Command.TheVariants.{Run, Park}
-use Rattle.cal_policy.specs.declared.history.action.Action.{Action}
-use Rattle.cal_policy.specs.declared.history.action.Action.TheVariants.{Free, Unban, Ban, Revoke, Cap, Grant}
-use Rattle.cal_policy.specs.History.{actions_of, command_to, sends, sent_to}
-use Rattle.cal_policy.specs.Board.{placement_of}
-use Rattle.cal_policy.specs.Setting.{Setting, so_far}
-use Rattle.cal_policy.specs.Pass.Steady.{IsSteady}
-use Rattle.cal_policy.specs.Laws.{LastThreadIsPlaced}
-use Rattle.cal_policy.proofs.HistoryLemmas.OneMore.{sent_push}
-use Rattle.cal_laws.specs.Point.{Point, actions_at, setting_at}
-use Rattle.cal_laws.proofs.ExclusionLemmas.Excluded.{last_loser}
-use Rattle.cal_laws.proofs.PointLemmas.EachAction.{within_pass}
-use Rattle.cal_guard.specs.Permitted.{MayBeSent, MayBeMade, IsPermitted}
-use Rattle.cal_guard.specs.Histories.{IsPermittedPoint, PermittedIsSafe}
+use Rattle.cal_guard.proofs.Common.{◌≡◌, ℕ, ◌+◌, ◌<◌, ◌≤◌, Bool, true, false, cond, eqb, List, [], ◌∷◌, ◌++◌, length, take, Option, Some, sym, ap, arith, subst, ⊎_elim, refl, eqb-true, cases_lt, Command, Run, Park, Action, Free, Unban, Ban, Revoke, Cap, Grant, actions_of, command_to, sends, sent_to, placement_of, Setting, so_far, IsSteady, LastThreadIsPlaced, sent_push, Point, actions_at, last_loser, within_pass, MayBeSent, MayBeMade, IsPermitted, IsPermittedPoint, PermittedIsSafe}
+use Rattle.cal_laws.specs.Point.{setting_at}
 use Rattle.cal_guard.proofs.Steady.{each_permitted}
 
 -- at most one command to thread k, and that only where the thread may be sent one

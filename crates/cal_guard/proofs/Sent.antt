@@ -1,23 +1,7 @@
 -- Which threads were sent a command in a pass, one action more.
-use Rattle.std.proofs.Common.{◌≡◌, ℕ, ◌+◌, ◌<◌, ◌≤◌, Bool, true, false, cond, ◌||◌, eqb, ltb, List, [], ◌∷◌, ◌++◌, length, Option, Some, None, refl, sym, ap, subst, ◌∙◌, arith, append_assoc}
-use Rattle.std.specs.Option.{option_map, IfSome}
-use Rattle.std.proofs.lemmas.Bool.{eqb-true, eq-eqb}
-use Rattle.std.proofs.lemmas.Bool.Decides.{nat_tests}
-use Rattle.std.proofs.lemmas.List.{append-nil}
-use Rattle.cal_machine.specs.declared.command.Command.{Command}
-use Rattle.cal_machine.specs.declared.command.Command.TheVariants.{Run, Park}
+use Rattle.cal_guard.proofs.Common.{◌≡◌, ℕ, ◌+◌, ◌<◌, ◌≤◌, Bool, true, false, cond, ◌||◌, eqb, ltb, List, [], ◌∷◌, ◌++◌, length, Option, Some, None, refl, sym, ap, subst, ◌∙◌, arith, append_assoc, option_map, IfSome, eqb-true, eq-eqb, nat_tests, append-nil, Command, Run, Park, has_thread, Action, Free, Unban, Ban, Revoke, Cap, Grant, Cause, actions_of, addressed_to, sends, sent_to, command_to, last_thread, last_placement, kept_placement, NamesCores, Setting, so_far, sent_push, sent_grows, last_thread_placement, was_sent, is_core, IsSetOfSent}
 use Rattle.cal_machine.specs.declared.thread_set.ThreadSet.{ThreadSet}
-use Rattle.cal_machine.specs.ThreadSet.{has_thread}
-use Rattle.cal_policy.specs.declared.history.action.Action.{Action}
-use Rattle.cal_policy.specs.declared.history.action.Action.TheVariants.{Free, Unban, Ban, Revoke, Cap, Grant}
-use Rattle.cal_policy.specs.declared.history.action.Cause.{Cause}
 use Rattle.cal_policy.specs.declared.board.holders.Placement as placements
-use Rattle.cal_policy.specs.History.{actions_of, addressed_to, sends, sent_to, command_to, last_thread, last_placement}
-use Rattle.cal_policy.specs.Board.{kept_placement, NamesCores}
-use Rattle.cal_policy.specs.Setting.{Setting, so_far}
-use Rattle.cal_policy.proofs.HistoryLemmas.OneMore.{sent_push, sent_grows, last_thread_placement}
-use Rattle.cal_guard.specs.Refusals.{was_sent, is_core}
-use Rattle.cal_guard.specs.Passing.{IsSetOfSent}
 use Rattle.cal_policy.proofs.BoardLemmas.AsKept.{thread_as_kept}
 use Rattle.cal_policy.proofs.HistoryLemmas.FreshCores.{eqb_swap}
 

@@ -1,16 +1,5 @@
 -- The board stands in a pass: as it begins, and one action more.
-use Rattle.std.proofs.Common.{◌≡◌, List, [], ◌∷◌, ◌++◌, subst, append_assoc, sym, ◌∙◌}
-use Rattle.cal_policy.specs.declared.history.action.Action.{Action}
-use Rattle.cal_policy.specs.declared.history.input.Input.{Input}
-use Rattle.cal_policy.specs.declared.board.Board.{Board}
-use Rattle.cal_policy.specs.History.{actions_of, looks_of}
-use Rattle.cal_policy.specs.Setting.{Setting, so_far}
-use Rattle.cal_policy.specs.Board.{HasGranted, KeepsBefore}
-use Rattle.cal_policy.specs.State.{Stands, Agrees, KeepingAgrees}
-use Rattle.cal_policy.specs.declared.history.look.Seen.{Seen}
-use Rattle.cal_policy.proofs.PassLemmas.FromParts.{Stands_begin, Stands_end}
-use Rattle.cal_policy.proofs.HistoryLemmas.OneMore.{kept_push, shown_push}
-use Rattle.cal_guard.specs.Passing.{next_setting}
+use Rattle.cal_guard.proofs.Common.{◌≡◌, List, [], ◌∷◌, ◌++◌, subst, append_assoc, sym, ◌∙◌, Action, Input, Board, actions_of, looks_of, Setting, so_far, HasGranted, KeepsBefore, Stands, Agrees, KeepingAgrees, Seen, Stands_begin, Stands_end, kept_push, shown_push, next_setting}
 
 pub stands_more : (b new : Board) (s : Setting) (acts : List Action) (a : Action) → Stands b s acts → new.keeping ≡ b.keeping → Agrees new (so_far s acts ++ a ∷ []) →
     HasGranted new.fresh (acts ++ a ∷ []) → Stands new s (acts ++ a ∷ [])

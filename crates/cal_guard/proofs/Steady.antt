@@ -1,24 +1,7 @@
 -- Permitted histories are steady, and safe.
-use Rattle.std.proofs.Common.{◌≡◌, ℕ, ◌&&◌, ltb, List, [], ◌∷◌, ◌++◌, take, Some, arith}
-use Rattle.std.specs.List.{slice_get}
-use Rattle.std.proofs.lemmas.Bool.{and_parts}
-use Rattle.std.proofs.lemmas.Option.{slice_get_within}
-use Rattle.cal_machine.specs.Table.{Table}
-use Rattle.cal_policy.specs.declared.history.action.Action.{Action}
-use Rattle.cal_policy.specs.declared.history.action.Action.TheVariants.{Free, Unban, Ban, Revoke, Cap, Grant}
-use Rattle.cal_policy.specs.declared.history.entry.PassEntry.{PassEntry}
-use Rattle.cal_policy.specs.History.{holder_of}
-use Rattle.cal_policy.specs.Board.Counts.{is_held}
-use Rattle.cal_policy.specs.Setting.{Setting, setting_of, so_far}
-use Rattle.cal_policy.specs.Pass.Steady.{IsSteady}
-use Rattle.cal_policy.specs.Judgement.Orderly.{names_table}
-use Rattle.cal_policy.proofs.PassLemmas.Steady.{Steady_start, Steady_shrinks, Steady_grant, Shrinks_free, Shrinks_unban, Shrinks_ban, Shrinks_cap, Shrinks_revoke}
-use Rattle.cal_laws.specs.Point.{Point, actions_at, setting_at, made_at, next_at}
+use Rattle.cal_guard.proofs.Common.{◌≡◌, ℕ, ◌&&◌, ltb, List, [], ◌∷◌, ◌++◌, take, Some, arith, slice_get, and_parts, slice_get_within, Table, Action, Free, Unban, Ban, Revoke, Cap, Grant, PassEntry, holder_of, is_held, Setting, setting_of, so_far, IsSteady, names_table, Steady_start, Steady_shrinks, Steady_grant, Shrinks_free, Shrinks_unban, Shrinks_ban, Shrinks_cap, Shrinks_revoke, Point, actions_at, made_at, next_at, gives_free, IsKeptUp, within_pass, after_passes, always, IsPermitted, IsPermittedHistory, IsPermittedPoint, PermittedIsSafe, PermittedIsSteady, PermittedIsOrderly}
+use Rattle.cal_laws.specs.Point.{setting_at}
 use Rattle.cal_laws.specs.Safe.{EachAction, IsSafe, IsSafePoint, FreesWhatWasLeft}
-use Rattle.cal_laws.proofs.ChoiceLemmas.Granted.{gives_free}
-use Rattle.cal_laws.proofs.PointLemmas.EachAction.{IsKeptUp, within_pass, after_passes, always}
-use Rattle.cal_guard.specs.Permitted.{IsPermitted, IsPermittedHistory}
-use Rattle.cal_guard.specs.Histories.{IsPermittedPoint, PermittedIsSafe, PermittedIsSteady, PermittedIsOrderly}
 
 -- each action is permitted at its place
 pub each_permitted : (table : Table) (history : List PassEntry) → IsPermittedHistory table history → EachAction IsPermitted table history

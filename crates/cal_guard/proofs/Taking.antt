@@ -1,13 +1,5 @@
 -- Actions that are taken one by one.
-use Rattle.std.proofs.Common.{◌≡◌, ℕ, ◌<◌, List, [], ◌++◌, length, take, Some, None, arith, length-append}
-use Rattle.std.specs.List.{slice_get}
-use Rattle.std.proofs.lemmas.List.{length-take-le}
-use Rattle.cal_policy.specs.declared.history.action.Action.{Action}
-use Rattle.cal_policy.specs.Setting.{Setting}
-use Rattle.cal_guard.specs.declared.passing.Passing.{Passing}
-use Rattle.cal_guard.specs.Permitted.{IsPermitted, ArePermitted}
-use Rattle.cal_guard.specs.Refusals.{MayEndWith, wrong_with}
-use Rattle.cal_guard.specs.Passing.{IsInside}
+use Rattle.cal_guard.proofs.Common.{◌≡◌, ℕ, ◌<◌, List, [], ◌++◌, length, take, Some, None, arith, length-append, slice_get, length-take-le, Action, Setting, Passing, IsPermitted, ArePermitted, MayEndWith, wrong_with, IsInside}
 use Rattle.cal_guard.proofs.Wrong.{right_back}
 
 -- the first n of these are taken: each was permitted at its place

@@ -1,36 +1,14 @@
 -- What is true of a state is true of its twin.
-use Rattle.std.proofs.Common.{◌≡◌, ℕ, ◌+◌, ◌<◌, zero, suc, cond, List, [], ◌∷◌, length, Option, Some, None, get_or, refl, sym, ap, subst, ◌∙◌, arith, ⊎_elim}
-use Rattle.std.specs.List.{slice_get}
-use Rattle.std.specs.Option.{IfSome}
-use Rattle.std.proofs.lemmas.Bool.{cases_lt}
-use Rattle.std.proofs.lemmas.List.{get_or_past}
-use Rattle.cal_machine.specs.Table.{Table}
-use Rattle.cal_machine.specs.TableTasks.{threads_of_table}
-use Rattle.cal_machine.specs.ThreadSet.{has_thread}
-use Rattle.cal_policy.specs.declared.history.action.Action.{Action}
-use Rattle.cal_policy.specs.declared.history.entry.PassEntry.{PassEntry}
-use Rattle.cal_policy.specs.declared.history.look.Seen.{Seen}
-use Rattle.cal_policy.specs.declared.history.look.Seen.TheVariants.{Busy}
-use Rattle.cal_policy.specs.declared.board.Board.{Board}
-use Rattle.cal_policy.specs.declared.board.holders.Holder.{Holder}
+use Rattle.cal_guard.proofs.Common.{◌≡◌, ℕ, ◌+◌, ◌<◌, zero, suc, cond, List, [], ◌∷◌, length, Option, Some, None, get_or, refl, sym, ap, subst, ◌∙◌, arith, ⊎_elim, slice_get, IfSome, option_map, cases_lt, get_or_past, Table, threads_of_table, has_thread, Action, PassEntry, Seen, Busy, Board, Holder, is_thread_for, Setting, placement_of, holder_in, IsReady, IsStateAfter, Stands, Agrees, KeepingAgrees, Listed, Noted, Passing, IsInside, AreShown, AreTwins, IsSpareOf, HasPlaces}
 use Rattle.cal_policy.specs.declared.board.holders.Holder.TheVariants as holders
 use Rattle.cal_policy.specs.declared.board.holders.Placement as placements
-use Rattle.std.specs.Option.{option_map}
 use Rattle.cal_policy.specs.Board.RecentCores.{last_thread_in}
-use Rattle.cal_policy.specs.Pass.Grants.{is_thread_for}
 use Rattle.cal_policy.specs.declared.board.bans.BannedFor as bans
 use Rattle.cal_policy.specs.declared.judgement.open_pass.OpenPass.{OpenPass}
 use Rattle.cal_policy.specs.Judgement.OpenPass.{noted_in}
-use Rattle.cal_policy.specs.Setting.{Setting}
-use Rattle.cal_policy.specs.Board.{placement_of, holder_in}
 use Rattle.cal_policy.specs.declared.board.records.Keeping.{Keeping}
-use Rattle.cal_policy.specs.State.{IsReady, IsStateAfter, Stands, Agrees, KeepingAgrees}
 use Rattle.cal_policy.specs.Board.Survey.{Surveys}
 use Rattle.cal_guard.specs.declared.pass_looks.PassLooks.{PassLooks}
-use Rattle.cal_guard.specs.declared.pass_looks.PassLooks.TheVariants.{Listed, Noted}
-use Rattle.cal_guard.specs.declared.passing.Passing.{Passing}
-use Rattle.cal_guard.specs.Passing.{IsInside, AreShown}
-use Rattle.cal_guard.specs.Spare.{AreTwins, IsSpareOf, HasPlaces}
 
 -- two boards that agree with the same actions agree with the same others
 agree_alike : (a b : Board) (x y : List Action) → Agrees a x → Agrees b x → Agrees a y → Agrees b y

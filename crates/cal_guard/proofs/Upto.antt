@@ -1,10 +1,6 @@
 -- Permitted histories, pass by pass.
-use Rattle.std.proofs.Common.{◌≡◌, ℕ, ◌<◌, ◌≤◌, List, length, get_or, take, Some, slice_get, sym, subst, ◌∙◌, arith, refl}
-use Rattle.std.proofs.lemmas.List.{length-take-le, get_or-take, take-take}
-use Rattle.std.proofs.lemmas.Option.{slice_get_within, slice_get_read, get_or_from_slice_get}
-use Rattle.cal_machine.specs.Table.{Table}
-use Rattle.cal_policy.specs.declared.history.entry.PassEntry.{PassEntry}
-use Rattle.cal_guard.specs.Permitted.{IsPermittedPass, IsPermittedHistory}
+use Rattle.cal_guard.proofs.Common.{◌≡◌, ℕ, ◌<◌, ◌≤◌, List, length, get_or, take, Some, sym, subst, ◌∙◌, arith, refl, length-take-le, get_or-take, take-take, slice_get_within, slice_get_read, get_or_from_slice_get, Table, PassEntry, IsPermittedPass, IsPermittedHistory}
+use Rattle.std.proofs.Common.{slice_get}
 
 -- where each of the first n entries is a pass after those before it, they are a permitted history
 pub permitted_upto : (table : Table) (history : List PassEntry) (n : ℕ) → n ≤ length history →

@@ -1,31 +1,10 @@
 -- Nothing is wrong with an action exactly where it is permitted.
-use Rattle.std.proofs.Common.{◌≡◌, ℕ, ◌<◌, zero, suc, Bool, true, false, ◌&&◌, ◌||◌, not, eqb, ltb, nat_lt, List, length, Option, Some, None, refl, sym, ap, ◌∙◌, arith, subst, ⊎_elim}
-use Rattle.std.specs.Option.{option_or, option_map}
-use Rattle.std.proofs.lemmas.Bool.{and_from, not-true, ltb-true, ltb-false, lt-ltb, eqb-true, cases_lt, both_ways, not_from_false}
-use Rattle.std.proofs.lemmas.Bool.Decides.{nat_tests}
-use Rattle.std.proofs.lemmas.List.{get_or_past}
+use Rattle.cal_guard.proofs.Common.{◌≡◌, ℕ, ◌<◌, zero, suc, Bool, true, false, ◌&&◌, ◌||◌, not, eqb, ltb, nat_lt, List, length, Option, Some, None, refl, sym, ap, ◌∙◌, arith, subst, ⊎_elim, option_or, option_map, and_from, not-true, ltb-true, ltb-false, lt-ltb, eqb-true, cases_lt, both_ways, not_from_false, nat_tests, get_or_past, Table, owner_of, limit_of, is_latency_critical, is_critical_kind, Action, Free, Unban, Ban, Revoke, Cap, Grant, Holder, lowest_below, first_or, actions_of, holder_of, sent_to, is_banned, is_held, is_held_for, held_by, booked_by, cap_of, is_over, Setting, so_far, has_room, fits_state, MayBookMore, books, TooMany, DoesNotFit, NotLeft, Banned, AtLimit, AtCap, AtGuarantee, NoRoom, SecondCommand, BannedHeld, OverCap, MayBeSent, MayBeRevoked, MayBeGranted, MayBeMade, IsPermitted, LeavesNothing, core_revoked, unless, was_sent, wrong_to_send, wrong_to_revoke, wrong_to_book, wrong_to_grant, wrong_to_make, is_core, is_left_held, is_from, is_left_over, left_undone, wrong_with, HeldAreLow, sent_grows}
 use Rattle.cal_machine.specs.Tasks.{no_task}
 use Rattle.cal_machine.specs.declared.task.Task.{Task}
-use Rattle.cal_machine.specs.Table.{Table}
-use Rattle.cal_machine.specs.TableTasks.{owner_of, limit_of, is_latency_critical, is_critical_kind}
-use Rattle.cal_policy.specs.declared.history.action.Action.{Action}
-use Rattle.cal_policy.specs.declared.history.action.Action.TheVariants.{Free, Unban, Ban, Revoke, Cap, Grant}
-use Rattle.cal_policy.specs.declared.board.holders.Holder.{Holder}
 use Rattle.cal_policy.specs.declared.board.holders.Holder.TheVariants as holders
-use Rattle.cal_policy.specs.Pass.Choice.{lowest_below, first_or}
-use Rattle.cal_policy.specs.History.{actions_of, holder_of, sent_to, is_banned}
-use Rattle.cal_policy.specs.Board.Counts.{is_held, is_held_for, held_by, booked_by, cap_of, is_over}
-use Rattle.cal_policy.specs.Setting.{Setting, so_far, has_room}
-use Rattle.cal_policy.specs.Judgement.Orderly.{fits_state}
-use Rattle.cal_laws.specs.Limits.{MayBookMore}
 use Rattle.cal_laws.proofs.ListLemmas.Below.{none_passes}
-use Rattle.cal_laws.proofs.ChoiceLemmas.Granted.{books}
 use Rattle.cal_guard.specs.declared.refusal.Why.{Why}
-use Rattle.cal_guard.specs.declared.refusal.Why.TheVariants.{TooMany, DoesNotFit, NotLeft, Banned, AtLimit, AtCap, AtGuarantee, NoRoom, SecondCommand, BannedHeld, OverCap}
-use Rattle.cal_guard.specs.Permitted.{MayBeSent, MayBeRevoked, MayBeGranted, MayBeMade, IsPermitted, LeavesNothing, core_revoked}
-use Rattle.cal_guard.specs.Refusals.{unless, was_sent, wrong_to_send, wrong_to_revoke, wrong_to_book, wrong_to_grant, wrong_to_make, is_core, is_left_held, is_from, is_left_over, left_undone, wrong_with}
-use Rattle.cal_guard.specs.Passing.{HeldAreLow}
-use Rattle.cal_policy.proofs.HistoryLemmas.OneMore.{sent_grows}
 
 -- nothing is wrong where neither is
 both_none : {X : Type 0} (a b : Option X) → option_or a b ≡ None → (a ≡ None) × (b ≡ None)

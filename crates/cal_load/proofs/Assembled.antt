@@ -1,20 +1,9 @@
 -- Passes, turns and requests, put together as arrivals.
-use Rattle.std.proofs.Common.{◌≡◌, ◌∙◌, ◌<◌, ◌≤◌, ◌+◌, ◌*◌, ℕ, List, Some, length, get_or, slice_get, sym, subst, arith}
+use Rattle.cal_load.proofs.Common.{◌≡◌, ◌∙◌, ◌<◌, ◌≤◌, ◌+◌, ◌*◌, ℕ, List, Some, length, get_or, slice_get, sym, subst, arith, slice_get-get_or, AreBuilt, Came, IsTiming, ArePassesOf, AreTurnsOf, clock_to, turn_clock, Timing, Table, threads_in, IsArrival, FitsTable, Each, Arrival, GivenPass}
 use Rattle.std.proofs.Math.Nat.{mul-le-mul_left}
-use Rattle.std.proofs.lemmas.Option.{slice_get-get_or}
 use Rattle.cal_came.specs.Came.{clock_of}
-use Rattle.cal_load.specs.Built.{AreBuilt}
-use Rattle.cal_came.specs.declared.came.Came.{Came}
-use Rattle.cal_load.specs.Clocks.{IsTiming, ArePassesOf, AreTurnsOf, clock_to, turn_clock}
-use Rattle.cal_load.specs.declared.clocks.Timing.{Timing}
-use Rattle.cal_machine.specs.Table.{Table}
-use Rattle.cal_machine.specs.Tasks.{threads_in}
-use Rattle.cal_trace.specs.Arrivals.FitsTable.{IsArrival, FitsTable}
 use Rattle.cal_trace.specs.Arrivals.Text.{AreSpelled}
-use Rattle.cal_trace.specs.History.Ranges.{Each}
-use Rattle.cal_trace.specs.declared.arrivals.Arrival.{Arrival}
 use Rattle.cal_trace.specs.declared.arrivals.Arrivals.{Arrivals}
-use Rattle.cal_trace.specs.declared.arrivals.GivenPass.{GivenPass}
 use Rattle.cal_load.proofs.ClockLemmas.{pass_words, turn_words, clocks_some, clocks_rise}
 
 abbrev pub assembled : List GivenPass → List ℕ → List Arrival → Arrivals

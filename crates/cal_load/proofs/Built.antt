@@ -1,18 +1,9 @@
 -- Requests with one more at their end.
-use Rattle.std.proofs.Common.{◌≡◌, ◌<◌, ◌≤◌, ◌+◌, ◌^◌, inl, inr, ℕ, zero, suc, List, [], ◌∷◌, ◌++◌, length, take, get_or, Option, Some, None, slice_get, ◌-◌, ◌∙◌, refl, ap, sym, subst, arith, length-append}
-use Rattle.std.proofs.lemmas.List.{take_more}
-use Rattle.std.proofs.lemmas.Option.{slice_get-get_or}
-use Rattle.cal_machine.proofs.Last.{slice_get-last}
-use Rattle.cal_load.specs.Built.{IsBefore, HasIdTo, AreBuiltTo, AreBuilt}
-use Rattle.cal_load.specs.Comings.{IsEarlier, IsSlot}
+use Rattle.cal_load.proofs.Common.{◌≡◌, ◌<◌, ◌≤◌, ◌+◌, ◌^◌, inl, inr, ℕ, zero, suc, List, [], ◌∷◌, ◌++◌, length, take, get_or, Option, Some, None, slice_get, ◌-◌, ◌∙◌, refl, ap, sym, subst, arith, length-append, take_more, slice_get-get_or, slice_get-last, IsBefore, HasIdTo, AreBuiltTo, AreBuilt, IsEarlier, IsSlot, EachLater, IsArrival, ComesBefore, HaveTwoIds, Each, Arrival, each_push}
 use Rattle.cal_load.specs.declared.making.Slot.{Slot}
 use Rattle.cal_trace.specs.Arrivals.{last_in}
-use Rattle.cal_trace.specs.Arrivals.FitsTable.{EachLater, IsArrival, ComesBefore, HaveTwoIds}
-use Rattle.cal_trace.specs.History.Ranges.{Each}
-use Rattle.cal_trace.specs.declared.arrivals.Arrival.{Arrival}
 use Rattle.cal_trace.specs.declared.arrivals.reading.TheConstants.{MOST_WORK, MOST_REQUEST_MISSES}
 use Rattle.cal_trace.proofs.ListLemmas.EachLater.{later_push}
-use Rattle.cal_trace.proofs.ListLemmas.EachOne.{each_push}
 
 comes : (thread turn : ℕ) (a b : Arrival) → b.thread ≡ thread → turn ≤ b.turn → IsBefore thread turn a → ComesBefore a b
 comes thread turn a b same after (inl lt) = inl (omega (arith, same, lt))

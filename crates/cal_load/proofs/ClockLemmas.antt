@@ -1,14 +1,8 @@
 -- The clocks of a run that is made: how great they are, and that they never fall.
-use Rattle.std.proofs.Common.{◌≡◌, ◌<◌, ◌≤◌, ◌+◌, ◌*◌, ℕ, List, length, Some, slice_get, ap, arith}
+use Rattle.cal_load.proofs.Common.{◌≡◌, ◌<◌, ◌≤◌, ◌+◌, ◌*◌, ℕ, List, length, Some, slice_get, ap, arith, slice_get_within, IsTiming, ArePassesOf, AreTurnsOf, Timing, EachLater, Each, IsWord, GivenPass}
 use Rattle.std.proofs.Math.Nat.{mul-le-mul, mul-le-mul_left}
-use Rattle.std.proofs.lemmas.Option.{slice_get_within}
-use Rattle.cal_load.specs.Clocks.{IsTiming, ArePassesOf, AreTurnsOf}
-use Rattle.cal_load.specs.declared.clocks.Timing.{Timing}
-use Rattle.cal_trace.specs.Arrivals.FitsTable.{EachLater}
 use Rattle.cal_trace.specs.Arrivals.Text.{HasPassWords}
 use Rattle.cal_trace.specs.Limits.{most_turns-is}
-use Rattle.cal_trace.specs.History.Ranges.{Each, IsWord}
-use Rattle.cal_trace.specs.declared.arrivals.GivenPass.{GivenPass}
 
 -- a whole number of turns is no more than all of them
 pub clock_small : (timing : Timing) (k : ℕ) → IsTiming timing → k < timing.turns → timing.ticks * (k + 1) ≤ 1000000000 * 174762

@@ -1,26 +1,8 @@
 -- Requests with more at their end, and the counts of what came to some tasks with one more.
-use Rattle.std.proofs.Common.{◌≡◌, ◌≢◌, ◌<◌, ◌≤◌, ◌+◌, ◌∙◌, ◌⊎◌, inl, inr, ℕ, List, [], ◌∷◌, ◌++◌, All, length, Some, slice_get, refl, ap, sym, subst, append_assoc, arith, length-append}
-use Rattle.std.proofs.lemmas.List.{append-nil}
-use Rattle.std.proofs.lemmas.List.Sums.{sum_by_push}
+use Rattle.cal_load.proofs.Common.{◌≡◌, ◌≢◌, ◌<◌, ◌≤◌, ◌+◌, ◌∙◌, ◌⊎◌, inl, inr, ℕ, List, [], ◌∷◌, ◌++◌, All, length, Some, slice_get, refl, ap, sym, subst, append_assoc, arith, length-append, append-nil, sum_by_push, slice_get_within, AreBuilt, HasMoreFor, IsComingTo, IsQueue, came_in, count_of, AreCountedBy, AreCountsOf, AreGathered, HasCount, IsCountOf, IsLoadCount, IsLoadOf, IsPut, Count, Gathered, MOST_REQUESTS, Coming, TaskLoad, Table, first_thread, task_at, threads_in, slice_get-last, slice_get-other, Each, Arrival, each_first, each_other, each_cons, each_push}
 use Rattle.std.proofs.lemmas.Bool.{cases_eq}
-use Rattle.std.proofs.lemmas.Option.{slice_get_within}
-use Rattle.cal_load.specs.Built.{AreBuilt, HasMoreFor}
-use Rattle.cal_load.specs.Comings.{IsComingTo, IsQueue}
-use Rattle.cal_load.specs.Counts.{came_in, count_of}
-use Rattle.cal_load.specs.Made.{AreCountedBy, AreCountsOf, AreGathered, HasCount, IsCountOf, IsLoadCount, IsLoadOf, IsPut}
-use Rattle.cal_load.specs.declared.made.Count.{Count}
-use Rattle.cal_load.specs.declared.made.Gathered.{Gathered}
-use Rattle.cal_load.specs.declared.made.TheConstants.{MOST_REQUESTS}
-use Rattle.cal_load.specs.declared.making.Coming.{Coming}
-use Rattle.cal_load.specs.declared.making.TaskLoad.{TaskLoad}
-use Rattle.cal_machine.specs.Table.{Table}
-use Rattle.cal_machine.specs.Tasks.{first_thread, task_at, threads_in}
-use Rattle.cal_machine.proofs.Last.{slice_get-last, slice_get-other}
 use Rattle.cal_machine.proofs.ThreadNumbers.{first_next, next_le, task_there}
-use Rattle.cal_trace.specs.History.Ranges.{Each}
-use Rattle.cal_trace.specs.declared.arrivals.Arrival.{Arrival}
 use Rattle.cal_trace.proofs.ListLemmas.EachLater.{later_push}
-use Rattle.cal_trace.proofs.ListLemmas.EachOne.{each_first, each_other, each_cons, each_push}
 use Rattle.cal_load.proofs.Built.{built_from}
 
 each_append : {X : Type 0} (P : X → Type 0) (xs ys : List X) → Each P xs → Each P ys → Each P (xs ++ ys)

@@ -1,3 +1,4 @@
+mod Common
 mod Assembled
 mod Built
 mod ClockLemmas

@@ -1,22 +1,7 @@
 -- The rows of a task in a log, and what comes to the tasks of a table by a log, with one more.
-use Rattle.std.proofs.Common.{◌≡◌, ◌≢◌, ◌<◌, ◌≤◌, ◌+◌, ◌∙◌, ⊎_elim, ℕ, List, [], ◌∷◌, ◌++◌, length, take, Some, slice_get, cond, eqb, not, refl, ap, sym, subst, arith, length-append}
+use Rattle.cal_load.proofs.Common.{◌≡◌, ◌≢◌, ◌<◌, ◌≤◌, ◌+◌, ◌∙◌, ⊎_elim, ℕ, List, [], ◌∷◌, ◌++◌, length, take, Some, slice_get, cond, eqb, not, refl, ap, sym, subst, arith, length-append, append-nil, length-take, filter_more, get_or_from_slice_get, slice_get_within, AreBuilt, IsComingTo, count_of, AreGiven, AreOfTasks, IsLogCount, rows_for, IsPut, LogRow, Count, Gathered, Coming, Table, first_thread, task_at, threads_in, last_or_before}
 use Rattle.std.proofs.lemmas.Bool.{eq-eqb, ne_eqb}
-use Rattle.std.proofs.lemmas.List.{append-nil, length-take}
-use Rattle.std.proofs.lemmas.List.Elements.{filter_more}
 use Rattle.std.proofs.lemmas.List.Filters.{length-filter_both}
-use Rattle.std.proofs.lemmas.Option.{get_or_from_slice_get, slice_get_within}
-use Rattle.cal_load.specs.Built.{AreBuilt}
-use Rattle.cal_load.specs.Comings.{IsComingTo}
-use Rattle.cal_load.specs.Counts.{count_of}
-use Rattle.cal_load.specs.Logs.{AreGiven, AreOfTasks, IsLogCount, rows_for}
-use Rattle.cal_load.specs.Made.{IsPut}
-use Rattle.cal_load.specs.declared.log.LogRow.{LogRow}
-use Rattle.cal_load.specs.declared.made.Count.{Count}
-use Rattle.cal_load.specs.declared.made.Gathered.{Gathered}
-use Rattle.cal_load.specs.declared.making.Coming.{Coming}
-use Rattle.cal_machine.specs.Table.{Table}
-use Rattle.cal_machine.specs.Tasks.{first_thread, task_at, threads_in}
-use Rattle.cal_machine.proofs.Last.{last_or_before}
 use Rattle.cal_load.proofs.Counted.{counted_push, task_put}
 
 -- the rows of a task, with one more that is of it

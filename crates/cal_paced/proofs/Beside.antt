@@ -1,13 +1,7 @@
 -- The cores beside which a thread is at work, and the misses that all bring, thread by thread.
-use Rattle.std.proofs.Common.{◌≡◌, ℕ, ◌+◌, ◌-◌, ◌%◌, ◌<◌, Bool, true, false, not, ◌&&◌, ◌||◌, if◌then◌else◌, List, length, take, get_or, refl, sym, ap, ◌∙◌, arith}
-use Rattle.std.specs.Prelude.{◌==◌, nat_lt}
-use Rattle.std.proofs.lemmas.Bool.Decides.{nat_tests}
+use Rattle.cal_paced.proofs.Common.{◌≡◌, ℕ, ◌+◌, ◌-◌, ◌%◌, ◌<◌, Bool, true, false, not, ◌&&◌, ◌||◌, if◌then◌else◌, List, length, take, get_or, refl, sym, ap, ◌∙◌, arith, ◌==◌, nat_lt, nat_tests, sum_by_more, KernelView, MOST_CORES, all_bring, brings, is_at_work_on, is_beside_work, last_record}
 use Rattle.std.proofs.lemmas.List.Folds.{list_any_more}
-use Rattle.std.proofs.lemmas.List.Sums.{sum_by_more}
-use Rattle.cal_kthread.specs.Turn.Thread.{KernelView}
 use Rattle.cal_machine.specs.Machine.{sibling_of}
-use Rattle.cal_machine.specs.declared.machine.TheConstants.{MOST_CORES}
-use Rattle.cal_paced.specs.Shares.{all_bring, brings, is_at_work_on, is_beside_work, last_record}
 
 -- a core is the sibling of another exactly where that is the sibling of it
 siblings-by : (r core : ℕ) (a b : Bool) → (r % 2 == 0) ≡ a → (core % 2 == 0) ≡ b → (core == (if a then r + 1 else r - 1)) ≡ (r == (if b then core + 1 else core - 1))

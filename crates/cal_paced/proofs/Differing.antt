@@ -1,26 +1,9 @@
 -- What stays of a run where the figures of passes to come change.
-use Rattle.std.proofs.Common.{◌≡◌, ◌≢◌, ℕ, zero, suc, ◌+◌, ◌<◌, ◌≤◌, ⊎_elim, List, [], ◌∷◌, length, take, Some, refl, sym, ap, subst, ◌∙◌, arith}
-use Rattle.std.specs.List.{slice_get}
-use Rattle.std.specs.Prelude.{min}
-use Rattle.std.proofs.Math.ListN.{set}
-use Rattle.std.proofs.lemmas.Bool.{cases_lt}
-use Rattle.std.proofs.lemmas.List.{length-set}
-use Rattle.std.proofs.lemmas.Option.{slice_get_within}
+use Rattle.cal_paced.proofs.Common.{◌≡◌, ◌≢◌, ℕ, zero, suc, ◌+◌, ◌<◌, ◌≤◌, ⊎_elim, List, [], ◌∷◌, length, take, Some, refl, sym, ap, subst, ◌∙◌, arith, slice_get, min, set, cases_lt, length-set, slice_get_within, Table, HasPassed, FitSomeTable, HaveMade, Worker, Arrivals, GivenPass, DifferFrom, HaveLedTo, ArePaced, pass_of, Standing, Plan}
 use Rattle.cal_sched.proofs.Lists.{slice_get-set_other}
 use Rattle.cal_paced.proofs.Turning.{at-set}
-use Rattle.cal_machine.specs.Table.{Table}
-use Rattle.cal_run.specs.Parts.{HasPassed}
-use Rattle.cal_run.specs.Workers.{FitSomeTable, HaveMade}
-use Rattle.cal_run.specs.declared.workers.worker.Worker.{Worker}
 use Rattle.cal_sched.specs.Scheduler.{SchedulerView}
 use Rattle.cal_trace.specs.Arrivals.FitsTable.{FitsTable}
-use Rattle.cal_trace.specs.declared.arrivals.Arrivals.{Arrivals}
-use Rattle.cal_trace.specs.declared.arrivals.GivenPass.{GivenPass}
-use Rattle.cal_paced.specs.Making.{DifferFrom, HaveLedTo}
-use Rattle.cal_paced.specs.Paced.{ArePaced}
-use Rattle.cal_paced.specs.Pace.{pass_of}
-use Rattle.cal_paced.specs.Rounds.{Standing}
-use Rattle.cal_paced.specs.declared.plan.Plan.{Plan}
 
 -- the pass at a place
 get : (xs : List GivenPass) (i : ℕ) → i < length xs → (x : GivenPass) × (slice_get xs i ≡ Some x)

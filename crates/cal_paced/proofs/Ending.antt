@@ -1,34 +1,12 @@
 -- What a paced run ends with.
-use Rattle.std.proofs.Common.{◌≡◌, ℕ, zero, suc, ◌-◌, ◌*◌, ◌<◌, ◌≤◌, List, [], ◌∷◌, length, map, Some, refl, sym, ap, subst, ◌∙◌, arith}
-use Rattle.std.specs.Prelude.{min, slice_index}
-use Rattle.std.specs.List.{slice_get}
-use Rattle.std.proofs.lemmas.List.Sums.{sum_by-cons}
-use Rattle.std.proofs.lemmas.Option.{slice_get_within}
+use Rattle.cal_paced.proofs.Common.{◌≡◌, ℕ, zero, suc, ◌-◌, ◌*◌, ◌<◌, ◌≤◌, List, [], ◌∷◌, length, map, Some, refl, sym, ap, subst, ◌∙◌, arith, min, slice_index, slice_get, sum_by-cons, slice_get_within, Entry, Table, Policy, EachStandsOnce, IsRunBy, AreParts, HasPassed, MayBeEnded, rounds_of, journals_of, Parts, Worker, MayFollow, zero_record, Record, Arrivals, HaveFigures, figure_before, misses_at, shown_before, shown_in_turn, DifferFrom, IsMadeUpTo, misses_of_records, risen_before, standings_of, pass_of, ArePaced, IsPacedFor, IsPacedRunOf, AreFirstRounds, Standing, Given, Shown, Plan}
 use Rattle.cal_kthread.specs.Journal.{IsJournal, records_of}
-use Rattle.cal_kthread.specs.declared.journal.entry.Entry.{Entry}
 use Rattle.cal_linear.specs.Steps.{journal_at}
-use Rattle.cal_machine.specs.Table.{Table}
-use Rattle.cal_policy.specs.declared.policy.Policy.{Policy}
 use Rattle.cal_run.specs.Outcome.Headline.{HeadlineBy}
-use Rattle.cal_run.specs.Outcome.{EachStandsOnce, IsRunBy}
-use Rattle.cal_run.specs.Parts.{AreParts, HasPassed, MayBeEnded, rounds_of}
-use Rattle.cal_run.specs.Workers.{journals_of}
 use Rattle.cal_run.specs.declared.outcome.Outcome.{Outcome}
-use Rattle.cal_run.specs.declared.parts.Parts.{Parts}
-use Rattle.cal_run.specs.declared.workers.worker.Worker.{Worker}
 use Rattle.cal_signal.specs.Pages.{Chain}
-use Rattle.cal_signal.specs.Records.{MayFollow, zero_record}
-use Rattle.cal_signal.specs.declared.record.Record.{Record}
 use Rattle.cal_trace.specs.declared.arrivals.Arrival.{Arrival}
-use Rattle.cal_trace.specs.declared.arrivals.Arrivals.{Arrivals}
-use Rattle.cal_paced.specs.Figures.{HaveFigures, figure_before, misses_at, shown_before, shown_in_turn}
-use Rattle.cal_paced.specs.Making.{DifferFrom, IsMadeUpTo, misses_of_records, risen_before, standings_of}
-use Rattle.cal_paced.specs.Pace.{pass_of}
-use Rattle.cal_paced.specs.Paced.{ArePaced, IsPacedFor, IsPacedRunOf}
-use Rattle.cal_paced.specs.Rounds.{AreFirstRounds, Standing}
-use Rattle.cal_paced.specs.declared.plan.Figure.TheVariants.{Given, Shown}
 use Rattle.cal_paced.specs.declared.plan.Figure.{Figure}
-use Rattle.cal_paced.specs.declared.plan.Plan.{Plan}
 use Rattle.cal_paced.proofs.Differing.{paced-still}
 use Rattle.cal_paced.proofs.Evenly.{before-some}
 

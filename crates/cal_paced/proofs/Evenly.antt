@@ -1,15 +1,6 @@
 -- The passes before the turns of a run, one turn after the other.
-use Rattle.std.proofs.Common.{◌≡◌, ℕ, zero, suc, ◌+◌, ◌*◌, ◌<◌, ◌≤◌, ⊎_elim, List, [], ◌∷◌, ◌++◌, length, Some, length-append, refl, sym, ap, subst, ◌∙◌, arith}
-use Rattle.std.specs.Prelude.{slice_index}
-use Rattle.std.specs.List.{slice_get}
-use Rattle.std.proofs.Math.Nat.{mul-le-mul_left, mul-suc}
-use Rattle.std.proofs.lemmas.Bool.{cases_lt}
-use Rattle.std.proofs.lemmas.Option.{slice_get_within}
+use Rattle.cal_paced.proofs.Common.{◌≡◌, ℕ, zero, suc, ◌+◌, ◌*◌, ◌<◌, ◌≤◌, ⊎_elim, List, [], ◌∷◌, ◌++◌, length, Some, length-append, refl, sym, ap, subst, ◌∙◌, arith, slice_index, slice_get, mul-le-mul_left, mul-suc, cases_lt, slice_get_within, GivenPass, HaveFigures, passes_before, StandEvenly, clock_before, pass_clock, pass_of}
 use Rattle.cal_machine.proofs.Places.{slice_get_seam}
-use Rattle.cal_trace.specs.declared.arrivals.GivenPass.{GivenPass}
-use Rattle.cal_paced.specs.Figures.{HaveFigures}
-use Rattle.cal_paced.specs.Making.{passes_before}
-use Rattle.cal_paced.specs.Pace.{StandEvenly, clock_before, pass_clock, pass_of}
 
 -- a place of a list that another one follows
 get-first : {X : Type 0} (xs ys : List X) (i : ℕ) (x : X) → slice_get xs i ≡ Some x → slice_get (xs ++ ys) i ≡ Some x

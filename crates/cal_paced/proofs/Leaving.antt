@@ -1,30 +1,15 @@
 -- What a thread has left over after a turn, by what the turn handed out.
-use Rattle.std.proofs.Common.{◌≡◌, ℕ, ◌+◌, ◌-◌, ◌<◌, ◌≤◌, Bool, true, false, nat_le, if◌then◌else◌, is_some, Option, Some, None, IfSome, List, refl, sym, ap, subst, ◌∙◌, ◌&&◌, arith}
-use Rattle.std.specs.Prelude.{nat_lt, option_map}
-use Rattle.std.proofs.lemmas.Bool.Decides.{nat_tests}
+use Rattle.cal_paced.proofs.Common.{◌≡◌, ℕ, ◌+◌, ◌-◌, ◌<◌, ◌≤◌, Bool, true, false, nat_le, if◌then◌else◌, is_some, Option, Some, None, IfSome, List, refl, sym, ap, subst, ◌∙◌, ◌&&◌, arith, nat_lt, option_map, nat_tests, core_in_turn, does_work, provided_if, turned_on, worked_if, work_in_turn, ThreadView, KernelView, Answers, arrived, taken, provided, shown, fronted, Entry, MOST_CORES, Request, IsShaped, running_word, zero_record, Record, entry_of_work, work, IsTurnTold, last_record, comes_to_turn, left_over, WHOLE}
 use Rattle.cal_command.specs.Rings.{TakerView}
 use Rattle.cal_kthread.proofs.TurnLemmas.Publishing.{last_snoc}
 use Rattle.cal_kthread.specs.Queue.{QueueView}
-use Rattle.cal_kthread.specs.Turn.OnCores.{core_in_turn, does_work, provided_if, turned_on, worked_if, work_in_turn}
-use Rattle.cal_kthread.specs.Turn.Thread.{ThreadView, KernelView}
-use Rattle.cal_kthread.specs.Turn.{Answers, arrived, taken, provided, shown, fronted}
-use Rattle.cal_kthread.specs.declared.journal.entry.Entry.{Entry}
 use Rattle.cal_kthread.specs.declared.journal.entry.Entry.TheVariants.{Served}
 use Rattle.cal_kthread.specs.declared.queue.waiting.Waiting.{Waiting}
 use Rattle.cal_kthread.specs.declared.turn.current.Current.{Current}
 use Rattle.cal_kthread.specs.declared.turn.sources.Source.{Source}
-use Rattle.cal_machine.specs.declared.machine.TheConstants.{MOST_CORES}
-use Rattle.cal_machine.specs.declared.request.Request.{Request}
 use Rattle.cal_signal.specs.Ends.{PublisherView}
-use Rattle.cal_signal.specs.Records.{IsShaped, running_word, zero_record}
-use Rattle.cal_signal.specs.declared.record.Record.{Record}
-use Rattle.cal_kthread.specs.Turn.Entries.{entry_of_work, work}
 use Rattle.cal_kthread.specs.declared.turn.done.Worked.{Worked}
 use Rattle.cal_kthread.specs.declared.turn.entries.TurnEntries.{TurnEntries}
-use Rattle.cal_paced.specs.Making.{IsTurnTold}
-use Rattle.cal_paced.specs.Shares.{last_record}
-use Rattle.cal_paced.specs.Rounds.{comes_to_turn, left_over}
-use Rattle.cal_paced.specs.declared.plan.TheConstants.{WHOLE}
 
 -- what is left over by the entry of the third step, and by the core on which the thread then is
 abbrev pub told_left : ℕ → (ℕ → ℕ) → Option Entry → Option ℕ → ℕ

@@ -1,3 +1,4 @@
+mod Common
 pub mod Beside
 pub mod Cores
 pub mod Differing

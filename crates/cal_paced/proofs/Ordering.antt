@@ -1,7 +1,5 @@
 -- The order of a paced run, round by round.
-use Rattle.std.proofs.Common.{◌≡◌, ◌+◌, ℕ, suc, List, subst, arith}
-use Rattle.cal_run.specs.Order.{Made}
-use Rattle.cal_paced.specs.Order.{then_round, then_rounds}
+use Rattle.cal_paced.proofs.Common.{◌≡◌, ◌+◌, ℕ, suc, List, subst, arith, Made, then_round, then_rounds}
 
 module _ (pace threads : ℕ) (made : List Made) (P : List Made → Type 0) where
   pub no-rounds : P made → P (then_rounds pace threads 0 made)

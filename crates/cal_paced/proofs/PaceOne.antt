@@ -1,15 +1,6 @@
 -- At pace 1 a paced run is a run on its file.
-use Rattle.std.proofs.Common.{◌≡◌, ℕ, ◌*◌, ◌/◌, ◌<◌, zero, suc, Bool, true, false, List, [], ◌∷◌, length, map, Some, refl, sym, ap, subst, ◌∙◌, arith}
-use Rattle.std.specs.Prelude.{if◌then◌else◌, slice_index}
-use Rattle.std.specs.List.{slice_get}
-use Rattle.std.proofs.lemmas.Option.{slice_get_within}
-use Rattle.cal_run.specs.Outcome.{IsRunBy}
-use Rattle.cal_trace.specs.declared.arrivals.Arrivals.{Arrivals}
-use Rattle.cal_trace.specs.declared.arrivals.GivenPass.{GivenPass}
+use Rattle.cal_paced.proofs.Common.{◌≡◌, ℕ, ◌*◌, ◌/◌, ◌<◌, zero, suc, Bool, true, false, List, [], ◌∷◌, length, map, Some, refl, sym, ap, subst, ◌∙◌, arith, if◌then◌else◌, slice_index, slice_get, slice_get_within, IsRunBy, Arrivals, GivenPass, pass_of, is_at_work, is_beside_work, last_record, WHOLE}
 use Rattle.cal_paced.specs.Laws.{AtPaceOneIsRun, NeutralSharesAreWhole}
-use Rattle.cal_paced.specs.Pace.{pass_of}
-use Rattle.cal_paced.specs.Shares.{is_at_work, is_beside_work, last_record}
-use Rattle.cal_paced.specs.declared.plan.TheConstants.{WHOLE}
 
 -- lists that have the same at each place are the same
 same_passes : (xs ys : List GivenPass) → length xs ≡ length ys →

@@ -1,29 +1,7 @@
 -- The rounds of a paced run, one after the other.
-use Rattle.std.proofs.Common.{◌≡◌, ℕ, zero, suc, ◌+◌, ◌-◌, ◌*◌, ◌<◌, ◌≤◌, ◌⊎◌, inl, inr, ⊎_elim, List, [], ◌∷◌, ◌++◌, length, map, replicate, Some, length-append, refl, sym, ap, subst, ◌∙◌, arith}
-use Rattle.std.specs.Prelude.{min}
-use Rattle.std.specs.List.{slice_get}
-use Rattle.std.proofs.Math.Nat.{mul-le-mul_left, mul-suc}
-use Rattle.std.proofs.lemmas.Bool.{cases_lt}
-use Rattle.std.proofs.lemmas.List.{length-map, length-replicate}
-use Rattle.std.proofs.lemmas.List.Sums.{sum_by-cons}
-use Rattle.std.proofs.lemmas.Option.{slice_get_within}
-use Rattle.cal_kthread.specs.declared.journal.entry.Entry.{Entry}
+use Rattle.cal_paced.proofs.Common.{◌≡◌, ℕ, zero, suc, ◌+◌, ◌-◌, ◌*◌, ◌<◌, ◌≤◌, ◌⊎◌, inl, inr, ⊎_elim, List, [], ◌∷◌, ◌++◌, length, map, replicate, Some, length-append, refl, sym, ap, subst, ◌∙◌, arith, min, slice_get, mul-le-mul_left, mul-suc, cases_lt, length-map, length-replicate, sum_by-cons, slice_get_within, Entry, Table, AreOfOneTeam, AreParts, HasPassed, SchedulerSeat, WatchSeat, scheduler_seat_of, watch_seat_of, HaveMade, HaveMadeNoTurn, Seat, journals_of, seat_of, seats_of, Parts, Worker, Arrivals, GivenPass, misses_at, AreBelowWhole, AreShown, DifferFrom, HaveLedTo, HaveShown, IsMadeUpTo, misses_of, misses_of_records, risen_before, standings_of, pass_of, SlowsNobody, IsFirst, IsRound, Standing, Shown, Plan}
 use Rattle.cal_machine.proofs.Last.{last_or_before}
 use Rattle.cal_machine.proofs.Places.{slice_get_seam}
-use Rattle.cal_machine.specs.Table.{Table}
-use Rattle.cal_run.specs.Parts.{AreOfOneTeam, AreParts, HasPassed, SchedulerSeat, WatchSeat, scheduler_seat_of, watch_seat_of}
-use Rattle.cal_run.specs.Workers.{HaveMade, HaveMadeNoTurn, Seat, journals_of, seat_of, seats_of}
-use Rattle.cal_run.specs.declared.parts.Parts.{Parts}
-use Rattle.cal_run.specs.declared.workers.worker.Worker.{Worker}
-use Rattle.cal_trace.specs.declared.arrivals.Arrivals.{Arrivals}
-use Rattle.cal_trace.specs.declared.arrivals.GivenPass.{GivenPass}
-use Rattle.cal_paced.specs.Figures.{misses_at}
-use Rattle.cal_paced.specs.Making.{AreBelowWhole, AreShown, DifferFrom, HaveLedTo, HaveShown, IsMadeUpTo, misses_of, misses_of_records, risen_before, standings_of}
-use Rattle.cal_paced.specs.Pace.{pass_of}
-use Rattle.cal_paced.specs.Paced.{SlowsNobody}
-use Rattle.cal_paced.specs.Rounds.{IsFirst, IsRound, Standing}
-use Rattle.cal_paced.specs.declared.plan.Figure.TheVariants.{Shown}
-use Rattle.cal_paced.specs.declared.plan.Plan.{Plan}
 use Rattle.cal_paced.proofs.Differing.{led-still}
 use Rattle.cal_paced.proofs.Showing.{HaveShownMore, all-last-shown, early-rise, early-sum, shown-at-first, shown-more}
 use Rattle.cal_paced.proofs.Turning.{length-standings, standing-at}

@@ -1,28 +1,12 @@
 -- The misses that the records of threads show, round by round.
-use Rattle.std.proofs.Common.{◌≡◌, ℕ, zero, suc, ◌+◌, ◌-◌, ◌<◌, ◌≤◌, Bool, Option, Some, None, List, [], ◌∷◌, ◌++◌, length, map, length-append, append-nil, refl, sym, ap, subst, ◌∙◌, arith}
-use Rattle.std.specs.Prelude.{option_map, option_to_list, slice_index}
-use Rattle.std.specs.List.{slice_get}
+use Rattle.cal_paced.proofs.Common.{◌≡◌, ℕ, zero, suc, ◌+◌, ◌-◌, ◌<◌, ◌≤◌, Bool, Option, Some, None, List, [], ◌∷◌, ◌++◌, length, map, length-append, append-nil, refl, sym, ap, subst, ◌∙◌, arith, option_map, option_to_list, slice_index, slice_get, sum_by-cons, same_from_push, core_in_turn, does_work, provided_if, turned_if, turned_on, worked_if, KernelView, Answers, arrived, noted, shown, taken, Entry, Request, MadeNoTurn, journals_of, Worker, zero_record, Record, misses_at, HaveShown, IsShownAt, misses_of, misses_of_records, risen_before, last_record}
 use Rattle.std.proofs.lemmas.List.Elements.{filter_map-append}
-use Rattle.std.proofs.lemmas.List.Sums.{sum_by-cons}
-use Rattle.std.proofs.lemmas.List.{same_from_push}
 use Rattle.cal_kthread.proofs.TeamLemmas.Turns.{Kept, kept, unpublished}
 use Rattle.cal_kthread.proofs.TurnLemmas.Turns.{one-turn}
 use Rattle.cal_kthread.specs.Journal.{record_in, records_of}
-use Rattle.cal_kthread.specs.Turn.OnCores.{core_in_turn, does_work, provided_if, turned_if, turned_on, worked_if}
-use Rattle.cal_kthread.specs.Turn.Thread.{KernelView}
 use Rattle.cal_kthread.specs.Turn.Turns.{IsOneTurn}
-use Rattle.cal_kthread.specs.Turn.{Answers, arrived, noted, shown, taken}
 use Rattle.cal_kthread.specs.declared.journal.entry.Entry.TheVariants.{Arrived, Published}
-use Rattle.cal_kthread.specs.declared.journal.entry.Entry.{Entry}
-use Rattle.cal_machine.specs.declared.request.Request.{Request}
-use Rattle.cal_run.specs.Workers.{MadeNoTurn, journals_of}
-use Rattle.cal_run.specs.declared.workers.worker.Worker.{Worker}
 use Rattle.cal_signal.specs.Pages.{last_from, last_published, page_of}
-use Rattle.cal_signal.specs.Records.{zero_record}
-use Rattle.cal_signal.specs.declared.record.Record.{Record}
-use Rattle.cal_paced.specs.Figures.{misses_at}
-use Rattle.cal_paced.specs.Making.{HaveShown, IsShownAt, misses_of, misses_of_records, risen_before}
-use Rattle.cal_paced.specs.Shares.{last_record}
 
 -- a turn adds its record to those of the journal
 records-more : (now : ℕ) (request : Option Request) (before after : List Entry) (one : IsOneTurn now request before after)

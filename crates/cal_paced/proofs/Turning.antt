@@ -1,29 +1,7 @@
 -- The turns of a round, one thread after the other.
-use Rattle.std.proofs.Common.{◌≡◌, ◌≢◌, ℕ, zero, suc, ◌+◌, ◌*◌, ◌/◌, ◌<◌, ◌≤◌, ◌⊎◌, inl, inr, ⊎_elim, Bool, true, false, ◌&&◌, nat_le, if◌then◌else◌, Option, Some, None, List, [], ◌∷◌, length, map, replicate, refl, sym, ap, subst, ◌∙◌, arith}
-use Rattle.std.specs.Prelude.{nat_lt, slice_index}
-use Rattle.std.specs.List.{slice_get}
-use Rattle.std.proofs.Math.ListN.{set}
-use Rattle.std.proofs.Math.Nat.{div-le_of_le-mul}
-use Rattle.std.proofs.lemmas.Bool.{cases_lt}
-use Rattle.std.proofs.lemmas.Bool.Decides.{nat_tests}
-use Rattle.std.proofs.lemmas.List.{length-set}
-use Rattle.std.proofs.lemmas.Option.{slice_get_within}
-use Rattle.cal_kthread.specs.Turn.OnCores.{core_in_turn, turned_on}
-use Rattle.cal_kthread.specs.Turn.Thread.{KernelView}
-use Rattle.cal_kthread.specs.Turn.{Answers, AreAnswers}
+use Rattle.cal_paced.proofs.Common.{◌≡◌, ◌≢◌, ℕ, zero, suc, ◌+◌, ◌*◌, ◌/◌, ◌<◌, ◌≤◌, ◌⊎◌, inl, inr, ⊎_elim, Bool, true, false, ◌&&◌, nat_le, if◌then◌else◌, Option, Some, None, List, [], ◌∷◌, length, map, replicate, refl, sym, ap, subst, ◌∙◌, arith, nat_lt, slice_index, slice_get, set, div-le_of_le-mul, cases_lt, nat_tests, length-set, slice_get_within, core_in_turn, turned_on, KernelView, Answers, AreAnswers, MOST_CORES, Request, request_at, Worker, Arrivals, AreBelowWhole, standings_of, SlowsNobody, IsRound, IsTurnBy, Standing, comes_to_turn, left_over, threads_of, all_bring, is_at_work, is_beside_work, last_record, memory_part, share, Plan, WHOLE}
 use Rattle.cal_kthread.specs.declared.turn.current.Current.{Current}
-use Rattle.cal_machine.specs.declared.machine.TheConstants.{MOST_CORES}
-use Rattle.cal_machine.specs.declared.request.Request.{Request}
-use Rattle.cal_run.specs.Workers.GivenTurns.{request_at}
-use Rattle.cal_run.specs.declared.workers.worker.Worker.{Worker}
 use Rattle.cal_sched.proofs.Lists.{slice_get-set_other, slice_get-set_same}
-use Rattle.cal_trace.specs.declared.arrivals.Arrivals.{Arrivals}
-use Rattle.cal_paced.specs.Making.{AreBelowWhole, standings_of}
-use Rattle.cal_paced.specs.Paced.{SlowsNobody}
-use Rattle.cal_paced.specs.Rounds.{IsRound, IsTurnBy, Standing, comes_to_turn, left_over, threads_of}
-use Rattle.cal_paced.specs.Shares.{all_bring, is_at_work, is_beside_work, last_record, memory_part, share}
-use Rattle.cal_paced.specs.declared.plan.Plan.{Plan}
-use Rattle.cal_paced.specs.declared.plan.TheConstants.{WHOLE}
 
 -- where it comes to a turn's work is by the shares on the cores of a machine alone
 comes-by : (core : ℕ) (b x y : Bool) → nat_lt core MOST_CORES ≡ b → (core < MOST_CORES → x ≡ y) → (b && x) ≡ (b && y)

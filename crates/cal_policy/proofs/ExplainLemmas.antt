@@ -1,12 +1,8 @@
 -- The turns of a pass follow one another.
 pub mod Assured
-use Rattle.std.proofs.Common.{◌≡◌, ℕ, ◌+◌, ◌++◌, List, [], ap, sym, ◌∙◌, append_assoc}
-use Rattle.std.proofs.lemmas.List.{append-nil}
-use Rattle.cal_policy.specs.declared.history.action.Action.{Action}
+use Rattle.cal_policy.proofs.Common.{◌≡◌, ℕ, ◌+◌, ◌++◌, List, [], ap, sym, ◌∙◌, append_assoc, append-nil, Action, made_in, Setting, in_turn}
 use Rattle.cal_policy.specs.declared.explain.turn.Turn.{Turn}
-use Rattle.cal_policy.specs.Explain.Turns.{made_before, made_in}
-use Rattle.cal_policy.specs.Setting.{Setting}
-use Rattle.cal_policy.specs.History.Lists.{in_turn}
+use Rattle.cal_policy.specs.Explain.Turns.{made_before}
 use Rattle.cal_policy.proofs.PassLemmas.PartSoFar.{in_turn_more}
 
 -- the next turn of a part comes after what this one makes

@@ -1,29 +1,9 @@
 -- What is so of each policy, whatever it makes of a pass. All that looks into the definitions of a
 -- policy is here.
-use Rattle.std.proofs.Common.{◌≡◌, ◌<◌, ◌≤◌, ℕ, List, [], ◌∷◌, ◌++◌, length, take, Some, slice_get, refl, sym, subst, arith}
-use Rattle.std.proofs.Math.Seq.{take-append_seam}
-use Rattle.cal_machine.proofs.Last.{slice_get-last}
-use Rattle.cal_machine.specs.Table.{Table, IsTable}
+use Rattle.cal_policy.proofs.Common.{◌≡◌, ◌<◌, ◌≤◌, ℕ, List, [], ◌∷◌, ◌++◌, length, take, Some, slice_get, refl, sym, subst, arith, take-append_seam, slice_get-last, Table, IsTable, Action, Grant, CoreClass, PassEntry, Policy, Caladan, Assured, Legal, Illegal, actions_of, class_number, IsInput, IsOrderly, pass_of, EachAfter, IsSteady, KeepsUp, pass_by, IsPassBy, IsLegalBy, IsVerdictBy, IsAuditBy, Setting, setting_of}
 use Rattle.cal_policy.specs.declared.auditor.Auditor.{Auditor}
-use Rattle.cal_policy.specs.declared.history.action.Action.{Action}
-use Rattle.cal_policy.specs.declared.history.action.Action.TheVariants.{Grant}
-use Rattle.cal_policy.specs.declared.history.core_class.CoreClass.{CoreClass}
 use Rattle.cal_policy.specs.declared.history.core_class.CoreClass.TheVariants as classes
-use Rattle.cal_policy.specs.declared.history.entry.PassEntry.{PassEntry}
-use Rattle.cal_policy.specs.declared.policy.Policy.{Policy}
-use Rattle.cal_policy.specs.declared.policy.Policy.TheVariants.{Caladan, Assured}
-use Rattle.cal_policy.specs.declared.verdict.Verdict.TheVariants.{Legal, Illegal}
 use Rattle.cal_policy.specs.Assured.Pass as definitions
-use Rattle.cal_policy.specs.History.{actions_of}
-use Rattle.cal_policy.specs.History.CoreClasses.{class_number}
-use Rattle.cal_policy.specs.Judgement.Judging.{IsInput}
-use Rattle.cal_policy.specs.Judgement.Orderly.{IsOrderly}
-use Rattle.cal_policy.specs.Pass.{pass_of}
-use Rattle.cal_policy.specs.Pass.Made.{EachAfter}
-use Rattle.cal_policy.specs.Pass.Steady.{IsSteady}
-use Rattle.cal_policy.specs.Auditor.{KeepsUp}
-use Rattle.cal_policy.specs.Policies.{pass_by, IsPassBy, IsLegalBy, IsVerdictBy, IsAuditBy}
-use Rattle.cal_policy.specs.Setting.{Setting, setting_of}
 use Rattle.cal_policy.proofs.AssuredLemmas.Done.{IsDone, pass_done}
 use Rattle.cal_policy.proofs.AssuredLemmas.FreesFirst as second
 use Rattle.cal_policy.proofs.AssuredLemmas.LegalOrderly as assured

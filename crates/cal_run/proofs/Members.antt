@@ -1,7 +1,5 @@
 -- Lists, member by member.
-use Rattle.std.proofs.Common.{◌≡◌, ℕ, zero, suc, List, [], ◌∷◌, length, map, Some, refl, ap, ◌∙◌, arith}
-use Rattle.std.specs.List.{slice_get}
-use mathlib.Core.Option.{some}
+use Rattle.cal_run.proofs.Common.{◌≡◌, ℕ, zero, suc, List, [], ◌∷◌, length, map, Some, refl, ap, ◌∙◌, arith, slice_get, some}
 use lib.ListN.{get_elem?}
 
 -- the two ways to read a place of a list

@@ -1,13 +1,5 @@
 -- Making a page, and the splits and joins of its seats, keep its rule.
-use Rattle.std.proofs.Common.{◌≡◌, ℕ, zero, suc, ◌+◌, ◌/◌, ◌<◌, ◌≤◌, ◌||◌, true, false, List, [], ◌∷◌, length, get_or, set, sym, refl, ap, ◌∙◌, subst, ⊎_elim, arith}
-use mathlib.Core.Option.{none, some, some-injective, some-ne-none}
-use lib.ListN.{get_elem?}
-use Rattle.atomic_table.specs.Table.{State, Me, step, keeps, opening, Allows, Splits, Joins}
-use Rattle.atomic_table.proofs.Lists.{at_snoc, set_else}
-use Rattle.cal_signal.specs.declared.view.View.{View}
-use Rattle.cal_signal.specs.Pages.{Chain, last_from, FitsFrom, floor_from}
-use Rattle.cal_signal.specs.Rule.{sees, Observes, Knows, Kept}
-use Rattle.cal_signal.specs.Steps.{opening_view, no_part, publisher_part, observer_part, without_watcher, watcher_part, both_parts, both_looking, both_reading, learned}
+use Rattle.cal_signal.proofs.Common.{◌≡◌, ℕ, zero, suc, ◌+◌, ◌/◌, ◌<◌, ◌≤◌, ◌||◌, true, false, List, [], ◌∷◌, length, get_or, set, sym, refl, ap, ◌∙◌, subst, ⊎_elim, arith, none, some, some-injective, some-ne-none, get_elem?, State, Me, step, keeps, opening, Allows, Splits, Joins, at_snoc, set_else, View, Chain, last_from, FitsFrom, floor_from, sees, Observes, Knows, Kept, opening_view, no_part, publisher_part, observer_part, without_watcher, watcher_part, both_parts, both_looking, both_reading, learned}
 use Rattle.cal_signal.proofs.PageLists.{last_at, fits_floor, fits_snoc}
 use Rattle.cal_signal.proofs.Parting.{sole_cut_beside, sole_split, sole_joined, sole_kept}
 use Rattle.cal_signal.proofs.Keeping as keeping

@@ -1,11 +1,6 @@
 -- Looks that fit a page follow one another.
-use Rattle.std.proofs.Common.{◌≡◌, ℕ, zero, suc, ◌≤◌, List, [], ◌∷◌, ◌++◌, sym, refl, ap, ◌∙◌, arith}
-use mathlib.Core.Option.{some, some-injective, some-ne-none}
-use lib.ListN.{get_elem?}
-use Rattle.cal_signal.specs.declared.record.Record.{Record}
+use Rattle.cal_signal.proofs.Common.{◌≡◌, ℕ, zero, suc, ◌≤◌, List, [], ◌∷◌, ◌++◌, sym, refl, ap, ◌∙◌, arith, some, some-injective, some-ne-none, get_elem?, Record, IsLater, IsShaped, MayFollow, zero_record, Chain, IsPage, FitsFrom, FitsSomePage, floor_from}
 use Rattle.cal_signal.specs.declared.shown.Shown.{Shown}
-use Rattle.cal_signal.specs.Records.{IsLater, IsShaped, MayFollow, zero_record}
-use Rattle.cal_signal.specs.Pages.{Chain, IsPage, FitsFrom, FitsSomePage, floor_from}
 use Rattle.cal_signal.specs.Shown.{IsFitShown, shown_of, found_from, nothing_shown, last_found}
 use Rattle.cal_signal.specs.Laws.{IsOneLookMore}
 

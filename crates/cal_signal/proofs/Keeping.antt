@@ -1,13 +1,5 @@
 -- What the steps of a page share: the seats that stay as they are, and a version that rises.
-use Rattle.std.proofs.Common.{◌≡◌, ◌≢◌, ℕ, ◌<◌, ◌≤◌, List, [], ◌∷◌, ◌++◌, get_or, set, sym, subst, ⊎_elim, arith}
-use Rattle.std.proofs.lemmas.List.{set-get_or}
-use mathlib.Core.Option.{Option, some}
-use lib.ListN.{get_elem?}
-use Rattle.atomic_table.specs.Table.{State, Me, keeps, stepped}
-use Rattle.atomic_table.proofs.Lists.{at_set, at_snoc}
-use Rattle.cal_signal.specs.declared.view.View.{View}
-use Rattle.cal_signal.specs.Pages.{FitsFrom}
-use Rattle.cal_signal.specs.Rule.{Sole, Observes, Knows, Kept}
+use Rattle.cal_signal.proofs.Common.{◌≡◌, ◌≢◌, ℕ, ◌<◌, ◌≤◌, List, [], ◌∷◌, ◌++◌, get_or, set, sym, subst, ⊎_elim, arith, set-get_or, Option, some, get_elem?, State, Me, keeps, stepped, at_set, at_snoc, View, FitsFrom, Sole, Observes, Knows, Kept}
 use Rattle.cal_signal.proofs.Parting.{sole_set}
 
 module _ {T : Type 0} (words : T → List ℕ) (n : ℕ) (follows : T → T → Type 0) (first : T) where

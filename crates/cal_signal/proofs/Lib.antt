@@ -1,3 +1,4 @@
+mod Common
 pub mod PageLists
 pub mod Parting
 pub mod Keeping

@@ -1,15 +1,6 @@
 -- The steps of an observer keep the rule of a page.
-use Rattle.std.proofs.Common.{◌≡◌, ◌≢◌, ℕ, ◌+◌, ◌/◌, ◌%◌, ◌<◌, ◌≤◌, true, List, [], ◌∷◌, ◌++◌, length, get_or, sym, refl, ap, ◌∙◌, subst, arith, le_refl}
-use Rattle.std.proofs.lemmas.List.{get_or_append_left, get_or_push, ext_get_or, length_push}
-use mathlib.Core.Logic.{dite}
-use mathlib.Core.Option.{none, some}
+use Rattle.cal_signal.proofs.Common.{◌≡◌, ◌≢◌, ℕ, ◌+◌, ◌/◌, ◌%◌, ◌<◌, ◌≤◌, true, List, [], ◌∷◌, ◌++◌, length, get_or, sym, refl, ap, ◌∙◌, subst, arith, le_refl, get_or_append_left, get_or_push, ext_get_or, length_push, dite, none, some, get_elem?, State, Me, step, keeps, Allows, View, last_from, FitsFrom, floor_from, sees, Kept, started, peeked, ended}
 use native.Mathlib.Decide.{ℕ_discrete}
-use lib.ListN.{get_elem?}
-use Rattle.atomic_table.specs.Table.{State, Me, step, keeps, Allows}
-use Rattle.cal_signal.specs.declared.view.View.{View}
-use Rattle.cal_signal.specs.Pages.{last_from, FitsFrom, floor_from}
-use Rattle.cal_signal.specs.Rule.{sees, Kept}
-use Rattle.cal_signal.specs.Steps.{started, peeked, ended}
 use Rattle.cal_signal.proofs.PageLists.{last_at, fits_floor, fits_snoc}
 use Rattle.cal_signal.proofs.Keeping as keeping
 

@@ -1,9 +1,5 @@
 -- Pages and looks as lists.
-use Rattle.std.proofs.Common.{◌≡◌, ℕ, zero, suc, ◌<◌, ◌≤◌, List, [], ◌∷◌, ◌++◌, length, sym, refl, arith}
-use mathlib.Core.Option.{some, some-ne-none}
-use lib.ListN.{get_elem?}
-use Rattle.atomic_table.proofs.Lists.{at_longer}
-use Rattle.cal_signal.specs.Pages.{Chain, last_from, FitsFrom, floor_from}
+use Rattle.cal_signal.proofs.Common.{◌≡◌, ℕ, zero, suc, ◌<◌, ◌≤◌, List, [], ◌∷◌, ◌++◌, length, sym, refl, arith, some, some-ne-none, get_elem?, at_longer, Chain, last_from, FitsFrom, floor_from}
 
 module _ {T : Type 0} where
   -- one more record at the end is the last one

@@ -1,13 +1,5 @@
 -- The steps of a page of records, and what the nine words of a record are.
-use Rattle.std.proofs.Common.{◌≡◌, ℕ, zero, suc, ◌+◌, ◌%◌, ◌<◌, Bool, true, false, List, [], ◌∷◌, length, take, get_or, refl, ap, ◌∙◌, arith}
-use mathlib.Core.Option.{none}
-use Rattle.atomic_table.specs.Table.{State, Me, step, opening, Allows, Splits, Joins}
-use Rattle.cal_signal.specs.declared.view.View.{View}
-use Rattle.cal_signal.specs.declared.record.Record.{Record}
-use Rattle.cal_signal.specs.Records.{words_of, record_of, zero_record, MayFollow}
-use Rattle.cal_signal.specs.Pages.{last_published}
-use Rattle.cal_signal.specs.Rule.{sees, parts_of, Kept}
-use Rattle.cal_signal.specs.Steps.{opening_view, no_part, publisher_part, observer_part, without_watcher, watcher_part, both_parts, both_looking, both_reading, learned, opened, wrote, spared, closed, started, peeked, ended}
+use Rattle.cal_signal.proofs.Common.{◌≡◌, ℕ, zero, suc, ◌+◌, ◌%◌, ◌<◌, Bool, true, false, List, [], ◌∷◌, length, take, get_or, refl, ap, ◌∙◌, arith, none, State, Me, step, opening, Allows, Splits, Joins, View, Record, words_of, record_of, zero_record, MayFollow, last_published, sees, parts_of, Kept, opening_view, no_part, publisher_part, observer_part, without_watcher, watcher_part, both_parts, both_looking, both_reading, learned, opened, wrote, spared, closed, started, peeked, ended}
 use Rattle.cal_signal.proofs.Looking as looking
 use Rattle.cal_signal.proofs.Publishing as publishing
 use Rattle.cal_signal.proofs.Cutting as cutting

@@ -1,12 +1,5 @@
 -- A part stands in just one view, whatever the step.
-use Rattle.std.proofs.Common.{◌≡◌, ◌≢◌, ℕ, zero, suc, ◌<◌, Bool, true, false, true≢false, ◌⊎◌, inl, inr, List, [], ◌∷◌, ◌++◌, length, set, sym, refl, ap, ◌∙◌, subst, ⊎_elim, arith, length-set}
-use Rattle.std.proofs.lemmas.List.{length_push}
-use mathlib.Core.Logic.{◌↔◌}
-use mathlib.Core.Option.{some, some-injective, some-ne-none}
-use lib.ListN.{get_elem?}
-use Rattle.atomic_table.proofs.Lists.{at_set, set_else}
-use Rattle.cal_signal.specs.declared.view.View.{View}
-use Rattle.cal_signal.specs.Rule.{Sole}
+use Rattle.cal_signal.proofs.Common.{◌≡◌, ◌≢◌, ℕ, zero, suc, ◌<◌, Bool, true, false, true≢false, ◌⊎◌, inl, inr, List, [], ◌∷◌, ◌++◌, length, set, sym, refl, ap, ◌∙◌, subst, ⊎_elim, arith, length-set, length_push, ◌↔◌, some, some-injective, some-ne-none, get_elem?, at_set, set_else, View, Sole}
 use Rattle.cal_signal.proofs.PageLists.{at_below}
 use Rattle.std.proofs.lemmas.Bool.{cases_Bool}
 

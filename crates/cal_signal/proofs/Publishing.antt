@@ -1,15 +1,6 @@
 -- The steps of a publisher keep the rule of a page.
-use Rattle.std.proofs.Common.{◌≡◌, ◌≢◌, ℕ, ◌+◌, ◌/◌, ◌%◌, ◌<◌, true, List, [], ◌∷◌, ◌++◌, length, get_or, set, sym, refl, ap, ◌∙◌, subst, arith, length-set, get_or-set_other, get_or-set_same}
-use Rattle.std.proofs.lemmas.List.{get_or_append_left, get_or_push, length_push}
-use mathlib.Core.Logic.{dite}
-use mathlib.Core.Option.{none, some}
+use Rattle.cal_signal.proofs.Common.{◌≡◌, ◌≢◌, ℕ, ◌+◌, ◌/◌, ◌%◌, ◌<◌, true, List, [], ◌∷◌, ◌++◌, length, get_or, set, sym, refl, ap, ◌∙◌, subst, arith, length-set, get_or-set_other, get_or-set_same, get_or_append_left, get_or_push, length_push, dite, none, some, get_elem?, State, Me, step, keeps, Allows, View, last_from, FitsFrom, Knows, Kept, opened, wrote, spared, closed}
 use native.Mathlib.Decide.{ℕ_discrete}
-use lib.ListN.{get_elem?}
-use Rattle.atomic_table.specs.Table.{State, Me, step, keeps, Allows}
-use Rattle.cal_signal.specs.declared.view.View.{View}
-use Rattle.cal_signal.specs.Pages.{last_from, FitsFrom}
-use Rattle.cal_signal.specs.Rule.{Knows, Kept}
-use Rattle.cal_signal.specs.Steps.{opened, wrote, spared, closed}
 use Rattle.cal_signal.proofs.PageLists.{last_snoc, chain_snoc, fits_more}
 use Rattle.cal_signal.proofs.Parting.{sole_set}
 use Rattle.cal_signal.proofs.Keeping as keeping

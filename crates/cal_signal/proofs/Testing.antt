@@ -1,11 +1,9 @@
 -- The tests of records and looks say what the rules say.
-use Rattle.std.proofs.Common.{◌≡◌, ◌<◌, ◌%◌, ◌==◌, ◌&&◌, nat_lt, nat_le, ℕ, true, inl, inr, refl, arith}
+use Rattle.cal_signal.proofs.Common.{◌≡◌, ◌<◌, ◌%◌, ◌==◌, ◌&&◌, nat_lt, nat_le, ℕ, true, inl, inr, refl, arith, Record, IsLater, IsShaped, is_same}
 use Rattle.std.proofs.lemmas.Bool.{and_parts, and_from, ltb-true, leb-true, le-leb, lt-ltb, eq-eqb, ne_eqb, or_cases}
 use Rattle.cal_machine.specs.declared.machine.TheConstants.{MOST_CORES}
-use Rattle.cal_signal.specs.declared.record.Record.{Record}
 use Rattle.cal_signal.specs.declared.record.TheConstants.{MOST_MISSES}
 use Rattle.cal_signal.specs.declared.shown.Shown.{Shown}
-use Rattle.cal_signal.specs.Records.{IsLater, IsShaped, is_same}
 use Rattle.cal_signal.specs.Looks.{IsBusyPair}
 use Rattle.cal_signal.specs.Shown.{IsShownAfter}
 use Rattle.cal_signal.specs.Tests.{is_shaped, is_later, is_shown_after, is_busy_pair}

@@ -1,3 +1,4 @@
+mod Common
 pub mod PassClocks
 pub mod Moving
 pub mod Verdicts

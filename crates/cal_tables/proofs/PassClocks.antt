@@ -1,7 +1,5 @@
 -- The clocks of the passes of a run.
-use Rattle.std.proofs.Common.{◌≡◌, List, [], ◌∷◌, map, ap, refl}
-use Rattle.cal_policy.specs.declared.history.entry.PassEntry.{PassEntry}
-use Rattle.cal_run.specs.Outcome.{figures_of}
+use Rattle.cal_tables.proofs.Common.{◌≡◌, List, [], ◌∷◌, map, ap, refl, PassEntry, figures_of}
 use Rattle.cal_trace.specs.declared.arrivals.GivenPass.{GivenPass}
 
 -- those that were given

@@ -1,19 +1,14 @@
 -- What faults say of an input that asks for a run by a plan or in lockstep.
-use Rattle.std.proofs.Common.{◌≡◌, Option, Some, None, Result, Ok, Err, refl, subst, sym}
+use Rattle.cal_tables.proofs.Common.{◌≡◌, Option, Some, None, Result, Ok, Err, refl, subst, sym, Table, IsRunBy, Arrivals, Subject, of_run, DecidedBy, FailedBy, IsFaultBy, IsFaultOfPlan, IsRunGiven, MayGoBy, fault_of_plan}
 use Rattle.cal_input.specs.Answers.{Decided}
 use Rattle.cal_input.specs.declared.fault.RunFault.TheVariants as faults
 use Rattle.cal_input.specs.declared.fault.RunFault.{RunFault}
-use Rattle.cal_machine.specs.Table.{Table}
 use Rattle.cal_paced.specs.Planned.{IsPlanFault}
 use Rattle.cal_paced.specs.declared.fault.PaceFault.TheVariants as paces
 use Rattle.cal_paced.specs.declared.fault.PaceFault.{PaceFault}
 use Rattle.cal_paced.specs.declared.plan.Plan.{Plan}
 use Rattle.cal_policy.specs.declared.policy.Policy.{Policy}
-use Rattle.cal_run.specs.Outcome.{IsRunBy}
 use Rattle.cal_run.specs.declared.outcome.Outcome.{Outcome}
-use Rattle.cal_trace.specs.declared.arrivals.Arrivals.{Arrivals}
-use Rattle.cal_tables.specs.Asked.{Subject, of_run}
-use Rattle.cal_tables.specs.Planned.{DecidedBy, FailedBy, IsFaultBy, IsFaultOfPlan, IsRunGiven, MayGoBy, fault_of_plan}
 use Rattle.cal_tables.specs.declared.planned.PlannedFault.TheVariants.{Pace, Run}
 use Rattle.cal_tables.specs.declared.planned.PlannedFault.{PlannedFault}
 

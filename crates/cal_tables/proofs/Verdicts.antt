@@ -1,5 +1,5 @@
 -- What an input asks for, and what is said of it.
-use Rattle.std.proofs.Common.{◌≡◌, ◌∙◌, ℕ, List, Option, Some, None, Result, Ok, Err, refl, sym, ap, subst}
+use Rattle.cal_tables.proofs.Common.{◌≡◌, ◌∙◌, ℕ, List, Option, Some, None, Result, Ok, Err, refl, sym, ap, subst, Table, Arrivals, asked_in, asked_of, asked_on, asked_run, of_run, Subject, IsCountedBy, IsFaultBy, MayGoBy}
 use Rattle.cal_came.specs.Asked.{IsCountFault}
 use Rattle.cal_came.specs.declared.asked.CountFault.{CountFault}
 use Rattle.cal_came.specs.declared.asked.CountFault.TheVariants as counts
@@ -9,13 +9,10 @@ use Rattle.cal_input.specs.Parts.{parts_of, run_input_of}
 use Rattle.cal_input.specs.declared.fault.RunFault.{RunFault}
 use Rattle.cal_input.specs.declared.fault.RunFault.TheVariants as faults
 use Rattle.cal_input.proofs.Refusals.{run_decided}
-use Rattle.cal_machine.specs.Table.{Table}
 use Rattle.cal_paced.specs.declared.plan.Plan.{Plan}
 use Rattle.cal_policy.specs.declared.policy.Policy.{Policy}
-use Rattle.cal_trace.specs.declared.arrivals.Arrivals.{Arrivals}
-use Rattle.cal_tables.specs.Asked.{arrivals_in, asked_in, asked_of, asked_on, asked_run, of_run, Subject}
+use Rattle.cal_tables.specs.Asked.{arrivals_in}
 use Rattle.cal_tables.specs.Measuring.{DecidedFor, FailedFor, IsRefusedOn, fault_of_count, fault_of_planned}
-use Rattle.cal_tables.specs.Planned.{IsCountedBy, IsFaultBy, MayGoBy}
 use Rattle.cal_tables.specs.declared.asked_fault.AskedFault.{AskedFault}
 use Rattle.cal_tables.specs.declared.asked_fault.AskedFault.TheVariants.{Count, Pace, Run}
 use Rattle.cal_tables.specs.declared.measuring.MeasuredInput.{MeasuredInput}

@@ -1,24 +1,9 @@
 -- Arrivals that were read fit: the checks of their rows say so.
-use Rattle.std.proofs.Common.{◌≡◌, ◌<◌, ◌≤◌, ◌==◌, ◌&&◌, ◌⊎◌, inl, inr, not, nat_le, nat_lt, ℕ, Bool, true, false, List, [], ◌∷◌, ◌++◌, length, Option, Some, None, Result, Ok, Err, codes, refl, sym, subst, arith, length-append, unwrap_or, if◌then◌else◌, IfOk}
-use Rattle.std.proofs.lemmas.Bool.{and_parts, or_cases, or_parts, not-true, ltb-true, leb-true, eqb-true, eqb-false}
-use Rattle.cal_trace.specs.Rows.Answers.{IsWhatRowsSay}
-use Rattle.cal_trace.specs.Arrivals.{SoFar, at_start, form_of, take_row, take_form, whole, last_in, turn_row, comes_after, is_given, is_size, arrival_row, add_pass, add_turn, add_arrival, add_end, is_none_yet, rows_in, arrivals_of}
-use Rattle.cal_trace.specs.declared.arrivals.reading.TheConstants.{MOST_TURNS, MOST_WORK, MOST_REQUEST_MISSES}
-use Rattle.cal_trace.specs.Rows.RowFields.{has_numbers, number_at}
-use Rattle.cal_trace.specs.Arrivals.FitsTable.{IsArrival, ComesBefore, HaveTwoIds, Fits}
-use Rattle.cal_trace.specs.Rows.Header.{header_of, in_version_one}
-use Rattle.cal_trace.specs.Rows.LookRows.{pass_row, end_row}
-use Rattle.cal_policy.specs.declared.history.entry.TheConstants.{MOST_PASSES}
-use Rattle.cal_trace.specs.History.Ranges.{Each}
-use Rattle.cal_trace.specs.Rows.{Fields}
+use Rattle.cal_trace.proofs.Common.{◌≡◌, ◌<◌, ◌≤◌, ◌==◌, ◌&&◌, ◌⊎◌, inl, inr, not, nat_le, nat_lt, ℕ, Bool, true, false, List, [], ◌∷◌, ◌++◌, length, Option, Some, None, Result, Ok, Err, codes, refl, sym, subst, arith, length-append, unwrap_or, if◌then◌else◌, IfOk, and_parts, or_cases, or_parts, not-true, ltb-true, leb-true, eqb-true, eqb-false, IsWhatRowsSay, form_of, take_row, take_form, last_in, turn_row, comes_after, is_given, is_size, arrival_row, add_turn, add_arrival, is_none_yet, rows_in, arrivals_of, MOST_TURNS, MOST_WORK, MOST_REQUEST_MISSES, has_numbers, number_at, IsArrival, ComesBefore, HaveTwoIds, Fits, header_of, in_version_one, pass_row, end_row, MOST_PASSES, Each, Fields, Arrival, Arrivals, GivenPass, FaultKind, TraceFault}
+use Rattle.cal_trace.specs.Arrivals.{SoFar, at_start, whole, add_pass, add_end}
 use Rattle.cal_trace.specs.declared.arrivals.reading.Form.{Form}
 use Rattle.cal_trace.specs.declared.arrivals.reading.Form.TheVariants as form
-use Rattle.cal_trace.specs.declared.arrivals.Arrival.{Arrival}
-use Rattle.cal_trace.specs.declared.arrivals.Arrivals.{Arrivals}
-use Rattle.cal_trace.specs.declared.arrivals.GivenPass.{GivenPass}
-use Rattle.cal_trace.specs.declared.fault.FaultKind.{FaultKind}
 use Rattle.cal_trace.specs.declared.fault.FaultKind.TheVariants as kind
-use Rattle.cal_trace.specs.declared.fault.TraceFault.{TraceFault}
 use Rattle.cal_trace.proofs.RowLemmas.Checks.{same_ok, check_one, check_two, check_three}
 use Rattle.cal_trace.proofs.RowLemmas.Conjunctions.{and_three}
 use Rattle.cal_trace.proofs.ListLemmas.EachLater.{later_none, later_push, each_to_last}

@@ -1,25 +1,12 @@
 -- Signals that are given pass by pass.
-use Rattle.std.proofs.Common.{◌≡◌, ◌≤◌, ℕ, List, [], length, Option, Some, Ok, Err, Result, IfOk, ap, sym, ◌∙◌, codes}
-use Rattle.cal_trace.specs.Rows.Answers.{Takes}
-use Rattle.cal_trace.specs.Rows.Header.{header_of}
+use Rattle.cal_trace.proofs.Common.{◌≡◌, ◌≤◌, ℕ, List, [], length, Option, Some, Ok, Err, Result, IfOk, ap, sym, ◌∙◌, codes, Takes, header_of, FaultKind, MOST_PASSES, read_under, Fields, rest_of, rows_of, pass_row, end_row, IsCounted, SoFar, at_start, passes_of, whole, is_between, add_pass, add_end, take_pass, take_end, last_shown, looks_in, GivenPass, pass_at_hand, so_far, KeepsSignals, KeepsFittingSignals, SignalReading, SignalPass, Version, append-nil}
 use Rattle.cal_trace.specs.Rows.Passes.{with_closed}
-use Rattle.cal_trace.specs.declared.fault.FaultKind.{FaultKind}
-use Rattle.cal_policy.specs.declared.history.entry.TheConstants.{MOST_PASSES}
-use Rattle.cal_trace.specs.Rows.Reading.{read_under}
-use Rattle.cal_trace.specs.Rows.{Fields, rest_of, rows_of}
-use Rattle.cal_trace.specs.Rows.LookRows.{pass_row, end_row}
-use Rattle.cal_trace.specs.Rows.SoFar.{IsCounted, SoFar, at_start, passes_of, whole, is_between, add_pass, add_end, take_pass, take_end}
-use Rattle.cal_trace.specs.Signals.{last_shown, looks_in, begun, take_form, take_row}
+use Rattle.cal_trace.specs.Signals.{begun, take_form, take_row}
 use Rattle.cal_trace.specs.declared.fault.FaultKind.TheVariants as kind
-use Rattle.cal_trace.specs.declared.arrivals.GivenPass.{GivenPass}
 use Rattle.cal_trace.specs.Signals.Fitting.{IsFittingSoFar}
-use Rattle.cal_trace.specs.Signals.Reading.{file_of, pass_at_hand, so_far, HasGiven, KeepsSignals, KeepsFittingSignals}
+use Rattle.cal_trace.specs.Signals.Reading.{file_of, HasGiven}
 use Rattle.cal_trace.specs.declared.signals.file.SignalRows.{SignalRows}
 use Rattle.cal_trace.specs.declared.signals.reading.Form.{Form}
-use Rattle.cal_trace.specs.declared.signals.reading.SignalReading.{SignalReading}
-use Rattle.cal_trace.specs.declared.signals.SignalPass.{SignalPass}
-use Rattle.cal_trace.specs.declared.rows.version.Version.{Version}
-use Rattle.std.proofs.lemmas.List.{append-nil}
 use Rattle.cal_trace.proofs.RowLemmas.Checks.{check_one, same_ok}
 use Rattle.cal_trace.proofs.RowLemmas.Passes.{few_counted}
 use Rattle.cal_trace.proofs.SignalLemmas.Accepted.{row_fits, start_fits}

@@ -1,3 +1,4 @@
+mod Common
 pub mod RowLemmas
 pub mod SignalLemmas
 pub mod ListLemmas

@@ -1,9 +1,6 @@
 -- What a turn hands out, counted step by step.
-use Rattle.std.proofs.Common.{◌<◌, ◌≤◌, ◌+◌, ℕ, zero, suc, Option, None, Some, List, ◌∷◌, [], length, get_or, arith, length-append}
-use Rattle.std.specs.List.{AllZip}
+use Rattle.cal_trace.proofs.Common.{◌<◌, ◌≤◌, ◌+◌, ℕ, zero, suc, Option, None, Some, List, ◌∷◌, [], length, get_or, arith, length-append, AllZip, Entry, IsTallyOf}
 use Rattle.cal_kthread.specs.Turn.{noted}
-use Rattle.cal_kthread.specs.declared.journal.entry.Entry.{Entry}
-use Rattle.cal_trace.specs.Report.Summary.{IsTallyOf}
 use Rattle.cal_trace.specs.declared.report.tally.Tally.{Tally}
 
 -- a step adds one entry at most

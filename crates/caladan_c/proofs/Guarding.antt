@@ -1,18 +1,10 @@
 -- What a guard's answer makes of a guard.
-use Rattle.std.proofs.Common.{◌≡◌, [], List, map, refl, subst}
-use Rattle.cal_policy.specs.declared.history.action.Action.{Action}
-use Rattle.cal_policy.specs.declared.history.entry.PassEntry.{PassEntry}
-use Rattle.cal_policy.specs.declared.history.input.Input.{Input}
-use Rattle.cal_policy.specs.Judgement.Judging.{IsInput}
+use Rattle.caladan_c.proofs.Common.{◌≡◌, [], List, map, refl, subst, Action, PassEntry, Input, IsInput, board_in, IsStateAfter, ArePermitted, IsPermittedHistory, GuardView, WentThrough, WasStopped, told_of}
 use Rattle.cal_policy.specs.Setting.{setting}
 use Rattle.cal_guard.specs.declared.guard.Guard.{Guard}
 use Rattle.cal_guard.specs.declared.refusal.Refused.{Refused}
-use Rattle.cal_guard.specs.Guarded.{board_in, and_then}
-use Rattle.cal_policy.specs.State.{IsStateAfter}
-use Rattle.cal_guard.specs.Permitted.{ArePermitted, IsPermittedHistory}
+use Rattle.cal_guard.specs.Guarded.{and_then}
 use Rattle.cal_guard.specs.Refusals.{IsFirstWrong}
-use Rattle.caladan_c.specs.GuardView.{GuardView, WentThrough, WasStopped}
-use Rattle.caladan_c.specs.Told.{told_of}
 use Rattle.caladan_c.specs.declared.told.Told.{Told}
 
 pub went_through : (g : GuardView) (h : List PassEntry) (input given : Input) (chosen : List Action) (told : List Told) (guard : Guard)

@@ -1,3 +1,4 @@
+mod Common
 pub mod HandleLemmas
 mod Policies
 mod Passed

@@ -1,8 +1,6 @@
 -- A list with an element that is no image is the image of no list.
-use Rattle.std.proofs.Common.{◌≡◌, ℕ, List, Option, Some, None, map, slice_get, sym, ap, ◌∙◌}
+use Rattle.caladan_c.proofs.Common.{◌≡◌, ℕ, List, Option, Some, None, map, slice_get, sym, ap, ◌∙◌, is_some, option_map, unwrap_or, slice_get-map}
 use mathlib.Core.Bool.{true≢false}
-use Rattle.std.specs.Option.{is_some, option_map, unwrap_or}
-use Rattle.std.proofs.lemmas.Option.{slice_get-map}
 
 -- what is kept of an element is an image of one
 image_of : {A B : Type 0} (f : A → B) (x : Option A) (y : B) → option_map f x ≡ Some y → ((x : A) → f x ≡ y → ⊥) → ⊥

@@ -1,19 +1,8 @@
 -- The looks of a pass that takes them one by one, one more.
-use Rattle.std.proofs.Common.{◌≡◌, ℕ, zero, suc, ◌+◌, ◌<◌, ◌≤◌, ◌++◌, ◌∷◌, [], true, List, Option, Some, None, length, map, take, slice_get, get_or, refl, sym, ap, subst, ◌∙◌, arith, if◌then◌else◌, ◌≢◌, set, inl, inr}
+use Rattle.caladan_c.proofs.Common.{◌≡◌, ℕ, zero, suc, ◌+◌, ◌<◌, ◌++◌, ◌∷◌, [], true, List, Some, None, length, map, slice_get, get_or, refl, sym, ap, ◌∙◌, arith, ◌≢◌, set, inl, inr, is_some, map-append, get_or_from_slice_get, PassEntry, FoundLook, fault_of, taken_found, taken_looks, look_of_found, said_of, is_unfit, IsFirstUnfit, Found}
 use Rattle.std.specs.List.{enumerate_from}
-use Rattle.std.specs.Option.{is_some}
-use Rattle.std.proofs.lemmas.List.{map-append, length-map, take_more, take_all, length-take-le}
 use Rattle.std.proofs.lemmas.Bool.Decides.{eqb_tells}
-use Rattle.std.proofs.lemmas.Option.{get_or_from_slice_get}
 use Rattle.cal_machine.proofs.Places.{slice_get_at}
-use Rattle.cal_machine.specs.Table.{Table}
-use Rattle.cal_policy.specs.declared.history.entry.PassEntry.{PassEntry}
-use Rattle.cal_policy.specs.declared.judgement.look_fault.LookFault.{LookFault}
-use Rattle.cal_policy.specs.declared.judgement.open_input.FoundLook.{FoundLook}
-use Rattle.cal_policy.specs.Judgement.OneByOne.{fault_of, refused_look, taken_found, taken_looks}
-use Rattle.caladan_c.specs.Found.{found_of, look_of_found}
-use Rattle.caladan_c.specs.OneByOne.{said_of, is_unfit, IsFirstUnfit}
-use Rattle.caladan_c.specs.declared.found.Found.{Found}
 
 numbered_more : {X : Type 0} (n : ℕ) (xs : List X) (x : X) → enumerate_from n (xs ++ x ∷ []) ≡ enumerate_from n xs ++ (n + length xs, x) ∷ []
 numbered_more n [] x = let same : n ≡ n + 0 = omega arith in ap (λ m. (m, x) ∷ []) same

@@ -1,6 +1,5 @@
 -- One more of what was recorded, read back at the end of a list.
-use Rattle.std.proofs.Common.{◌≡◌, ℕ, ◌+◌, ◌<◌, ◌++◌, ◌∷◌, [], List, length, map, take, get_or, sym, ap, ◌∙◌}
-use Rattle.std.proofs.lemmas.List.{map-append, map_more, take_more}
+use Rattle.caladan_c.proofs.Common.{◌≡◌, ℕ, ◌+◌, ◌<◌, ◌++◌, ◌∷◌, [], List, length, map, take, get_or, sym, ap, ◌∙◌, map-append, map_more, take_more}
 
 -- the new one tells what the next one is
 pub image_more : {A B C : Type 0} (f : A → B) (g : C → B) (xs : List C) (i : ℕ) (d : C) (old new : List A) (one : A)

@@ -1,18 +1,9 @@
 -- What a pass makes of a scheduler.
-use Rattle.std.proofs.Common.{◌≡◌, ◌++◌, ◌∷◌, [], List, refl, subst}
-use Rattle.cal_machine.specs.Table.{IsTable}
+use Rattle.caladan_c.proofs.Common.{◌≡◌, ◌++◌, ◌∷◌, [], List, refl, subst, IsTable, Action, PassEntry, Input, IsStateAfter, IsInput, IsLegalBy, IsNextBy, MadePass, passed, Standing}
 use Rattle.cal_policy.specs.declared.book.Book.{Book}
-use Rattle.cal_policy.specs.declared.history.action.Action.{Action}
-use Rattle.cal_policy.specs.declared.history.entry.PassEntry.{PassEntry}
-use Rattle.cal_policy.specs.declared.history.input.Input.{Input}
 use Rattle.cal_policy.specs.Book.{board_in}
-use Rattle.cal_policy.specs.State.{IsStateAfter}
-use Rattle.cal_policy.specs.Judgement.Judging.{IsInput}
-use Rattle.cal_policy.specs.Policies.{IsLegalBy, IsNextBy}
 use Rattle.cal_guard.specs.Histories.{EachPolicyIsPermitted}
 use Rattle.cal_guard.specs.Laws.{PassesAreShort}
-use Rattle.caladan_c.specs.Passing.{MadePass, passed}
-use Rattle.caladan_c.specs.Standing.{Standing}
 use Rattle.caladan_c.proofs.Policies.{one_more_by}
 
 -- the pass was made on an input that it may be given

@@ -1,13 +1,7 @@
 -- A pass more, whatever the policy.
-use Rattle.std.proofs.Common.{◌≡◌, ◌≤◌, ◌++◌, ◌∷◌, [], List, length, arith}
+use Rattle.caladan_c.proofs.Common.{◌≡◌, ◌≤◌, ◌++◌, ◌∷◌, [], List, length, arith, Table, IsTable, Action, PassEntry, Input, IsInput, pass_by, IsLegalBy}
 use Rattle.cal_machine.proofs.Last.{slice_get-last}
-use Rattle.cal_machine.specs.Table.{Table, IsTable}
-use Rattle.cal_policy.specs.declared.history.action.Action.{Action}
-use Rattle.cal_policy.specs.declared.history.entry.PassEntry.{PassEntry}
-use Rattle.cal_policy.specs.declared.history.input.Input.{Input}
 use Rattle.cal_policy.specs.declared.policy.Policy.{Policy}
-use Rattle.cal_policy.specs.Judgement.Judging.{IsInput}
-use Rattle.cal_policy.specs.Policies.{pass_by, IsLegalBy}
 use Rattle.cal_policy.specs.Setting.{setting}
 use Rattle.cal_policy.proofs.PolicyLemmas.{legal_more_by, pass_from}
 use Rattle.cal_laws.specs.Point.{Point}

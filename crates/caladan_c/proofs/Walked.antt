@@ -1,29 +1,15 @@
 -- The looks of a pass that came in by one walk.
-use Rattle.std.proofs.Common.{◌≡◌, ℕ, ◌+◌, ◌<◌, ◌≤◌, ◌++◌, ◌∷◌, [], Bool, true, false, List, Option, Some, None, length, map, take, slice_get, get_or, refl, sym, ap, subst, ◌∙◌, arith, if◌then◌else◌, ⊎_elim}
-use Rattle.std.specs.Option.{is_some, option_map, unwrap_or}
-use Rattle.std.proofs.lemmas.List.{map-append, length-map, take_more, take_all, length-take-le}
-use Rattle.std.proofs.lemmas.Option.{slice_get_cases, slice_get-map, slice_get_within, get_or_from_slice_get}
+use Rattle.caladan_c.proofs.Common.{◌≡◌, ℕ, ◌+◌, ◌<◌, ◌≤◌, ◌++◌, ◌∷◌, [], Bool, true, false, List, Option, Some, None, length, map, take, slice_get, get_or, refl, sym, ap, subst, ◌∙◌, arith, if◌then◌else◌, ⊎_elim, is_some, option_map, unwrap_or, map-append, length-map, take_more, take_all, length-take-le, slice_get_cases, slice_get-map, slice_get_within, get_or_from_slice_get, Table, PassEntry, FoundLook, actions_of, looks_of, last_shown, judged, IsInput, fault_of, misfit_of, refused_look, taken_found, taken_looks, found_of, input_of_found, look_of_found, is_unfit, AreJudgements, judgement_at, judgement_of, Found}
 use Rattle.cal_machine.proofs.Places.{slice_get_at}
-use Rattle.cal_machine.specs.Table.{Table}
 use Rattle.cal_machine.specs.ThreadSet.{has_thread}
-use Rattle.cal_policy.specs.declared.history.entry.PassEntry.{PassEntry}
 use Rattle.cal_policy.specs.declared.history.look.Seen.{Seen}
 use Rattle.cal_policy.specs.declared.judgement.look_fault.LookFault.{LookFault}
-use Rattle.cal_policy.specs.declared.judgement.open_input.FoundLook.{FoundLook}
 use Rattle.cal_policy.specs.declared.judgement.open_pass.OpenPass.{OpenPass}
-use Rattle.cal_policy.specs.History.{actions_of, looks_of}
-use Rattle.cal_policy.specs.History.Looks.{last_shown}
-use Rattle.cal_policy.specs.Judgement.Judging.{judged, IsInput}
-use Rattle.cal_policy.specs.Judgement.OneByOne.{fault_of, misfit_of, refused_look, taken_found, taken_looks}
 use Rattle.cal_policy.specs.Judgement.OpenInput.{judged_looks}
 use Rattle.cal_policy.specs.Judgement.OpenPass.{IsOpenAt, look_in as look_at}
 use Rattle.cal_policy.proofs.JudgementLemmas.OneByOne.{from_0, misfits_do_not_fit}
 use Rattle.cal_policy.proofs.JudgementLemmas.OpenInput.{length-judged_looks}
 use Rattle.cal_policy.proofs.JudgementLemmas.OpenPass.{judged_here}
-use Rattle.caladan_c.specs.Found.{found_of, input_of_found, look_of_found}
-use Rattle.caladan_c.specs.OneByOne.{is_unfit}
-use Rattle.caladan_c.specs.Told.{AreJudgements, judgement_at, judgement_of}
-use Rattle.caladan_c.specs.declared.found.Found.{Found}
 use Rattle.caladan_c.proofs.OneByOne.{taken_more}
 
 -- what holds of the first looks and the next one holds of one more

@@ -1,21 +1,6 @@
 -- Every history of this policy is permitted.
-use Rattle.std.proofs.Common.{◌≡◌, ℕ, ◌+◌, ◌≤◌, zero, suc, List, [], ◌++◌, length, take, Some, None, inl, refl, sym, ap, ◌∙◌, arith, subst, ⊎_elim}
-use Rattle.std.proofs.lemmas.List.{append-nil}
-use Rattle.std.proofs.lemmas.Option.{slice_get_cases, slice_get_within}
-use Rattle.cal_machine.specs.Table.{Table, IsTable}
-use Rattle.cal_policy.specs.declared.history.action.Action.{Action}
-use Rattle.cal_policy.specs.declared.history.entry.PassEntry.{PassEntry}
-use Rattle.cal_policy.specs.History.{actions_of, sent_to}
-use Rattle.cal_policy.specs.Pass.Bans.{NoPairBanned}
-use Rattle.cal_policy.specs.Pass.Steady.{IsSteady}
-use Rattle.cal_policy.specs.Setting.{Setting, setting_of, so_far}
+use Rattle.cal_guard.proofs.Common.{◌≡◌, ℕ, ◌+◌, ◌≤◌, zero, suc, List, [], ◌++◌, length, take, Some, None, inl, refl, sym, ap, ◌∙◌, arith, subst, ⊎_elim, append-nil, slice_get_cases, slice_get_within, Table, IsTable, Action, PassEntry, actions_of, sent_to, NoPairBanned, IsSteady, Setting, setting_of, so_far, none_banned, Steady_start, none_counted, NoneHeld, HaveOneCore, actions_more, NoneOverCap, IsPermitted, ArePermitted, IsPermittedHistory}
 use Rattle.cal_policy.proofs.ListLemmas.EachAfter.{each_at}
-use Rattle.cal_policy.proofs.PassLemmas.Apart.{none_banned}
-use Rattle.cal_policy.proofs.PassLemmas.Steady.{Steady_start, none_counted}
-use Rattle.cal_laws.specs.Bans.{NoneHeld}
-use Rattle.cal_laws.specs.Exclusion.{HaveOneCore}
-use Rattle.cal_laws.proofs.PointLemmas.EachAction.{actions_more}
-use Rattle.cal_guard.specs.Permitted.{NoneOverCap, IsPermitted, ArePermitted, IsPermittedHistory}
 use Rattle.cal_policy.specs.Assured.Pass.{pass_of, IsPass, IsLegal}
 use Rattle.cal_policy.proofs.AssuredLemmas.Lengths.{pass_short}
 use Rattle.cal_guard.proofs.AssuredLemmas.Permitting.{Laws, First, IsPermittedWhole, pass_permitted}

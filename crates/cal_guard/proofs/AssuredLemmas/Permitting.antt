@@ -1,46 +1,19 @@
 -- Each action of a pass is permitted at its place, and at its end no ban and no cap is left undone.
-use Rattle.std.proofs.Common.{◌≡◌, ℕ, ◌+◌, ◌-◌, ◌<◌, ◌≤◌, Bool, true, false, not, ◌&&◌, cond, eqb, ltb, nat_lt, List, [], ◌∷◌, ◌++◌, length, Option, Some, None, inl, inr, refl, sym, ap, ◌∙◌, arith, subst, append_assoc, ⊎_elim}
-use Rattle.std.specs.Option.{is_some}
-use Rattle.std.proofs.lemmas.Bool.{and_parts, and_from, not-true, lt-ltb, ltb-true, eqb-true, eq-eqb, both_ways}
-use Rattle.std.proofs.lemmas.List.{append-nil}
+use Rattle.cal_guard.proofs.Common.{◌≡◌, ℕ, ◌+◌, ◌-◌, ◌<◌, ◌≤◌, Bool, true, false, not, ◌&&◌, cond, eqb, ltb, nat_lt, List, [], ◌∷◌, ◌++◌, length, Option, Some, None, inl, inr, refl, sym, ap, ◌∙◌, arith, subst, append_assoc, ⊎_elim, is_some, and_parts, and_from, not-true, lt-ltb, ltb-true, eqb-true, eq-eqb, both_ways, append-nil, Table, IsTable, owner_of, threads_of_table, is_latency_critical, some_then, some_else, Action, Free, Unban, Ban, Revoke, Cap, Grant, Cause, Holder, holder_of, last_placement, is_banned, placement_of, is_free, is_held, is_held_for, held_by, cores_of_thread, cap_of, lowest_below, ban_due, ban_for, is_granted_in, preempt_class, may_book, thread_choice, fits_state, Setting, so_far, kept_now, has_room, is_held_with_room, ActionIsOneMore, ChosenIsOfLeastClass, VictimHasMostMisses, holder_push, so_far_push, made_fits, revoke_fits, thread_facts, Shrinks_ban, Shrinks_unban, Shrinks_cap, Shrinks_free, Shrinks_revoke, NoneHeld, MayBookMore, held_revoked, held_lost, cap_same, cap_new, books, MayBeRevoked, MayBeMade, core_revoked, EmptiesBanned, RevokesFrom, LowersCapped, NoneOverCap, IsPermitted}
 use Rattle.cal_machine.specs.Machine.{sibling_of}
-use Rattle.cal_machine.specs.Table.{Table, IsTable}
-use Rattle.cal_machine.specs.TableTasks.{owner_of, threads_of_table, is_latency_critical}
-use Rattle.cal_machine.proofs.Booleans.{some_then, some_else}
-use Rattle.cal_policy.specs.declared.history.action.Action.{Action}
-use Rattle.cal_policy.specs.declared.history.action.Action.TheVariants.{Free, Unban, Ban, Revoke, Cap, Grant}
-use Rattle.cal_policy.specs.declared.history.action.Cause.{Cause}
 use Rattle.cal_policy.specs.declared.history.action.Cause.TheVariants as causes
 use Rattle.cal_policy.specs.declared.history.core_class.CoreClass.{CoreClass}
 use Rattle.cal_policy.specs.declared.pass.choice.Candidate.{Candidate}
-use Rattle.cal_policy.specs.declared.board.holders.Holder.{Holder}
 use Rattle.cal_policy.specs.declared.board.holders.Holder.TheVariants as holders
-use Rattle.cal_policy.specs.History.{holder_of, last_placement, is_banned}
-use Rattle.cal_policy.specs.Board.{placement_of}
-use Rattle.cal_policy.specs.Board.Counts.{is_free, is_held, is_held_for, held_by, cores_of_thread, cap_of}
-use Rattle.cal_policy.specs.Pass.Choice.{lowest_below}
-use Rattle.cal_policy.specs.Pass.Bans.{ban_due, ban_for}
 use Rattle.cal_policy.specs.Pass.Bandwidth.{victim_of, core_to_lose, cut_at, cut_of, rise_of, is_capped, bandwidth_part, can_lose}
-use Rattle.cal_policy.specs.Pass.Grants.{is_granted_in, preempt_class, may_book, thread_choice}
 use Rattle.cal_policy.specs.Pass.Frees.{frees}
 use Rattle.cal_policy.specs.Pass.Made.{EachAfter, IsFreed, IsCut, IsCapRise, IsRevokedForBan, IsRevokedForBandwidth}
 use Rattle.cal_policy.specs.Pass.{followed}
-use Rattle.cal_policy.specs.Judgement.Orderly.{fits_state}
-use Rattle.cal_policy.specs.Setting.{Setting, so_far, kept_now, has_room, is_held_with_room}
-use Rattle.cal_policy.specs.Laws.{ActionIsOneMore, ChosenIsOfLeastClass, VictimHasMostMisses}
-use Rattle.cal_policy.proofs.HistoryLemmas.OneMore.{holder_push}
 use Rattle.cal_policy.proofs.ListLemmas.EachAfter.{each_append}
-use Rattle.cal_policy.proofs.PassLemmas.Fits.{so_far_push, made_fits, revoke_fits, thread_facts}
-use Rattle.cal_policy.proofs.PassLemmas.Steady.{Shrinks_ban, Shrinks_unban, Shrinks_cap, Shrinks_free, Shrinks_revoke}
-use Rattle.cal_laws.specs.Bans.{NoneHeld}
-use Rattle.cal_laws.specs.Limits.{MayBookMore}
 use Rattle.cal_laws.proofs.BanLemmas.Emptied.{Spares, none_held_after, none_held_emptied, banned_before}
-use Rattle.cal_laws.proofs.CapLemmas.Held.{held_revoked, held_lost, cap_same, cap_new}
 use Rattle.cal_laws.proofs.CauseLemmas.Revoked.{IsRevocable, takes_held, revocable, preempt_over, best_effort_over}
-use Rattle.cal_laws.proofs.ChoiceLemmas.Granted.{books}
 use Rattle.cal_laws.proofs.ExclusionLemmas.SameHolders.{held_same}
 use Rattle.cal_laws.proofs.ListLemmas.Below.{highest_is}
-use Rattle.cal_guard.specs.Permitted.{MayBeRevoked, MayBeMade, core_revoked, EmptiesBanned, RevokesFrom, LowersCapped, NoneOverCap, IsPermitted}
 use Rattle.cal_policy.specs.Assured.Cause.{IsForTask}
 use Rattle.cal_policy.specs.Assured.Grants.{grants}
 use Rattle.cal_policy.specs.Assured.Hyperthreads.{unbans, due_for, bans_at, bans}

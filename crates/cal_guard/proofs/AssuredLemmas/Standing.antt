@@ -1,39 +1,10 @@
 -- What stands between the actions of a pass, and what one action more leaves of it.
-use Rattle.std.proofs.Common.{◌≡◌, ◌≢◌, ℕ, ◌<◌, ◌⊎◌, Bool, true, false, cond, eqb, List, [], ◌∷◌, ◌++◌, length, Option, Some, None, inl, inr, refl, sym, ap, ◌∙◌, arith, subst, ⊎_elim}
-use Rattle.std.specs.Option.{is_some, option_or}
-use Rattle.std.proofs.lemmas.Bool.{eqb-true, eq-eqb, ne_eqb, both_ways}
-use Rattle.cal_machine.specs.Table.{Table}
-use Rattle.cal_machine.specs.TableTasks.{owner_of}
-use Rattle.cal_machine.specs.declared.command.Command.{Command}
-use Rattle.cal_machine.specs.declared.command.Command.TheVariants.{Run, Park}
-use Rattle.cal_machine.proofs.Booleans.{unwrap_if}
-use Rattle.cal_policy.specs.declared.history.action.Action.{Action}
-use Rattle.cal_policy.specs.declared.history.action.Action.TheVariants.{Free, Unban, Ban, Revoke, Cap, Grant}
-use Rattle.cal_policy.specs.declared.history.action.Cause.{Cause}
+use Rattle.cal_guard.proofs.Common.{◌≡◌, ◌≢◌, ℕ, ◌<◌, ◌⊎◌, Bool, true, false, cond, eqb, List, [], ◌∷◌, ◌++◌, length, Option, Some, None, inl, inr, refl, sym, ap, ◌∙◌, arith, subst, ⊎_elim, is_some, option_or, eqb-true, eq-eqb, ne_eqb, both_ways, Table, owner_of, Command, Run, Park, unwrap_if, Action, Free, Unban, Ban, Revoke, Cap, Grant, Cause, actions_of, holder_of, last_placement, last_thread, thread_granted, command_to, sent_to, sends, placed, left_by, placement_of, is_free, is_held, is_with, cores_of_thread, NoPairBanned, is_granted_in, IsSteady, fits_state, Setting, so_far, ActionIsOneMore, holder_push, sent_push, last_thread_push, last_thread_placement, apart_push, so_far_push, Shrinks, Steady_shrinks, Steady_grant, HaveOneCore, MayBookMore, held_freed, held_revoked, cap_same, gives_free, free_nobody, on_other, last_loser, NoneOverCap}
 use Rattle.cal_policy.specs.declared.board.holders.Placement as placements
 use Rattle.cal_policy.specs.declared.board.holders.Holder.TheVariants as holders
-use Rattle.cal_policy.specs.History.{actions_of, holder_of, last_placement, last_thread, thread_granted, command_to, sent_to, sends, placed, left_by}
-use Rattle.cal_policy.specs.Board.{placement_of}
-use Rattle.cal_policy.specs.Board.Counts.{is_free, is_held, is_with, cores_of_thread}
-use Rattle.cal_policy.specs.Pass.Bans.{NoPairBanned}
-use Rattle.cal_policy.specs.Pass.Grants.{is_granted_in}
-use Rattle.cal_policy.specs.Pass.Steady.{IsSteady}
-use Rattle.cal_policy.specs.Judgement.Orderly.{fits_state}
-use Rattle.cal_policy.specs.Setting.{Setting, so_far}
-use Rattle.cal_policy.specs.Laws.{ActionIsOneMore}
-use Rattle.cal_policy.proofs.HistoryLemmas.OneMore.{holder_push, sent_push, last_thread_push, last_thread_placement}
-use Rattle.cal_policy.proofs.PassLemmas.Apart.{apart_push}
-use Rattle.cal_policy.proofs.PassLemmas.Fits.{so_far_push}
-use Rattle.cal_policy.proofs.PassLemmas.Steady.{Shrinks, Steady_shrinks, Steady_grant}
-use Rattle.cal_laws.specs.Exclusion.{HaveOneCore}
-use Rattle.cal_laws.specs.Limits.{MayBookMore}
 use Rattle.cal_laws.proofs.CapLemmas.Capped.{granted}
-use Rattle.cal_laws.proofs.CapLemmas.Held.{held_freed, held_revoked, cap_same}
-use Rattle.cal_laws.proofs.ChoiceLemmas.Granted.{gives_free, free_nobody}
-use Rattle.cal_laws.proofs.ExclusionLemmas.Excluded.{on_other, last_loser}
 use Rattle.cal_laws.proofs.ExclusionLemmas.SameHolders.{held_same}
 use Rattle.cal_laws.proofs.ListLemmas.Counted.{count_none}
-use Rattle.cal_guard.specs.Permitted.{NoneOverCap}
 
 -- Threads have one core
 

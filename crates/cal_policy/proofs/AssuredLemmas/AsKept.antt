@@ -1,27 +1,7 @@
 -- What is asked of a core under the second policy, as the board keeps it.
-use Rattle.std.proofs.Common.{◌≡◌, ℕ, ◌<◌, Bool, true, false, not, cond, ◌&&◌, eqb, nat_lt, List, Option, None, refl, ap, sym, ◌∙◌, arith}
-use Rattle.std.proofs.lemmas.Bool.{and_parts, eqb-true}
-use Rattle.cal_machine.specs.CoreSet.{has}
-use Rattle.cal_machine.specs.Table.{Table}
-use Rattle.cal_signal.specs.declared.record.Record.{Record}
-use Rattle.cal_policy.specs.declared.history.action.Action.{Action}
-use Rattle.cal_policy.specs.declared.history.action.Cause.{Cause}
-use Rattle.cal_policy.specs.declared.board.Board.{Board}
+use Rattle.cal_policy.proofs.Common.{◌≡◌, ℕ, ◌<◌, Bool, true, false, not, cond, ◌&&◌, eqb, nat_lt, List, Option, None, refl, ap, sym, ◌∙◌, arith, and_parts, eqb-true, has, Table, Record, Action, Cause, Board, Holder, Held, Leaving, is_untaken, is_open, CoreClass, is_task, owed_to, held_class, open_class, owed_class, kept_holder, kept_number, kept_placement, holder_in, is_free, is_with, Sorts, holder_of, count_below, Setting, so_far, Agrees, IsReady, Stands}
 use Rattle.cal_policy.specs.declared.board.holders.Placement as placements
-use Rattle.cal_policy.specs.declared.board.holders.Holder.{Holder}
-use Rattle.cal_policy.specs.declared.board.holders.Holder.TheVariants.{Free, Held, Leaving}
-use Rattle.cal_policy.specs.Assured.InFlight.{is_untaken}
-use Rattle.cal_policy.specs.Assured.Short.{is_open}
-use Rattle.cal_policy.specs.declared.history.core_class.CoreClass.{CoreClass}
-use Rattle.cal_policy.specs.Assured.Owed.{is_task, owed_to}
-use Rattle.cal_policy.specs.Assured.Taking.{held_class, open_class, owed_class}
-use Rattle.cal_policy.specs.Board.{kept_holder, kept_number, kept_placement, holder_in}
-use Rattle.cal_policy.specs.Board.Counts.{is_free, is_with}
-use Rattle.cal_policy.specs.Board.CoreSets.{Sorts}
-use Rattle.cal_policy.specs.History.{holder_of}
-use Rattle.cal_policy.specs.Pass.Choice.{count_below}
-use Rattle.cal_policy.specs.Setting.{Setting, so_far}
-use Rattle.cal_policy.specs.State.{Agrees, IsReady, Stands}
+use Rattle.cal_policy.specs.declared.board.holders.Holder.TheVariants.{Free}
 use Rattle.cal_policy.proofs.BoardLemmas.StateKept.{free_kept}
 use Rattle.cal_policy.proofs.BoardLemmas.TwoSets.{in_taken}
 use Rattle.cal_policy.proofs.ListLemmas.Counted.{count_le}

@@ -1,35 +1,12 @@
 -- A task that may book no more cores may book none while cores are granted and revoked.
-use Rattle.std.proofs.Common.{◌≡◌, ℕ, ◌≤◌, Bool, true, false, not, ◌&&◌, ◌||◌, cond, eqb, nat_lt, List, [], ◌∷◌, ◌++◌, zero, suc, Option, Some, None, refl, sym, ap, ◌∙◌, arith, subst, append_assoc}
-use Rattle.std.proofs.lemmas.Bool.Decides.{nat_tests}
-use Rattle.std.proofs.lemmas.Bool.{and_parts}
-use Rattle.std.proofs.lemmas.List.{append-nil}
-use Rattle.std.specs.Option.{option_or, unwrap_or}
-use Rattle.cal_machine.specs.Table.{Table}
-use Rattle.cal_machine.specs.TableTasks.{thread_of, limit_of, is_latency_critical}
-use Rattle.cal_policy.specs.declared.history.action.Action.{Action}
-use Rattle.cal_policy.specs.declared.history.action.Action.TheVariants.{Free, Unban, Ban, Revoke, Cap, Grant}
-use Rattle.cal_policy.specs.declared.history.action.Cause.{Cause}
+use Rattle.cal_policy.proofs.Common.{◌≡◌, ℕ, ◌≤◌, Bool, true, false, not, ◌&&◌, ◌||◌, cond, eqb, nat_lt, List, [], ◌∷◌, ◌++◌, zero, suc, Option, Some, None, refl, sym, ap, ◌∙◌, arith, subst, append_assoc, nat_tests, and_parts, append-nil, option_or, unwrap_or, Table, thread_of, limit_of, is_latency_critical, Action, Free, Unban, Ban, Revoke, Cap, Grant, Cause, CoreClass, Candidate, Holder, grant_in_place, task_in_place, is_open, waits, is_kept, held_class, open_choice, held_choice, may_preempt, choice_for, is_free, is_held, is_booked_for, booked_by, cap_of, holder_of, holder_made, is_banned, last_placement, placement_made, placed, left_by, class_number, is_idle, last_after, in_turn, grant_of, may_book, thread_choice, Setting, so_far, unwrap_if}
 use Rattle.cal_policy.specs.declared.history.action.Cause.TheVariants as causes
-use Rattle.cal_policy.specs.declared.history.core_class.CoreClass.{CoreClass}
-use Rattle.cal_policy.specs.declared.pass.choice.Candidate.{Candidate}
 use Rattle.cal_policy.specs.declared.board.holders.Placement as placements
-use Rattle.cal_policy.specs.declared.board.holders.Holder.{Holder}
 use Rattle.cal_policy.specs.declared.board.holders.Holder.TheVariants as holders
-use Rattle.cal_policy.specs.Assured.Grants.{grant_in_place}
-use Rattle.cal_policy.specs.Assured.Order.{task_in_place}
-use Rattle.cal_policy.specs.Assured.Short.{is_open, waits}
-use Rattle.cal_policy.specs.Assured.Taking.{is_kept, held_class, open_choice, held_choice, may_preempt, choice_for}
-use Rattle.cal_policy.specs.Board.Counts.{is_free, is_held, is_booked_for, booked_by, cap_of}
-use Rattle.cal_policy.specs.History.{holder_of, holder_made, is_banned, last_placement, placement_made, placed, left_by}
-use Rattle.cal_policy.specs.History.CoreClasses.{class_number, is_idle}
-use Rattle.cal_policy.specs.History.Lists.{last_after, in_turn}
-use Rattle.cal_policy.specs.Pass.Grants.{grant_of, may_book, thread_choice}
-use Rattle.cal_policy.specs.Setting.{Setting, so_far}
 use Rattle.cal_policy.proofs.AssuredLemmas.Done.{open_taken, held_taken}
 use Rattle.cal_policy.proofs.HistoryLemmas.OneMore.{holder_push, last_cap_push}
 use Rattle.cal_policy.proofs.ListLemmas.Counted.{count_le}
 use Rattle.cal_policy.proofs.PassLemmas.Fits.{so_far_push}
-use Rattle.cal_machine.proofs.Booleans.{unwrap_if}
 
 -- who holds a core holds it by its last grant
 made_held : (c : ℕ) (before : List Action) (a : Action) (p : placements.Placement) → holder_made c before a ≡ Some (holders.Held p) → placement_made c before a ≡ Some p

@@ -1,20 +1,6 @@
 -- Counts of numbers, and what is asked of a task that the table has not.
-use Rattle.std.proofs.Common.{◌≡◌, ℕ, ◌+◌, ◌<◌, ◌≤◌, suc, zero, Bool, true, false, not, cond, eqb, ◌&&◌, nat_lt, List, length, refl, ap, ◌∙◌, add-one, arith, ⊎_elim}
-use Rattle.std.specs.Option.{is_some}
-use Rattle.std.proofs.lemmas.Bool.{cases_lt}
-use Rattle.std.proofs.lemmas.Bool.Decides.{nat_tests}
-use Rattle.std.proofs.lemmas.List.{get_or_past}
-use Rattle.cal_machine.specs.Tasks.{no_task}
-use Rattle.cal_machine.specs.declared.task.Task.{Task}
-use Rattle.cal_machine.specs.TableTasks.{limit_of, thread_of}
-use Rattle.cal_policy.specs.declared.history.action.Action.{Action}
-use Rattle.cal_policy.specs.Assured.InFlight.{pressing, presses}
-use Rattle.cal_policy.specs.Assured.Short.{is_short, surplus, waits, waits_short}
-use Rattle.cal_policy.specs.Pass.Choice.{count_below}
-use Rattle.cal_policy.specs.Pass.Grants.{may_book, thread_choice}
-use Rattle.cal_policy.specs.Setting.{Setting}
+use Rattle.cal_policy.proofs.Common.{◌≡◌, ℕ, ◌+◌, ◌<◌, ◌≤◌, suc, zero, Bool, true, false, not, cond, eqb, ◌&&◌, nat_lt, List, length, refl, ap, ◌∙◌, add-one, arith, ⊎_elim, is_some, cases_lt, nat_tests, get_or_past, no_task, Task, limit_of, thread_of, Action, pressing, presses, is_short, surplus, waits, waits_short, count_below, may_book, thread_choice, Setting, and-false}
 use Rattle.cal_policy.proofs.BoardLemmas.StateKept.{some_counted}
-use Rattle.std.proofs.Math.Bool.{and-false}
 
 -- one number more
 pub counted_more : (p : ℕ → Bool) (n count : ℕ) (b : Bool) → count ≡ count_below p n → b ≡ p n → count + cond b 1 0 ≡ count_below p (n + 1)

@@ -1,41 +1,13 @@
 -- Each action of a pass, with what stands at its own place.
-use Rattle.std.proofs.Common.{◌≡◌, ℕ, ◌+◌, ◌<◌, ◌⊎◌, Bool, true, false, not, ◌&&◌, cond, eqb, nat_lt, List, [], ◌∷◌, ◌++◌, length, Option, Some, None, inl, inr, refl, ap, ◌∙◌, subst}
-use Rattle.std.specs.Option.{option_or, is_some}
-use Rattle.std.proofs.lemmas.Bool.{and_parts, ltb-true}
-use Rattle.cal_machine.specs.Machine.{sibling_of}
-use Rattle.cal_machine.specs.TableTasks.{owner_of, thread_of, is_latency_critical}
-use Rattle.cal_machine.proofs.Booleans.{some_then}
-use Rattle.cal_policy.specs.declared.history.action.Action.{Action}
-use Rattle.cal_policy.specs.declared.history.action.Action.TheVariants.{Free, Unban, Ban, Revoke, Cap, Grant}
+use Rattle.cal_policy.proofs.Common.{◌≡◌, ℕ, ◌+◌, ◌<◌, ◌⊎◌, Bool, true, false, not, ◌&&◌, cond, eqb, nat_lt, List, [], ◌∷◌, ◌++◌, length, Option, Some, None, inl, inr, refl, ap, ◌∙◌, subst, option_or, is_some, and_parts, ltb-true, sibling_of, owner_of, thread_of, is_latency_critical, some_then, Action, Free, Unban, Ban, Revoke, Cap, Grant, BannedFor, Holder, Candidate, CoreClass, class_number, is_idle, comes_before, holder_of, last_thread, ban_of, is_banned, is_held, best_below, lowest_below, shows_left, free_at, frees, still_shows, ban_for, victim_of, core_to_lose, cut_at, cut_of, rise_of, is_capped, bandwidth_part, thread_choice, grant_of, idle_class, preempt_class, is_granted_in, EachAfter, IsFreed, IsCapCut, IsCapRise, followed, Setting, so_far, kept_now, is_held_with_room, grant_in_place, grants_of_first, grants, due_for, pressing, coming, task_in_place, place_of, bounded_of, ComesTo, surplus, waits, are_wanted, may_take, open_class, owed_class, open_choice, held_class, held_choice, may_preempt, choice_for, owed_to, is_task}
 use Rattle.cal_policy.specs.declared.history.action.Cause.TheVariants as causes
-use Rattle.cal_policy.specs.declared.board.bans.BannedFor.{BannedFor}
-use Rattle.cal_policy.specs.declared.board.holders.Holder.{Holder}
 use Rattle.cal_policy.specs.declared.board.holders.Holder.TheVariants as holders
-use Rattle.cal_policy.specs.declared.pass.choice.Candidate.{Candidate}
-use Rattle.cal_policy.specs.declared.history.core_class.CoreClass.{CoreClass}
-use Rattle.cal_policy.specs.History.CoreClasses.{class_number, is_idle, comes_before}
-use Rattle.cal_policy.specs.History.{holder_of, last_thread, ban_of, is_banned}
-use Rattle.cal_policy.specs.Board.Counts.{is_held}
-use Rattle.cal_policy.specs.Pass.Choice.{best_below, lowest_below}
-use Rattle.cal_policy.specs.Pass.Frees.{shows_left, free_at, frees}
-use Rattle.cal_policy.specs.Pass.Bans.{still_shows, ban_for}
-use Rattle.cal_policy.specs.Pass.Bandwidth.{victim_of, core_to_lose, cut_at, cut_of, rise_of, is_capped, bandwidth_part}
-use Rattle.cal_policy.specs.Pass.Grants.{thread_choice, grant_of, idle_class, preempt_class, is_granted_in}
-use Rattle.cal_policy.specs.Pass.Made.{EachAfter, IsFreed, IsCapCut, IsCapRise}
-use Rattle.cal_policy.specs.Pass.{followed}
-use Rattle.cal_policy.specs.Setting.{Setting, so_far, kept_now, is_held_with_room}
 use Rattle.cal_policy.proofs.ListLemmas.Counted.{best_ranked, lowest_passes}
 use Rattle.cal_policy.proofs.ListLemmas.EachAfter.{each_append}
 use Rattle.cal_policy.proofs.PassLemmas.Fits.{idle_low, preempt_high}
 use Rattle.cal_policy.specs.Assured.Cause.{IsForTask, HasCause}
-use Rattle.cal_policy.specs.Assured.Grants.{grant_in_place, grants_of_first, grants}
-use Rattle.cal_policy.specs.Assured.Hyperthreads.{unban_for, unban_at, unbans, due_for, bans_at, bans}
-use Rattle.cal_policy.specs.Assured.InFlight.{pressing, coming}
-use Rattle.cal_policy.specs.Assured.Order.{task_in_place, place_of}
-use Rattle.cal_policy.specs.Assured.Pass.{bounded_of, pass_of, ComesTo}
-use Rattle.cal_policy.specs.Assured.Short.{surplus, waits, are_wanted}
-use Rattle.cal_policy.specs.Assured.Taking.{may_take, open_class, owed_class, open_choice, held_class, held_choice, may_preempt, choice_for}
-use Rattle.cal_policy.specs.Assured.Owed.{owed_to, is_task}
+use Rattle.cal_policy.specs.Assured.Hyperthreads.{unban_for, unban_at, unbans, bans_at, bans}
+use Rattle.cal_policy.specs.Assured.Pass.{pass_of}
 use Rattle.cal_policy.proofs.AssuredLemmas.Walks.{each_turn, each_inside, each_so}
 
 -- a core is unbanned: it was banned

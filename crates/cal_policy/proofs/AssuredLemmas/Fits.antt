@@ -1,28 +1,9 @@
 -- Each action of a pass of the second policy fits the state at its place, and leaves a steady one.
-use Rattle.std.proofs.Common.{◌≡◌, ℕ, ◌<◌, Bool, true, ◌&&◌, ◌||◌, not, cond, eqb, ltb, nat_lt, None, List, [], ◌∷◌, ◌++◌, length, Some, refl, sym, ap, ◌∙◌, subst}
-use Rattle.std.specs.Option.{is_some}
-use Rattle.std.proofs.lemmas.Bool.{lt-ltb, and_parts, and_from}
-use Rattle.cal_machine.specs.Table.{IsTable}
-use Rattle.cal_machine.specs.TableTasks.{owner_of, threads_of_table, limit_of, is_latency_critical}
-use Rattle.cal_machine.proofs.Booleans.{some_else}
-use Rattle.cal_policy.specs.declared.history.action.Action.{Action}
-use Rattle.cal_policy.specs.declared.history.action.Action.TheVariants.{Free, Unban, Ban, Revoke, Cap, Grant}
+use Rattle.cal_policy.proofs.Common.{◌≡◌, ℕ, ◌<◌, Bool, true, ◌&&◌, ◌||◌, not, cond, eqb, ltb, nat_lt, None, List, [], ◌∷◌, ◌++◌, length, Some, refl, sym, ap, ◌∙◌, subst, is_some, lt-ltb, and_parts, and_from, IsTable, owner_of, threads_of_table, limit_of, is_latency_critical, some_else, Action, Free, Unban, Ban, Revoke, Cap, Grant, CoreClass, Holder, is_open, surplus, pressing, is_kept, held_class, holder_of, is_banned, is_free, is_held, booked_by, cores_of_thread, cap_of, fits_state, ban_due, may_book, thread_choice, IsSteady, Setting, so_far}
 use Rattle.cal_policy.specs.declared.history.action.Cause.TheVariants as causes
-use Rattle.cal_policy.specs.declared.history.core_class.CoreClass.{CoreClass}
-use Rattle.cal_policy.specs.declared.board.holders.Holder.{Holder}
 use Rattle.cal_policy.specs.declared.board.holders.Holder.TheVariants as holders
 use Rattle.cal_policy.specs.Assured.Cause.{IsForBan, IsForTask}
-use Rattle.cal_policy.specs.Assured.Short.{is_open, surplus}
-use Rattle.cal_policy.specs.Assured.InFlight.{pressing}
-use Rattle.cal_policy.specs.Assured.Taking.{is_kept, held_class}
-use Rattle.cal_policy.specs.History.{holder_of, is_banned}
-use Rattle.cal_policy.specs.Board.Counts.{is_free, is_held, booked_by, cores_of_thread, cap_of}
-use Rattle.cal_policy.specs.Judgement.Orderly.{fits_state}
-use Rattle.cal_policy.specs.Pass.Bans.{ban_due}
-use Rattle.cal_policy.specs.Pass.Grants.{may_book, thread_choice}
 use Rattle.cal_policy.specs.Pass.Made as made
-use Rattle.cal_policy.specs.Pass.Steady.{IsSteady}
-use Rattle.cal_policy.specs.Setting.{Setting, so_far}
 use Rattle.cal_policy.proofs.PassLemmas.Fits.{made_fits, revoke_fits, revoke_steady, thread_facts, below_true}
 use Rattle.cal_policy.proofs.PassLemmas.Steady.{Shrinks_ban, Shrinks_unban, Shrinks_cap, Shrinks_free, Steady_shrinks, Steady_grant}
 use Rattle.cal_policy.proofs.AssuredLemmas.Done.{IsDone, IsBanned, IsGranted, open_taken, held_taken}

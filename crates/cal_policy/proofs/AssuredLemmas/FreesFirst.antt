@@ -1,20 +1,8 @@
 -- A pass of the second policy frees cores first.
-use Rattle.std.proofs.Common.{ℕ, ◌&&◌, not, List, [], ◌∷◌, length, Option, Some, None}
-use Rattle.cal_machine.specs.Machine.{sibling_of}
-use Rattle.cal_policy.specs.declared.board.bans.BannedFor.{BannedFor}
-use Rattle.cal_policy.specs.declared.history.action.Action.{Action}
-use Rattle.cal_policy.specs.declared.history.action.Action.TheVariants.{Unban}
-use Rattle.cal_policy.specs.Assured.Grants.{grant_at, grant_in_place, grants}
-use Rattle.cal_policy.specs.Assured.Hyperthreads.{unban_for, unban_at, unbans, due_for, bans_at, bans}
-use Rattle.cal_policy.specs.Assured.Order.{task_in_place}
+use Rattle.cal_policy.proofs.Common.{ℕ, ◌&&◌, not, List, [], ◌∷◌, length, Option, Some, None, sibling_of, BannedFor, Action, Unban, grant_in_place, grants, due_for, task_in_place, are_wanted, waits, choice_for, ban_of, still_shows, frees, grant_of, thread_choice, Setting, so_far, kept_now}
+use Rattle.cal_policy.specs.Assured.Grants.{grant_at}
+use Rattle.cal_policy.specs.Assured.Hyperthreads.{unban_for, unban_at, unbans, bans_at, bans}
 use Rattle.cal_policy.specs.Assured.Pass.{pass_of}
-use Rattle.cal_policy.specs.Assured.Short.{are_wanted, waits}
-use Rattle.cal_policy.specs.Assured.Taking.{choice_for}
-use Rattle.cal_policy.specs.History.{ban_of}
-use Rattle.cal_policy.specs.Pass.Bans.{still_shows}
-use Rattle.cal_policy.specs.Pass.Frees.{frees}
-use Rattle.cal_policy.specs.Pass.Grants.{grant_of, thread_choice}
-use Rattle.cal_policy.specs.Setting.{Setting, so_far, kept_now}
 use Rattle.cal_policy.proofs.PassLemmas.RevokedStay.{Every, FreesNone, FreesFirst, every_in_turn, every_if, all_first, then_first, frees_all, ban_none, bandwidth_none, chosen_none}
 
 unban_none : (s : Setting) (x : List Action) (c : ℕ) (o : Option BannedFor) → Every FreesNone (unban_for s x c o)

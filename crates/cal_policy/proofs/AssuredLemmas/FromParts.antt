@@ -1,12 +1,7 @@
 -- A pass of the second policy from its parts.
-use Rattle.std.proofs.Common.{◌≡◌, List, [], ◌++◌}
-use Rattle.cal_policy.specs.declared.history.action.Action.{Action}
-use Rattle.cal_policy.specs.Assured.Grants.{grants}
+use Rattle.cal_policy.proofs.Common.{◌≡◌, List, [], ◌++◌, Action, grants, bandwidth_part, frees, Setting}
 use Rattle.cal_policy.specs.Assured.Hyperthreads.{unbans, bans}
 use Rattle.cal_policy.specs.Assured.Pass.{pass_of}
-use Rattle.cal_policy.specs.Pass.Bandwidth.{bandwidth_part}
-use Rattle.cal_policy.specs.Pass.Frees.{frees}
-use Rattle.cal_policy.specs.Setting.{Setting}
 use Rattle.cal_policy.proofs.PassLemmas.FromParts.{follows}
 
 -- the parts, end to end, are the pass

@@ -1,6 +1,5 @@
 -- Which cores are kept, by the tests that are made in turn; and a choice after another.
-use Rattle.std.proofs.Common.{◌≡◌, Bool, true, false, not, cond, ◌&&◌, ◌||◌, Option, Some, None, refl}
-use Rattle.std.specs.Option.{option_or}
+use Rattle.cal_policy.proofs.Common.{◌≡◌, Bool, true, false, not, cond, ◌&&◌, ◌||◌, Option, Some, None, refl, option_or}
 
 pub second_fails : (a b : Bool) → b ≡ false → false ≡ (a && b)
 second_fails true b e = cc

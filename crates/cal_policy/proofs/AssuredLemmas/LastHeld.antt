@@ -1,24 +1,7 @@
 -- A core that a thread holds was last granted to it, so it is one of those that its task had last.
-use Rattle.std.proofs.Common.{◌≡◌, ℕ, ◌<◌, ◌&&◌, Bool, true, false, cond, eqb, nat_lt, List, [], ◌∷◌, ◌++◌, Option, Some, None, refl, sym, ap, ◌∙◌}
-use Rattle.std.specs.Option.{option_or}
-use Rattle.std.proofs.lemmas.Bool.{eqb-true, eq-eqb}
-use Rattle.cal_machine.proofs.Booleans.{some_then}
-use Rattle.cal_machine.specs.Table.{Table}
-use Rattle.cal_machine.specs.TableTasks.{owner_of}
-use Rattle.cal_machine.specs.declared.task_table.TheConstants.{MOST_TASKS}
-use Rattle.cal_signal.specs.declared.record.Record.{Record}
-use Rattle.cal_policy.specs.declared.board.Board.{Board}
-use Rattle.cal_policy.specs.declared.history.action.Action.{Action}
-use Rattle.cal_policy.specs.declared.history.action.Action.TheVariants.{Free, Unban, Ban, Revoke, Cap, Grant}
+use Rattle.cal_policy.proofs.Common.{◌≡◌, ℕ, ◌<◌, ◌&&◌, Bool, true, false, cond, eqb, nat_lt, List, [], ◌∷◌, ◌++◌, Option, Some, None, refl, sym, ap, ◌∙◌, option_or, eqb-true, eq-eqb, some_then, Table, owner_of, MOST_TASKS, Record, Board, Action, Free, Unban, Ban, Revoke, Cap, Grant, Holder, is_untaken, AreRecent, had_by, last_thread_in, holder_of, holder_made, last_placement, last_thread, left_by, placed, thread_granted, last_after, last_of, is_thread_for, Agrees}
 use Rattle.cal_policy.specs.declared.board.holders.Placement as placements
-use Rattle.cal_policy.specs.declared.board.holders.Holder.{Holder}
 use Rattle.cal_policy.specs.declared.board.holders.Holder.TheVariants as holders
-use Rattle.cal_policy.specs.Assured.InFlight.{is_untaken}
-use Rattle.cal_policy.specs.Board.RecentCores.{AreRecent, had_by, last_thread_in}
-use Rattle.cal_policy.specs.History.{holder_of, holder_made, last_placement, last_thread, left_by, placed, thread_granted}
-use Rattle.cal_policy.specs.History.Lists.{last_after, last_of}
-use Rattle.cal_policy.specs.Pass.Grants.{is_thread_for}
-use Rattle.cal_policy.specs.State.{Agrees}
 use Rattle.cal_policy.proofs.AssuredLemmas.Sent.{left_not_held, held_is}
 use Rattle.cal_policy.proofs.BoardLemmas.RecentCores.{recent_says}
 

@@ -1,17 +1,7 @@
 -- A legal history of the second policy is orderly.
-use Rattle.std.proofs.Common.{◌≡◌, ℕ, ◌<◌, ◌≤◌, zero, suc, List, [], ◌∷◌, ◌++◌, length, take, Some, sym, arith, subst, append_assoc, ⊎_elim}
+use Rattle.cal_policy.proofs.Common.{◌≡◌, ℕ, ◌<◌, ◌≤◌, zero, suc, List, [], ◌∷◌, ◌++◌, length, take, Some, sym, arith, subst, append_assoc, ⊎_elim, append-nil, slice_get_cases, slice_get_within, Table, IsTable, Action, PassEntry, actions_of, IsOrderly, EachAfter, IsSteady, Setting, setting_of, so_far}
 use Rattle.std.specs.List.{slice_get}
-use Rattle.std.proofs.lemmas.List.{append-nil}
-use Rattle.std.proofs.lemmas.Option.{slice_get_cases, slice_get_within}
-use Rattle.cal_machine.specs.Table.{Table, IsTable}
-use Rattle.cal_policy.specs.declared.history.action.Action.{Action}
-use Rattle.cal_policy.specs.declared.history.entry.PassEntry.{PassEntry}
 use Rattle.cal_policy.specs.Assured.Pass.{pass_of, IsPass, IsLegal}
-use Rattle.cal_policy.specs.History.{actions_of}
-use Rattle.cal_policy.specs.Judgement.Orderly.{IsOrderly}
-use Rattle.cal_policy.specs.Pass.Made.{EachAfter}
-use Rattle.cal_policy.specs.Pass.Steady.{IsSteady}
-use Rattle.cal_policy.specs.Setting.{Setting, setting_of, so_far}
 use Rattle.cal_policy.proofs.AssuredLemmas.Done.{IsDone, pass_done}
 use Rattle.cal_policy.proofs.AssuredLemmas.Fits.{done_fits, done_steady}
 use Rattle.cal_policy.proofs.ListLemmas.EachAfter.{each_at}

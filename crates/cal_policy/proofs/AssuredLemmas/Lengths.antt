@@ -1,30 +1,7 @@
 -- How many actions a pass has at most.
-use Rattle.std.proofs.Common.{◌≡◌, ℕ, ◌+◌, ◌*◌, ◌/◌, ◌<◌, ◌≤◌, zero, suc, Bool, true, false, ◌&&◌, cond, eqb, List, [], ◌∷◌, ◌++◌, length, take, Option, Some, None, slice_get, refl, sym, ap, ◌∙◌, arith, subst, append_assoc, append-nil, length-append}
-use Rattle.std.specs.Option.{is_some, unwrap_or}
-use Rattle.std.proofs.lemmas.Bool.{eq-eqb}
-use Rattle.std.proofs.lemmas.Option.{slice_get_within}
-use Rattle.std.proofs.Math.Seq.{take-append_seam}
-use Rattle.cal_machine.specs.Machine.{sibling_of}
-use Rattle.cal_machine.specs.Table.{Table, IsTable}
-use Rattle.cal_machine.proofs.Booleans.{some_else}
-use Rattle.cal_machine.proofs.Siblings.{pairs}
-use Rattle.cal_policy.specs.declared.history.action.Action.{Action}
-use Rattle.cal_policy.specs.declared.history.action.Action.TheVariants.{Free, Unban, Ban, Revoke, Cap, Grant}
-use Rattle.cal_policy.specs.declared.history.action.Cause.{Cause}
+use Rattle.cal_policy.proofs.Common.{◌≡◌, ℕ, ◌+◌, ◌*◌, ◌/◌, ◌<◌, ◌≤◌, zero, suc, Bool, true, false, ◌&&◌, cond, eqb, List, [], ◌∷◌, ◌++◌, length, take, Option, Some, None, slice_get, refl, sym, ap, ◌∙◌, arith, subst, append_assoc, length-append, is_some, unwrap_or, eq-eqb, slice_get_within, take-append_seam, sibling_of, Table, IsTable, some_else, pairs, Action, Free, Unban, Ban, Revoke, Cap, Grant, Cause, BannedFor, PassEntry, actions_of, holder_of, ban_of, is_banned, in_turn, is_free, is_held, count_below, frees, NoPairBanned, ban_due, ban_for, bandwidth_part, grant_of, thread_choice, EachAfter, followed, Setting, setting_of, so_far, kept_now, grant_in_place, grants, due_for, task_in_place, unbanned_of, bounded_of, are_lacked, waits, choice_for}
+use Rattle.std.proofs.Common.{append-nil}
 use Rattle.cal_policy.specs.declared.history.action.Cause.TheVariants as causes
-use Rattle.cal_policy.specs.declared.board.bans.BannedFor.{BannedFor}
-use Rattle.cal_policy.specs.declared.history.entry.PassEntry.{PassEntry}
-use Rattle.cal_policy.specs.History.{actions_of, holder_of, ban_of, is_banned}
-use Rattle.cal_policy.specs.History.Lists.{in_turn}
-use Rattle.cal_policy.specs.Board.Counts.{is_free, is_held}
-use Rattle.cal_policy.specs.Pass.Choice.{count_below}
-use Rattle.cal_policy.specs.Pass.Frees.{frees}
-use Rattle.cal_policy.specs.Pass.Bans.{NoPairBanned, ban_due, ban_for}
-use Rattle.cal_policy.specs.Pass.Bandwidth.{bandwidth_part}
-use Rattle.cal_policy.specs.Pass.Grants.{grant_of, thread_choice}
-use Rattle.cal_policy.specs.Pass.Made.{EachAfter}
-use Rattle.cal_policy.specs.Pass.{followed}
-use Rattle.cal_policy.specs.Setting.{Setting, setting_of, so_far, kept_now}
 use Rattle.cal_policy.proofs.HistoryLemmas.OneMore.{ban_push}
 use Rattle.cal_policy.proofs.PassLemmas.Apart.{orderly_apart, frees_apart}
 use Rattle.cal_policy.proofs.PassLemmas.ApartInside.{apart_at}
@@ -32,12 +9,8 @@ use Rattle.cal_policy.proofs.PassLemmas.Fits.{so_far_push, ban_facts}
 use Rattle.cal_policy.proofs.PassLemmas.Length.{turns_most, frees_most, two_with, bandwidth_most, one_when, chosen_one}
 use Rattle.cal_policy.proofs.PassLemmas.Pairs.{beside_lower, after_ban, so_far_more}
 use Rattle.cal_policy.proofs.ListLemmas.Counted.{count_less}
-use Rattle.cal_policy.specs.Assured.Grants.{grant_in_place, grants}
-use Rattle.cal_policy.specs.Assured.Hyperthreads.{unbans, due_for, bans_at, bans}
-use Rattle.cal_policy.specs.Assured.Order.{task_in_place}
-use Rattle.cal_policy.specs.Assured.Pass.{unbanned_of, bounded_of, pass_of, IsLegal}
-use Rattle.cal_policy.specs.Assured.Short.{are_lacked, waits}
-use Rattle.cal_policy.specs.Assured.Taking.{choice_for}
+use Rattle.cal_policy.specs.Assured.Hyperthreads.{unbans, bans_at, bans}
+use Rattle.cal_policy.specs.Assured.Pass.{pass_of, IsLegal}
 use Rattle.cal_policy.proofs.AssuredLemmas.Done.{IsUnbanned, IsUnbanning, unbans_made}
 use Rattle.cal_policy.proofs.AssuredLemmas.LegalOrderly.{legal_orderly}
 use Rattle.cal_policy.proofs.AssuredLemmas.Legality.{legal_upto}

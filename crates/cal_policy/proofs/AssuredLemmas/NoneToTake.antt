@@ -1,32 +1,7 @@
 -- Where no core is open, or each is lacked by others, or none is owed to a task; and where no task may lose one.
-use Rattle.std.proofs.Common.{◌≡◌, ℕ, ◌<◌, ◌≤◌, ◌&&◌, ◌||◌, Bool, true, false, not, cond, nat_lt, List, [], length, Option, Some, None, slice_index_or, refl, ap, sym, ◌∙◌, arith}
-use Rattle.std.proofs.lemmas.Bool.{eq-eqb}
-use Rattle.std.specs.Option.{IfSome, is_some, option_or}
-use Rattle.cal_machine.specs.CoreSet.{has}
-use Rattle.cal_machine.specs.Machine.{sibling_of}
-use Rattle.cal_machine.specs.TableTasks.{owner_of, threads_of_table}
-use Rattle.cal_machine.proofs.ThreadNumbers.{task_in}
-use Rattle.cal_policy.specs.declared.history.action.Action.{Action}
-use Rattle.cal_policy.specs.declared.history.core_class.CoreClass.{CoreClass}
-use Rattle.cal_policy.specs.declared.pass.choice.Candidate.{Candidate}
-use Rattle.cal_policy.specs.declared.board.Board.{Board}
-use Rattle.cal_policy.specs.declared.board.holders.Holder.{Holder}
-use Rattle.cal_policy.specs.declared.board.holders.Holder.TheVariants.{Free, Held, Leaving}
-use Rattle.cal_policy.specs.Assured.AtTurn.{is_lacked_by_others}
-use Rattle.cal_policy.specs.Assured.Grants.{grant_at, grant_in_place}
-use Rattle.cal_policy.specs.Assured.Owed.{is_task, owed_to}
-use Rattle.cal_policy.specs.Assured.Short.{is_short, is_open, are_lacked, waits}
-use Rattle.cal_policy.specs.Assured.Taking.{is_kept_for, is_kept_for_short, is_kept, open_class, owed_class, open_choice, held_class, held_choice, may_preempt, choice_for}
-use Rattle.cal_policy.specs.Board.{kept_holder, placement_of}
-use Rattle.cal_policy.specs.Board.Counts.{held_by, is_held_for}
-use Rattle.cal_policy.specs.Board.Losing.{secure_of}
-use Rattle.cal_policy.specs.History.{holder_of, last_thread}
-use Rattle.cal_policy.specs.History.CoreClasses.{comes_before}
-use Rattle.cal_policy.specs.Pass.Among.{class_among}
-use Rattle.cal_policy.specs.Pass.Choice.{best_below}
-use Rattle.cal_policy.specs.Pass.Grants.{class_of, idle_class, preempt_class, is_granted_in, grant_of, thread_choice}
-use Rattle.cal_policy.specs.Setting.{Setting, so_far, is_held_with_room}
-use Rattle.cal_policy.specs.State.{IsReady, Stands}
+use Rattle.cal_policy.proofs.Common.{◌≡◌, ℕ, ◌<◌, ◌≤◌, ◌&&◌, ◌||◌, Bool, true, false, not, cond, nat_lt, List, [], length, Option, Some, None, slice_index_or, refl, ap, sym, ◌∙◌, arith, eq-eqb, IfSome, is_some, option_or, has, sibling_of, owner_of, threads_of_table, task_in, Action, CoreClass, Candidate, Board, Holder, Held, Leaving, is_lacked_by_others, grant_in_place, is_task, owed_to, is_short, is_open, are_lacked, waits, is_kept_for, is_kept_for_short, is_kept, open_class, owed_class, open_choice, held_class, held_choice, may_preempt, choice_for, kept_holder, placement_of, held_by, is_held_for, secure_of, holder_of, last_thread, comes_before, class_among, best_below, class_of, idle_class, preempt_class, is_granted_in, grant_of, thread_choice, Setting, so_far, is_held_with_room, IsReady, Stands}
+use Rattle.cal_policy.specs.declared.board.holders.Holder.TheVariants.{Free}
+use Rattle.cal_policy.specs.Assured.Grants.{grant_at}
 use Rattle.cal_policy.proofs.AssuredLemmas.AsKept.{open_as_kept, closed_open_class, closed_owed_class}
 use Rattle.cal_policy.proofs.AssuredLemmas.Keeping.{kept_lacked, kept_none}
 use Rattle.cal_policy.proofs.BoardLemmas.TwoSets.{best_none, best_same}

@@ -1,23 +1,6 @@
 -- Bans of cores beside each other under the second policy.
-use Rattle.std.proofs.Common.{◌≡◌, ℕ, ◌+◌, ◌*◌, ◌<◌, Bool, true, false, cond, eqb, not, ◌&&◌, List, [], ◌∷◌, ◌++◌, Option, Some, None, refl, ap, sym, ◌∙◌, arith, append_assoc, ◌⊎◌, inr, ⊎_elim}
-use Rattle.std.specs.Option.{is_some}
-use Rattle.std.proofs.lemmas.List.{append-nil}
-use Rattle.cal_machine.specs.CoreSet.{has}
-use Rattle.cal_machine.specs.Machine.{sibling_of}
-use Rattle.cal_policy.specs.declared.history.action.Action.{Action}
-use Rattle.cal_policy.specs.declared.history.action.Action.TheVariants.{Unban}
-use Rattle.cal_policy.specs.declared.board.Board.{Board}
-use Rattle.cal_policy.specs.declared.board.bans.BannedFor.{BannedFor}
-use Rattle.cal_policy.specs.History.Lists.{in_pair}
-use Rattle.cal_policy.specs.History.{holder_of, ban_of, is_banned}
-use Rattle.cal_policy.specs.Board.Counts.{is_free}
-use Rattle.cal_policy.specs.Setting.{Setting, so_far, kept_now}
-use Rattle.cal_policy.specs.State.{IsReady, Stands}
-use Rattle.cal_policy.specs.Assured.Hyperthreads.{unban_for, unban_at, due_for, bans_at}
-use Rattle.cal_policy.specs.Assured.Short.{are_lacked, are_wanted}
-use Rattle.cal_policy.specs.Pass.Bans.{NoPairBanned, still_shows, ban_for, ban_due}
-use Rattle.cal_policy.specs.Pass.ToBan.{NoneOver, cores_to_ban}
-use Rattle.cal_machine.proofs.Booleans.{unwrap_if}
+use Rattle.cal_policy.proofs.Common.{◌≡◌, ℕ, ◌+◌, ◌*◌, ◌<◌, Bool, true, false, cond, eqb, not, ◌&&◌, List, [], ◌∷◌, ◌++◌, Option, Some, None, refl, ap, sym, ◌∙◌, arith, append_assoc, ◌⊎◌, inr, ⊎_elim, is_some, append-nil, has, sibling_of, Action, Unban, Board, BannedFor, in_pair, holder_of, ban_of, is_banned, is_free, Setting, so_far, kept_now, IsReady, Stands, due_for, are_lacked, are_wanted, NoPairBanned, still_shows, ban_for, ban_due, NoneOver, cores_to_ban, unwrap_if}
+use Rattle.cal_policy.specs.Assured.Hyperthreads.{unban_for, unban_at, bans_at}
 use Rattle.cal_policy.proofs.HistoryLemmas.OneMore.{ban_push}
 use Rattle.cal_policy.proofs.PassLemmas.NothingDue.{two_empty, due_past}
 use Rattle.cal_policy.proofs.PassLemmas.Pairs.{so_far_more, none_if_unbanned, after_end, beside_lower, beside_upper, after_ban_for}

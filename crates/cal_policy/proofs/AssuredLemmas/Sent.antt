@@ -1,19 +1,7 @@
 -- A thread holds a core by no command past the last that was sent to it.
-use Rattle.std.proofs.Common.{◌≡◌, ℕ, ◌+◌, ◌≤◌, Bool, true, false, ◌&&◌, eqb, nat_lt, List, [], ◌∷◌, ◌++◌, Option, Some, None, refl, ap, ◌∙◌, subst, arith, append_assoc}
-use Rattle.std.specs.Option.{option_or, unwrap_or}
-use Rattle.std.proofs.lemmas.Bool.{eqb-true, eq-eqb, le-ltb}
-use Rattle.cal_machine.proofs.Booleans.{some_then}
-use Rattle.cal_signal.specs.declared.record.Record.{Record}
-use Rattle.cal_policy.specs.declared.history.action.Action.{Action}
-use Rattle.cal_policy.specs.declared.history.action.Action.TheVariants.{Free, Unban, Ban, Revoke, Cap, Grant}
-use Rattle.cal_policy.specs.declared.history.action.Cause.{Cause}
+use Rattle.cal_policy.proofs.Common.{◌≡◌, ℕ, ◌+◌, ◌≤◌, Bool, true, false, ◌&&◌, eqb, nat_lt, List, [], ◌∷◌, ◌++◌, Option, Some, None, refl, ap, ◌∙◌, subst, arith, append_assoc, option_or, unwrap_or, eqb-true, eq-eqb, le-ltb, some_then, Record, Action, Free, Unban, Ban, Revoke, Cap, Grant, Cause, Holder, is_untaken, holder_of, holder_made, last_placement, placed, left_by, sent_to, last_after, last_of, count_below}
 use Rattle.cal_policy.specs.declared.board.holders.Placement as placements
-use Rattle.cal_policy.specs.declared.board.holders.Holder.{Holder}
 use Rattle.cal_policy.specs.declared.board.holders.Holder.TheVariants as holders
-use Rattle.cal_policy.specs.Assured.InFlight.{is_untaken}
-use Rattle.cal_policy.specs.History.{holder_of, holder_made, last_placement, placed, left_by, sent_to}
-use Rattle.cal_policy.specs.History.Lists.{last_after, last_of}
-use Rattle.cal_policy.specs.Pass.Choice.{count_below}
 use Rattle.cal_policy.proofs.BoardLemmas.Surveyed.{count_none}
 use Rattle.cal_policy.proofs.HistoryLemmas.OneMore.{sent_push, sent_grows}
 

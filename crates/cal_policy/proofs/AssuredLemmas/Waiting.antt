@@ -1,23 +1,5 @@
 -- Threads that do not wait do not press.
-use Rattle.std.proofs.Common.{◌≡◌, ℕ, ◌+◌, ◌<◌, ◌≤◌, Bool, true, false, not, ◌&&◌, cond, eqb, nat_lt, List, [], length, Option, Some, None, refl, sym, ap, ◌∙◌, arith}
-use Rattle.std.specs.Option.{is_some}
-use Rattle.std.proofs.lemmas.Bool.Decides.{nat_tests}
-use Rattle.std.proofs.Math.Bool.{and-false}
-use Rattle.cal_machine.specs.Tasks.{first_thread}
-use Rattle.cal_machine.specs.TableTasks.{owner_of, thread_of, delay_of, limit_of}
-use Rattle.cal_machine.specs.ThreadSet.{has_thread}
-use Rattle.cal_policy.specs.declared.history.action.Action.{Action}
-use Rattle.cal_policy.specs.declared.board.Board.{Board}
-use Rattle.cal_policy.specs.Assured.AtTurn.{IsCalm}
-use Rattle.cal_policy.specs.Assured.Grants.{grant_in_place}
-use Rattle.cal_policy.specs.Assured.InFlight.{is_in_flight, is_late, presses, pressing}
-use Rattle.cal_policy.specs.Assured.Order.{place_of, task_in_place}
-use Rattle.cal_policy.specs.Assured.Short.{is_short, surplus, waits, waits_short, some_waits_short}
-use Rattle.cal_policy.specs.Board.KeepingSets.{KeepsSets}
-use Rattle.cal_policy.specs.Pass.Choice.{count_below}
-use Rattle.cal_policy.specs.Pass.Grants.{may_book, thread_choice}
-use Rattle.cal_policy.specs.Setting.{Setting, so_far}
-use Rattle.cal_policy.specs.State.{Stands}
+use Rattle.cal_policy.proofs.Common.{◌≡◌, ℕ, ◌+◌, ◌<◌, ◌≤◌, Bool, true, false, not, ◌&&◌, cond, eqb, nat_lt, List, [], length, Option, Some, None, refl, sym, ap, ◌∙◌, arith, is_some, nat_tests, and-false, first_thread, owner_of, thread_of, delay_of, limit_of, has_thread, Action, Board, IsCalm, grant_in_place, is_in_flight, is_late, presses, pressing, place_of, task_in_place, is_short, surplus, waits, waits_short, some_waits_short, KeepsSets, count_below, may_book, thread_choice, Setting, so_far, Stands}
 use Rattle.cal_policy.proofs.AssuredLemmas.Counting.{count_skip, below_nothing, none_passes}
 use Rattle.cal_policy.proofs.ListLemmas.Counted.{lowest_passes}
 use Rattle.cal_policy.proofs.PassLemmas.NothingDue.{no_delay}

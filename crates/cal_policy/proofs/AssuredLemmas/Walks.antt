@@ -1,10 +1,6 @@
 -- Lists of actions that are made in turn.
-use Rattle.std.proofs.Common.{◌≡◌, ℕ, ◌<◌, ◌≤◌, suc, zero, List, [], ◌∷◌, ◌++◌, length, Some, refl, sym, ap, ◌∙◌, arith, append_assoc, ⊎_elim}
+use Rattle.cal_policy.proofs.Common.{◌≡◌, ℕ, ◌<◌, ◌≤◌, suc, zero, List, [], ◌∷◌, ◌++◌, length, Some, refl, sym, ap, ◌∙◌, arith, append_assoc, ⊎_elim, append-nil, cases_lt, in_turn, EachAfter}
 use Rattle.std.specs.List.{slice_get}
-use Rattle.std.proofs.lemmas.List.{append-nil}
-use Rattle.std.proofs.lemmas.Bool.{cases_lt}
-use Rattle.cal_policy.specs.History.Lists.{in_turn}
-use Rattle.cal_policy.specs.Pass.Made.{EachAfter}
 use Rattle.cal_policy.proofs.ListLemmas.EachAfter.{each_append}
 
 -- each that is made in turn, where each turn's are after those of the turns before

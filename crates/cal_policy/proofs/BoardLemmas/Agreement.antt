@@ -1,20 +1,10 @@
 -- The board's data is kept up with one more action.
-use Rattle.std.proofs.Common.{◌≡◌, ℕ, ◌+◌, ◌<◌, ◌^◌, true, false, cond, List, [], ◌∷◌, ◌++◌, length, get_or, set, min, Option, Some, None, refl, ap, sym, ◌∙◌, arith, eqb}
-use Rattle.std.specs.Option.{option_map}
-use Rattle.std.proofs.lemmas.Grind.{common_steps}
-use Rattle.cal_policy.specs.declared.history.action.Action.{Action}
-use Rattle.cal_policy.specs.declared.history.action.Action.TheVariants.{Free, Revoke, Grant}
-use Rattle.cal_policy.specs.declared.history.action.Cause.{Cause}
+use Rattle.cal_policy.proofs.Common.{◌≡◌, ℕ, ◌+◌, ◌<◌, ◌^◌, true, false, cond, List, [], ◌∷◌, ◌++◌, length, get_or, set, min, Option, Some, None, refl, ap, sym, ◌∙◌, arith, eqb, option_map, common_steps, Action, Free, Revoke, Grant, Cause, Holding, Holder, holder_of, last_placement, sent_to, placed, left_by, HoldersAgree, kept_number, kept_placement, kept_holder, unwrap_if}
 use Rattle.cal_policy.specs.declared.board.holders.Placement as placements
-use Rattle.cal_policy.specs.declared.board.holders.Holding.{Holding}
-use Rattle.cal_policy.specs.declared.board.holders.Holder.{Holder}
 use Rattle.cal_policy.specs.declared.board.holders.Holder.TheVariants as holders
-use Rattle.cal_policy.specs.History.{holder_of, last_placement, sent_to, placed, left_by}
-use Rattle.cal_policy.specs.Board.{HoldersAgree, kept_number, kept_placement, kept_holder}
 use Rattle.cal_policy.proofs.ListLemmas.OneMore.{set_says, or_if, map_if}
 use Rattle.cal_policy.proofs.BoardLemmas.CommandNumbers.{kept_more}
 use Rattle.cal_policy.proofs.HistoryLemmas.OneMore.{holder_push, last_placement_push, sent_push, last_thread_placement}
-use Rattle.cal_machine.proofs.Booleans.{unwrap_if}
 
 pub Holding_free : (h : Holding) (x : List Action) (core : ℕ) → length h.holders ≡ 128 → core < 128 → HoldersAgree h x →
     HoldersAgree (record { granted = h.granted; holders = set h.holders core holders.Free; sent = h.sent }) (x ++ Free core ∷ [])

@@ -1,17 +1,8 @@
 -- What is asked of a holder does not depend on how numbers of commands are kept.
-use Rattle.std.proofs.Common.{◌&&◌, ◌≡◌, ℕ, List, Option, Some, None, refl}
-use Rattle.std.specs.Option.{option_map}
-use Rattle.cal_machine.specs.Table.{Table}
-use Rattle.cal_policy.specs.declared.history.action.Action.{Action}
+use Rattle.cal_policy.proofs.Common.{◌&&◌, ◌≡◌, ℕ, List, Option, Some, None, refl, option_map, Table, Action, Holder, Held, Leaving, is_held_for, is_booked_for, is_with, Setting, is_held_with_room, may_be_emptied, leaves_for, idle_class, class_by, kept_placement, kept_holder}
 use Rattle.cal_policy.specs.declared.board.holders.Placement as placements
-use Rattle.cal_policy.specs.declared.board.holders.Holder.{Holder}
-use Rattle.cal_policy.specs.declared.board.holders.Holder.TheVariants.{Free, Held, Leaving}
+use Rattle.cal_policy.specs.declared.board.holders.Holder.TheVariants.{Free}
 use Rattle.cal_policy.specs.declared.history.action.Cause.TheVariants.{Ban, Bandwidth, Preempt}
-use Rattle.cal_policy.specs.Board.Counts.{is_held_for, is_booked_for, is_with}
-use Rattle.cal_policy.specs.Setting.{Setting, is_held_with_room}
-use Rattle.cal_policy.specs.Pass.Bans.{may_be_emptied}
-use Rattle.cal_policy.specs.Pass.Grants.{leaves_for, idle_class, class_by}
-use Rattle.cal_policy.specs.Board.{kept_placement, kept_holder}
 
 pub held_as_kept : (table : Table) (t : ℕ) (h : Holder) → is_held_for table t (kept_holder h) ≡ is_held_for table t h
 held_as_kept table t Free = refl

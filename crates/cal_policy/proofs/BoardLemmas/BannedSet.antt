@@ -1,15 +1,7 @@
 -- The set of banned cores, after one more action.
-use Rattle.std.proofs.Common.{◌≡◌, ℕ, Bool, true, false, not, cond, List, [], ◌∷◌, ◌++◌, Some, None, refl, ap, sym, ◌∙◌, eqb, ◌||◌, ◌&&◌}
-use Rattle.std.specs.Option.{is_some}
-use Rattle.cal_machine.specs.declared.core_set.CoreSet.{CoreSet}
-use Rattle.cal_machine.specs.CoreSet.{has}
-use Rattle.cal_policy.specs.declared.history.action.Action.{Action}
-use Rattle.cal_policy.specs.declared.history.action.Action.TheVariants.{Unban, Ban}
-use Rattle.cal_policy.specs.History.{ban_of}
-use Rattle.cal_policy.specs.Board.CoreSets.{IsSetOfBanned}
+use Rattle.cal_policy.proofs.Common.{◌≡◌, ℕ, Bool, true, false, not, cond, List, [], ◌∷◌, ◌++◌, Some, None, refl, ap, sym, ◌∙◌, eqb, ◌||◌, ◌&&◌, is_some, CoreSet, has, Action, Unban, Ban, ban_of, IsSetOfBanned, unwrap_if}
 use Rattle.cal_policy.proofs.ListLemmas.OneMore.{map_if}
 use Rattle.cal_policy.proofs.HistoryLemmas.OneMore.{ban_push}
-use Rattle.cal_machine.proofs.Booleans.{unwrap_if}
 use Rattle.cal_policy.proofs.HistoryLemmas.FreshCores.{or_cond, eqb_swap}
 
 -- an action that names no ban

@@ -1,15 +1,9 @@
 -- Bans and caps are kept up with one more action.
-use Rattle.std.proofs.Common.{◌≡◌, ℕ, ◌<◌, List, [], ◌∷◌, ◌++◌, length, set, Option, Some, None, sym, ◌∙◌, eqb}
-use Rattle.cal_policy.specs.declared.history.action.Action.{Action}
-use Rattle.cal_policy.specs.declared.history.action.Action.TheVariants.{Unban, Ban, Cap}
-use Rattle.cal_policy.specs.declared.board.bans.BannedFor.{BannedFor}
+use Rattle.cal_policy.proofs.Common.{◌≡◌, ℕ, ◌<◌, List, [], ◌∷◌, ◌++◌, length, set, Option, Some, None, sym, ◌∙◌, eqb, Action, Unban, Ban, Cap, BannedFor, ban_of, last_cap, BansAgree, CapsAgree, unwrap_if}
 use Rattle.cal_policy.specs.declared.board.bans.Bans.{Bans}
 use Rattle.cal_policy.specs.declared.board.caps.Caps.{Caps}
-use Rattle.cal_policy.specs.History.{ban_of, last_cap}
-use Rattle.cal_policy.specs.Board.{BansAgree, CapsAgree}
 use Rattle.cal_policy.proofs.ListLemmas.OneMore.{set_says, or_if}
 use Rattle.cal_policy.proofs.HistoryLemmas.OneMore.{ban_push, last_cap_push}
-use Rattle.cal_machine.proofs.Booleans.{unwrap_if}
 
 pub Bans_ban : (b : Bans) (x : List Action) (core thread started : ℕ) → length b.bans ≡ 128 → core < 128 → BansAgree b x →
     BansAgree (record { bans = set b.bans core (Some (record { thread = thread; started = started })) }) (x ++ Ban core thread started ∷ [])

@@ -1,7 +1,5 @@
 -- Numbers of commands as they are kept: at most 2^64.
-use Rattle.std.proofs.Common.{◌≡◌, ℕ, ◌+◌, ◌<◌, ◌^◌, leb, min, arith}
-use Rattle.std.proofs.lemmas.Bool.Decides.{nat_tests}
-use Rattle.cal_policy.specs.Board.{kept_number}
+use Rattle.cal_policy.proofs.Common.{◌≡◌, ℕ, ◌+◌, ◌<◌, ◌^◌, leb, min, arith, nat_tests, kept_number}
 
 -- one command more
 pub kept_more : (n : ℕ) → min (kept_number n + 1) (2 ^ 64) ≡ kept_number (n + 1)

@@ -1,19 +1,9 @@
 -- Debts are kept up with one more action.
-use Rattle.std.proofs.Common.{◌≡◌, ℕ, ◌<◌, List, [], ◌∷◌, ◌++◌, length, set, cond, Option, Some, None, refl, ap, sym, ◌∙◌, arith, eqb}
-use Rattle.std.specs.Option.{unwrap_or}
-use Rattle.cal_policy.specs.declared.history.action.Action.{Action}
-use Rattle.cal_policy.specs.declared.history.action.Action.TheVariants.{Free, Unban, Ban, Revoke, Cap, Grant}
-use Rattle.cal_policy.specs.declared.history.action.Cause.{Cause}
+use Rattle.cal_policy.proofs.Common.{◌≡◌, ℕ, ◌<◌, List, [], ◌∷◌, ◌++◌, length, set, cond, Option, Some, None, refl, ap, sym, ◌∙◌, arith, eqb, unwrap_or, Action, Free, Unban, Ban, Revoke, Cap, Grant, Cause, Holder, holder_of, last_of, owed_made, owed_to, left_for, NamesCores, core_changed, kept_holder, unwrap_if}
 use Rattle.cal_policy.specs.declared.board.debts.Debts.{Debts}
-use Rattle.cal_policy.specs.declared.board.holders.Holder.{Holder}
 use Rattle.cal_policy.specs.declared.board.holders.Holder.TheVariants as holders
-use Rattle.cal_policy.specs.History.{holder_of}
-use Rattle.cal_policy.specs.History.Lists.{last_of}
-use Rattle.cal_policy.specs.Assured.Owed.{owed_made, owed_to, left_for}
-use Rattle.cal_policy.specs.Board.{NamesCores, core_changed, kept_holder}
 use Rattle.cal_policy.specs.Board.Debts.{DebtsAgree}
 use Rattle.cal_policy.proofs.ListLemmas.OneMore.{last_of_push, unwrap_or_or, set_says}
-use Rattle.cal_machine.proofs.Booleans.{unwrap_if}
 
 pub owed_push : (x : List Action) (a : Action) (c : ℕ) → owed_to (x ++ a ∷ []) c ≡ unwrap_or (owed_made c x a) (owed_to x c)
 owed_push x a c = ap (λ (o : Option (Option ℕ)). unwrap_or o None) (last_of_push (owed_made c) x a) ∙ unwrap_or_or (owed_made c x a) (last_of (owed_made c) x) None

@@ -1,12 +1,6 @@
 -- Looks that fit those before fit what is kept of them.
-use Rattle.std.proofs.Common.{◌≡◌, ℕ, ◌<◌, ◌≤◌, List, length, get_or, sym, subst, arith}
-use Rattle.std.proofs.lemmas.Option.{slice_get_within, slice_get-get_or}
-use Rattle.cal_signal.specs.declared.shown.Shown.{Shown}
-use Rattle.cal_policy.specs.declared.history.look.Seen.{Seen}
+use Rattle.cal_policy.proofs.Common.{◌≡◌, ℕ, ◌<◌, ◌≤◌, List, length, get_or, sym, subst, arith, slice_get_within, slice_get-get_or, Shown, Seen, IsFitLook, KeepingAgrees, FitShown, FitAfter, shown_in}
 use Rattle.cal_policy.specs.declared.board.records.Keeping.{Keeping}
-use Rattle.cal_policy.specs.Judgement.Judging.{IsFitLook}
-use Rattle.cal_policy.specs.State.{KeepingAgrees}
-use Rattle.cal_policy.specs.Board.KeepingSets.{FitShown, FitAfter, shown_in}
 
 pub fit_shown : (r : Keeping) (looks : List (List Seen)) (seen : List Seen) → KeepingAgrees r looks → length seen ≤ 128 → FitAfter looks seen → FitShown r seen
 fit_shown r looks seen s few after = λ k look here.

@@ -1,19 +1,8 @@
 -- The cores that grants and bans go over, when an action changes a holder or a ban.
-use Rattle.std.proofs.Common.{◌≡◌, ◌≢◌, ℕ, ◌<◌, ◌⊎◌, ◌&&◌, inl, inr, Bool, true, false, cond, eqb, Some, refl, ap, sym, ◌∙◌, arith}
-use Rattle.std.proofs.lemmas.Bool.{cases_eq}
-use Rattle.std.proofs.lemmas.Bool.Decides.{nat_tests}
-use Rattle.cal_machine.specs.Machine.{sibling_of}
-use Rattle.cal_machine.proofs.Siblings.{sibling_back}
-use Rattle.cal_machine.specs.declared.core_set.CoreSet.{CoreSet}
-use Rattle.cal_machine.specs.CoreSet.{has}
-use Rattle.cal_policy.specs.declared.history.action.Action.{Action}
+use Rattle.cal_policy.proofs.Common.{◌≡◌, ◌≢◌, ℕ, ◌<◌, ◌⊎◌, ◌&&◌, inl, inr, Bool, true, false, cond, eqb, Some, refl, ap, sym, ◌∙◌, arith, cases_eq, nat_tests, sibling_of, sibling_back, CoreSet, has, Action, Holder, core_changed, is_held, Opens, IsSameElsewhere, core_named, is_idle_by, is_alone_by, is_beside_held_by}
 use Rattle.cal_policy.specs.declared.history.action.Action.TheVariants as actions
-use Rattle.cal_policy.specs.declared.board.holders.Holder.{Holder}
 use Rattle.cal_policy.specs.declared.board.holders.Holder.TheVariants.{Free}
 use Rattle.cal_policy.specs.declared.board.open_cores.OpenCores.{OpenCores}
-use Rattle.cal_policy.specs.Board.{core_changed}
-use Rattle.cal_policy.specs.Board.Counts.{is_held}
-use Rattle.cal_policy.specs.Board.OpenCores.{Opens, IsSameElsewhere, core_named, is_idle_by, is_alone_by, is_beside_held_by}
 
 -- an action changes the holder of no core but the one that it names
 pub changes_named : (a : Action) (c : ℕ) → core_named a ≢ Some c → core_changed a ≢ Some c

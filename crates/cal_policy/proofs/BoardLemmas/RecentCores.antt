@@ -1,15 +1,6 @@
 -- The cores that a task had last, as the board keeps them.
-use Rattle.std.proofs.Common.{◌≡◌, ℕ, ◌<◌, List, Option, Some, None, ap, sym, ◌∙◌}
-use Rattle.std.specs.Option.{IfSome, option_map}
-use Rattle.cal_machine.specs.Table.{Table}
-use Rattle.cal_machine.specs.declared.task_table.TheConstants.{MOST_TASKS}
-use Rattle.cal_policy.specs.declared.board.Board.{Board}
+use Rattle.cal_policy.proofs.Common.{◌≡◌, ℕ, ◌<◌, List, Option, Some, None, ap, sym, ◌∙◌, IfSome, option_map, Table, MOST_TASKS, Board, Action, last_thread, last_placement, is_thread_for, Agrees, AreRecent, had_by, last_thread_in}
 use Rattle.cal_policy.specs.declared.board.holders.Placement as placements
-use Rattle.cal_policy.specs.declared.history.action.Action.{Action}
-use Rattle.cal_policy.specs.History.{last_thread, last_placement}
-use Rattle.cal_policy.specs.Pass.Grants.{is_thread_for}
-use Rattle.cal_policy.specs.State.{Agrees}
-use Rattle.cal_policy.specs.Board.RecentCores.{AreRecent, had_by, last_thread_in}
 use Rattle.cal_policy.proofs.HistoryLemmas.OneMore.{last_thread_placement}
 use Rattle.cal_policy.proofs.BoardLemmas.AsKept.{thread_as_kept}
 

@@ -1,12 +1,6 @@
 -- The sets of cores, when a holder changes.
-use Rattle.std.proofs.Common.{◌≡◌, ◌≢◌, ℕ, ◌<◌, ◌⊎◌, inl, inr, Option, Some, None}
-use Rattle.std.proofs.lemmas.Bool.{cases_eq}
-use Rattle.std.specs.Option.{IfSome}
-use Rattle.cal_policy.specs.declared.board.holders.Holder.{Holder}
-use Rattle.cal_policy.specs.declared.board.holders.Holding.{Holding}
+use Rattle.cal_policy.proofs.Common.{◌≡◌, ◌≢◌, ℕ, ◌<◌, ◌⊎◌, inl, inr, Option, Some, None, cases_eq, IfSome, Holder, Holding, holder_in, holder_at, Sorts, IsSorted}
 use Rattle.cal_policy.specs.declared.board.core_sets.CoreSets.{CoreSets}
-use Rattle.cal_policy.specs.Board.{holder_in, holder_at}
-use Rattle.cal_policy.specs.Board.CoreSets.{Sorts, IsSorted}
 
 -- the sets are kept up with the one holder that changes, if one does
 sorted_one : (h h2 : Holding) (core : ℕ) (old new : CoreSets) → ((c : ℕ) → Some core ≢ Some c → holder_in h2 c ≡ holder_in h c) →

@@ -1,20 +1,8 @@
 -- What a holder as it is kept says is what the holder says; and actions that fit name what the
 -- table has.
-use Rattle.std.proofs.Common.{◌≡◌, ℕ, ◌+◌, ◌<◌, ◌≤◌, suc, zero, Bool, true, false, cond, eqb, List, ◌++◌, length, get_or, take, Option, Some, None, refl, subst, ◌∙◌, arith}
-use Rattle.std.proofs.lemmas.Bool.Decides.{nat_tests}
-use Rattle.cal_machine.specs.Table.{Table, IsTable}
-use Rattle.cal_machine.specs.TableTasks.{threads_of_table}
-use Rattle.cal_policy.specs.declared.history.action.Action.{Action}
+use Rattle.cal_policy.proofs.Common.{◌≡◌, ℕ, ◌+◌, ◌<◌, ◌≤◌, suc, zero, Bool, true, false, cond, eqb, List, ◌++◌, length, get_or, take, Option, Some, None, refl, subst, ◌∙◌, arith, nat_tests, Table, IsTable, threads_of_table, Action, Holder, Held, Leaving, Holding, IfSome, kept_holder, placement_of, holder_at, HoldingSound, NamesCores, NamesTable, is_free, is_held, count_below, fits_state, FitInTurn, slice_get-get_or}
 use Rattle.cal_policy.specs.declared.history.action.Action.TheVariants as actions
-use Rattle.cal_policy.specs.declared.board.holders.Holder.{Holder}
-use Rattle.cal_policy.specs.declared.board.holders.Holder.TheVariants.{Free, Held, Leaving}
-use Rattle.cal_policy.specs.declared.board.holders.Holding.{Holding}
-use Rattle.std.specs.Option.{IfSome}
-use Rattle.cal_policy.specs.Board.{kept_holder, placement_of, holder_at, HoldingSound, NamesCores, NamesTable}
-use Rattle.cal_policy.specs.Board.Counts.{is_free, is_held}
-use Rattle.cal_policy.specs.Pass.Choice.{count_below}
-use Rattle.cal_policy.specs.Judgement.Orderly.{fits_state, FitInTurn}
-use Rattle.std.proofs.lemmas.Option.{slice_get-get_or}
+use Rattle.cal_policy.specs.declared.board.holders.Holder.TheVariants.{Free}
 use Rattle.cal_policy.proofs.ListLemmas.OneNumberMore.{count_more}
 
 pub free_kept : (h : Holder) → is_free (kept_holder h) ≡ is_free h

@@ -1,18 +1,7 @@
 -- What is counted of the cores, when a holder changes.
-use Rattle.std.proofs.Common.{◌≡◌, ◌≢◌, ℕ, ◌+◌, ◌<◌, ◌≤◌, ◌⊎◌, inl, inr, zero, suc, Bool, false, cond, Option, Some, None, List, refl, ap, ◌∙◌, subst, arith, get_or}
-use Rattle.std.proofs.lemmas.Bool.{cases_eq}
-use Rattle.std.specs.Option.{IfSome}
-use Rattle.cal_machine.specs.Table.{Table}
-use Rattle.cal_policy.specs.declared.history.action.Action.{Action}
-use Rattle.cal_policy.specs.declared.board.holders.Holder.{Holder}
+use Rattle.cal_policy.proofs.Common.{◌≡◌, ◌≢◌, ℕ, ◌+◌, ◌<◌, ◌≤◌, ◌⊎◌, inl, inr, zero, suc, Bool, false, cond, Option, Some, None, List, refl, ap, ◌∙◌, subst, arith, get_or, cases_eq, IfSome, Table, Action, Holder, Holding, holder_of, count_below, is_held_for, is_booked_for, is_with, leaves_for, HoldersAgree, holder_in, holder_at}
 use Rattle.cal_policy.specs.declared.board.holders.Holder.TheVariants.{Free}
-use Rattle.cal_policy.specs.declared.board.holders.Holding.{Holding}
 use Rattle.cal_policy.specs.declared.board.survey.Survey.{Survey}
-use Rattle.cal_policy.specs.History.{holder_of}
-use Rattle.cal_policy.specs.Pass.Choice.{count_below}
-use Rattle.cal_policy.specs.Board.Counts.{is_held_for, is_booked_for, is_with}
-use Rattle.cal_policy.specs.Pass.Grants.{leaves_for}
-use Rattle.cal_policy.specs.Board.{HoldersAgree, holder_in, holder_at}
 use Rattle.cal_policy.specs.Board.Survey.{Surveys, CountsAtMost, IsCounted, CountsOneMore}
 use Rattle.cal_policy.proofs.ListLemmas.OneNumberMore.{count_at_most}
 use Rattle.cal_policy.proofs.BoardLemmas.StateKept.{some_counted}

@@ -1,31 +1,8 @@
 -- The best core, of the free ones and of the others.
-use Rattle.std.proofs.Common.{◌≡◌, ℕ, ◌<◌, ◌≤◌, ◌&&◌, ◌⊎◌, inl, inr, zero, suc, Bool, true, false, not, cond, eqb, nat_lt, List, Option, Some, None, refl, ap, sym, ◌∙◌, subst, arith, ⊎_elim}
-use Rattle.std.proofs.lemmas.Bool.{cases_lt}
-use Rattle.std.proofs.lemmas.Bool.Decides.{nat_tests}
-use Rattle.std.specs.Option.{IfSome, option_or}
-use Rattle.cal_machine.specs.Table.{Table}
-use Rattle.cal_machine.specs.Machine.{sibling_of}
-use Rattle.cal_machine.specs.declared.core_set.CoreSet.{CoreSet}
-use Rattle.cal_machine.specs.CoreSet.{has}
-use Rattle.cal_policy.specs.declared.history.action.Action.{Action}
-use Rattle.cal_policy.specs.declared.board.holders.Holder.{Holder}
-use Rattle.cal_policy.specs.declared.board.holders.Holder.TheVariants.{Free, Held, Leaving}
-use Rattle.cal_policy.specs.declared.pass.choice.Candidate.{Candidate}
-use Rattle.cal_policy.specs.declared.history.core_class.CoreClass.{CoreClass}
-use Rattle.cal_policy.specs.History.CoreClasses.{class_number, is_idle, comes_before}
+use Rattle.cal_policy.proofs.Common.{◌≡◌, ℕ, ◌<◌, ◌≤◌, ◌&&◌, ◌⊎◌, inl, inr, zero, suc, Bool, true, false, not, cond, eqb, nat_lt, List, Option, Some, None, refl, ap, sym, ◌∙◌, subst, arith, ⊎_elim, cases_lt, nat_tests, IfSome, option_or, Table, sibling_of, CoreSet, has, Action, Holder, Held, Leaving, Candidate, CoreClass, class_number, is_idle, comes_before, Board, owner_of, guaranteed_of, is_latency_critical, holder_of, last_thread, is_banned, is_free, is_held_for, is_over, booked_by, best_below, better, Setting, so_far, is_held_with_room, class_of, class_by, preempt_class, none_leaves_for, is_granted_in, is_thread_for, class_among, holder_in, Stands, Sorts, Opens}
+use Rattle.cal_policy.specs.declared.board.holders.Holder.TheVariants.{Free}
 use Rattle.cal_policy.specs.declared.history.core_class.CoreClass.TheVariants as classes
-use Rattle.cal_policy.specs.declared.board.Board.{Board}
-use Rattle.cal_machine.specs.TableTasks.{owner_of, guaranteed_of, is_latency_critical}
-use Rattle.cal_policy.specs.History.{holder_of, last_thread, is_banned}
-use Rattle.cal_policy.specs.Board.Counts.{is_free, is_held_for, is_over, booked_by}
-use Rattle.cal_policy.specs.Pass.Choice.{best_below, better}
-use Rattle.cal_policy.specs.Setting.{Setting, so_far, is_held_with_room}
-use Rattle.cal_policy.specs.Pass.Grants.{class_of, class_by, preempt_class, may_preempt, none_leaves_for, is_granted_in, is_thread_for}
-use Rattle.cal_policy.specs.Pass.Among.{class_among}
-use Rattle.cal_policy.specs.Board.{holder_in}
-use Rattle.cal_policy.specs.State.{Stands}
-use Rattle.cal_policy.specs.Board.CoreSets.{Sorts}
-use Rattle.cal_policy.specs.Board.OpenCores.{Opens}
+use Rattle.cal_policy.specs.Pass.Grants.{may_preempt}
 use Rattle.cal_policy.proofs.BoardLemmas.StateKept.{free_kept}
 
 -- numbers without a rank leave the best as it is

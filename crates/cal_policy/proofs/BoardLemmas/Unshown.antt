@@ -1,14 +1,6 @@
 -- The cores that may have been left, when a holder changes and when a record is kept.
-use Rattle.std.proofs.Common.{◌≡◌, ◌≢◌, ℕ, ◌+◌, ◌<◌, ◌⊎◌, inl, inr, true, false, cond, eqb, Option, Some, refl, ap, sym, subst, ◌∙◌, arith, ⊎_elim}
-use mathlib.Core.Bool.{true≢false}
-use Rattle.std.proofs.lemmas.Bool.{cases_eq}
-use Rattle.std.proofs.lemmas.Bool.Decides.{nat_tests}
-use Rattle.cal_machine.specs.declared.core_set.CoreSet.{CoreSet}
-use Rattle.cal_machine.specs.CoreSet.{has}
-use Rattle.cal_signal.specs.declared.record.Record.{Record}
-use Rattle.cal_policy.specs.declared.board.holders.Holder.{Holder}
-use Rattle.cal_policy.specs.declared.board.holders.Holder.TheVariants.{Free, Held, Leaving}
-use Rattle.cal_policy.specs.Board.Unshown.{IsShownOn, Shows}
+use Rattle.cal_policy.proofs.Common.{◌≡◌, ◌≢◌, ℕ, ◌+◌, ◌<◌, ◌⊎◌, inl, inr, true, false, cond, eqb, Option, Some, refl, ap, sym, subst, ◌∙◌, arith, ⊎_elim, true≢false, cases_eq, nat_tests, CoreSet, has, Record, Holder, Held, Leaving, IsShownOn, Shows}
+use Rattle.cal_policy.specs.declared.board.holders.Holder.TheVariants.{Free}
 
 -- where nobody has a core
 pub shows_free : (holder : ℕ → Holder) (kept : ℕ → Record) (unshown : CoreSet) → ((c : ℕ) → holder c ≡ Free) → Shows holder kept unshown

@@ -1,24 +1,9 @@
 -- The turns of a pass of the second policy follow one another, and its order stays.
-use Rattle.std.proofs.Common.{◌≡◌, ℕ, ◌+◌, ◌<◌, ◌≤◌, ◌++◌, List, [], length, true, false, nat_lt, Option, ap, sym, refl, ◌∙◌, arith, subst, ⊎_elim}
-use Rattle.std.proofs.lemmas.Bool.{cases_lt}
-use Rattle.std.proofs.lemmas.Bool.Decides.{nat_tests}
-use Rattle.std.proofs.lemmas.List.{append-nil}
-use Rattle.cal_machine.specs.Table.{Table}
-use Rattle.cal_policy.specs.declared.history.action.Action.{Action}
+use Rattle.cal_policy.proofs.Common.{◌≡◌, ℕ, ◌+◌, ◌<◌, ◌≤◌, ◌++◌, List, [], length, true, false, nat_lt, Option, ap, sym, refl, ◌∙◌, arith, subst, ⊎_elim, cases_lt, nat_tests, append-nil, Table, Action, Policy, Caladan, Assured, grant_in_place, unbanned_of, bounded_of, IsOrder, next_turn, made_before, placed_task, IsTurn, first_turn, next_in_part, freed_of, in_turn, free_at, pass_by, Setting}
 use Rattle.cal_policy.specs.declared.explain.turn.Turn.{Turn}
 use Rattle.cal_policy.specs.declared.explain.turn.Turn.TheVariants.{Free, Unban, Ban, Bandwidth, LatencyCritical, BestEffort, Placed, End}
-use Rattle.cal_policy.specs.declared.policy.Policy.{Policy}
-use Rattle.cal_policy.specs.declared.policy.Policy.TheVariants.{Caladan, Assured}
-use Rattle.cal_policy.specs.Assured.Grants.{grant_in_place}
 use Rattle.cal_policy.specs.Assured.Hyperthreads.{unban_at, bans_at}
-use Rattle.cal_policy.specs.Assured.Pass.{unbanned_of, bounded_of}
-use Rattle.cal_policy.specs.Explain.AssuredTurns.{IsOrder, next_turn, made_before, placed_task}
 use Rattle.cal_policy.specs.Explain.PolicyTurns.{KeepsOrder, made_after_by, made_before_by, made_in_by, next_turn_by}
-use Rattle.cal_policy.specs.Explain.Turns.{IsTurn, first_turn, next_in_part, freed_of}
-use Rattle.cal_policy.specs.History.Lists.{in_turn}
-use Rattle.cal_policy.specs.Pass.Frees.{free_at}
-use Rattle.cal_policy.specs.Policies.{pass_by}
-use Rattle.cal_policy.specs.Setting.{Setting}
 use Rattle.cal_policy.proofs.ExplainLemmas.{turn_more}
 
 less : (a b : ℕ) → a < b → nat_lt a b ≡ true

@@ -1,15 +1,8 @@
 -- What a record says of Runs, by their numbers as they are kept.
-use Rattle.std.proofs.Common.{◌≡◌, ◌≢◌, ℕ, ◌-◌, ◌<◌, ◌≤◌, ◌^◌, ◌&&◌, Bool, true, false, not, cond, eqb, leb, ltb, List, refl, ap, ◌∙◌, arith}
-use Rattle.std.proofs.lemmas.Bool.Decides.{nat_tests}
-use Rattle.cal_signal.specs.declared.record.Record.{Record}
+use Rattle.cal_policy.proofs.Common.{◌≡◌, ◌≢◌, ℕ, ◌-◌, ◌<◌, ◌≤◌, ◌^◌, ◌&&◌, Bool, true, false, not, cond, eqb, leb, ltb, List, refl, ap, ◌∙◌, arith, nat_tests, Record, Action, Holder, Held, Leaving, holder_of, sent_to, kept_holder, kept_number, is_acknowledged_by, is_foreign, judged}
 use Rattle.cal_signal.specs.declared.look.Look.TheVariants as found
-use Rattle.cal_policy.specs.declared.history.action.Action.{Action}
-use Rattle.cal_policy.specs.declared.board.holders.Holder.{Holder}
-use Rattle.cal_policy.specs.declared.board.holders.Holder.TheVariants.{Free, Held, Leaving}
+use Rattle.cal_policy.specs.declared.board.holders.Holder.TheVariants.{Free}
 use Rattle.cal_policy.specs.declared.history.look.Seen.TheVariants as seen
-use Rattle.cal_policy.specs.History.{holder_of, sent_to}
-use Rattle.cal_policy.specs.Board.{kept_holder, kept_number}
-use Rattle.cal_policy.specs.Judgement.Judging.{is_acknowledged_by, is_foreign, judged}
 use Rattle.cal_policy.proofs.BoardLemmas.CommandNumbers.{kept_le}
 
 -- a record acknowledges a Run by its kept number exactly where it acknowledges it by its number

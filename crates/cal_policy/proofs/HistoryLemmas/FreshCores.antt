@@ -1,13 +1,5 @@
 -- The cores granted in a pass, after one more action.
-use Rattle.std.proofs.Common.{◌≡◌, ℕ, Bool, true, false, cond, List, [], ◌∷◌, ◌++◌, refl, ap, sym, ◌∙◌, eqb, ◌||◌, arith}
-use Rattle.std.proofs.lemmas.Bool.Decides.{nat_tests}
-use Rattle.std.specs.Option.{is_some}
-use Rattle.cal_machine.specs.declared.core_set.CoreSet.{CoreSet}
-use Rattle.cal_machine.specs.CoreSet.{has}
-use Rattle.cal_policy.specs.declared.history.action.Action.{Action}
-use Rattle.cal_policy.specs.declared.history.action.Action.TheVariants.{Grant}
-use Rattle.cal_policy.specs.History.{last_thread}
-use Rattle.cal_policy.specs.Board.{HasGranted}
+use Rattle.cal_policy.proofs.Common.{◌≡◌, ℕ, Bool, true, false, cond, List, [], ◌∷◌, ◌++◌, refl, ap, sym, ◌∙◌, eqb, ◌||◌, arith, nat_tests, is_some, CoreSet, has, Action, Grant, last_thread, HasGranted}
 use Rattle.cal_policy.proofs.ListLemmas.OneMore.{some_if}
 use Rattle.cal_policy.proofs.HistoryLemmas.OneMore.{last_thread_push}
 

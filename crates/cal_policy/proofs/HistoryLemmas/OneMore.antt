@@ -1,18 +1,7 @@
 -- What one more action, or one more pass's looks, changes.
-use Rattle.std.proofs.Common.{◌≡◌, ℕ, ◌+◌, ◌≤◌, Bool, true, false, cond, List, [], ◌∷◌, ◌++◌, length, Option, Some, None, refl, ap, ◌∙◌, arith, eqb, append_assoc, length-append}
-use Rattle.std.proofs.lemmas.List.{append-nil}
-use Rattle.std.specs.Option.{option_or, unwrap_or, option_map}
-use Rattle.cal_policy.specs.declared.history.action.Action.{Action}
-use Rattle.cal_policy.specs.declared.history.action.Action.TheVariants.{Free, Unban, Ban, Revoke, Cap, Grant}
+use Rattle.cal_policy.proofs.Common.{◌≡◌, ℕ, ◌+◌, ◌≤◌, Bool, true, false, cond, List, [], ◌∷◌, ◌++◌, length, Option, Some, None, refl, ap, ◌∙◌, arith, eqb, append_assoc, length-append, append-nil, option_or, unwrap_or, option_map, Action, Free, Unban, Ban, Revoke, Cap, Grant, BannedFor, Seen, holder_of, holder_made, last_placement, placement_made, last_thread, thread_granted, sent_to, sends, commands_to, ban_of, ban_made, last_cap, cap_made, zero_record, nothing_shown, kept_by, to_keep_at, last_shown, shown_at, last_of}
 use Rattle.cal_policy.specs.declared.board.holders.Placement as placements
 use Rattle.cal_policy.specs.declared.board.holders.Holder.TheVariants as holders
-use Rattle.cal_policy.specs.declared.board.bans.BannedFor.{BannedFor}
-use Rattle.cal_policy.specs.declared.history.look.Seen.{Seen}
-use Rattle.cal_policy.specs.History.{holder_of, holder_made, last_placement, placement_made, last_thread, thread_granted, sent_to, sends, commands_to, ban_of, ban_made, last_cap, cap_made}
-use Rattle.cal_signal.specs.Records.{zero_record}
-use Rattle.cal_signal.specs.Shown.{nothing_shown}
-use Rattle.cal_policy.specs.History.Looks.{kept_by, to_keep_at, last_shown, shown_at}
-use Rattle.cal_policy.specs.History.Lists.{last_of}
 use Rattle.cal_policy.proofs.ListLemmas.OneMore.{last_of_push, each_of_push, unwrap_or_or, last_of_map}
 
 pub holder_push : (x : List Action) (a : Action) (c : ℕ) → holder_of (x ++ a ∷ []) c ≡ unwrap_or (holder_made c x a) (holder_of x c)

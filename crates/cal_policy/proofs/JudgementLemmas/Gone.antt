@@ -1,48 +1,15 @@
 -- The record for a thread that is gone fits, is kept, and frees the thread's cores.
-use Rattle.std.proofs.Common.{◌≡◌, ◌≢◌, ℕ, ◌+◌, ◌-◌, ◌<◌, ◌≤◌, ◌^◌, ◌==◌, ◌&&◌, nat_lt, nat_le, zero, suc, Bool, true, false, cond, List, [], ◌∷◌, ◌++◌, length, map, take, Option, Some, None, slice_get, refl, sym, ap, subst, ◌∙◌, arith, append_assoc, ⊎_elim}
-use Rattle.std.specs.Option.{option_map, option_or, unwrap_or, option_and_then}
-use Rattle.std.specs.List.{Contains}
-use Rattle.std.proofs.lemmas.Bool.{and_parts, leb-true, le-leb, cases_lt, le-ltb}
-use Rattle.std.proofs.lemmas.Bool.Decides.{nat_tests}
-use Rattle.std.proofs.lemmas.List.{append-nil}
+use Rattle.cal_policy.proofs.Common.{◌≡◌, ◌≢◌, ℕ, ◌+◌, ◌-◌, ◌<◌, ◌≤◌, ◌^◌, ◌==◌, ◌&&◌, nat_lt, nat_le, zero, suc, Bool, true, false, cond, List, [], ◌∷◌, ◌++◌, length, map, take, Option, Some, None, slice_get, refl, sym, ap, subst, ◌∙◌, arith, append_assoc, ⊎_elim, option_map, option_or, unwrap_or, option_and_then, Contains, and_parts, leb-true, le-leb, cases_lt, le-ltb, nat_tests, append-nil, take_all, slice_get-map, Table, Record, Shown, IsShaped, IsFitShown, Action, Free, Unban, Ban, Revoke, Cap, Grant, Holder, Seen, Whole, Busy, Ahead, Foreign, PassEntry, placement_of, last_after, last_of, in_turn, actions_of, looks_of, sent_to, sends, holder_of, last_placement, placement_made, placed, last_shown, shown_at, shown_by, judged, IsFitLook, followed, IsLegal, grants, pass_by, Policy, Caladan, Assured, has_left, shows_left, free_at, frees, unbans, bans, bandwidth_part, grants_of_kind, Setting, setting, so_far, kept_now}
 use Rattle.std.proofs.lemmas.List.Elements.{Contains-push, Contains-append_left, Contains-append_right}
-use Rattle.std.proofs.lemmas.Option.{slice_get-map}
-use Rattle.cal_machine.specs.Table.{Table}
-use Rattle.cal_signal.specs.declared.record.Record.{Record}
-use Rattle.cal_signal.specs.declared.shown.Shown.{Shown}
 use Rattle.cal_signal.specs.declared.look.Look.TheVariants as found
-use Rattle.cal_signal.specs.Records.{IsShaped}
-use Rattle.cal_signal.specs.Shown.{IsFitShown}
-use Rattle.cal_policy.specs.declared.history.action.Action.{Action}
-use Rattle.cal_policy.specs.declared.history.action.Action.TheVariants.{Free, Unban, Ban, Revoke, Cap, Grant}
-use Rattle.cal_policy.specs.declared.board.holders.Holder.{Holder}
 use Rattle.cal_policy.specs.declared.board.holders.Holder.TheVariants as holders
 use Rattle.cal_policy.specs.declared.board.holders.Placement as placements
-use Rattle.cal_policy.specs.declared.history.look.Seen.{Seen}
-use Rattle.cal_policy.specs.declared.history.look.Seen.TheVariants.{Whole, Busy, Ahead, Foreign}
-use Rattle.cal_policy.specs.declared.history.entry.PassEntry.{PassEntry}
-use Rattle.cal_policy.specs.Board.{placement_of}
-use Rattle.cal_policy.specs.History.Lists.{last_after, last_of, in_turn}
-use Rattle.cal_policy.specs.History.{actions_of, looks_of, sent_to, sends, holder_of, last_placement, placement_made, placed}
-use Rattle.cal_policy.specs.History.Looks.{last_shown, shown_at, shown_by}
-use Rattle.cal_policy.specs.Judgement.Judging.{judged, IsFitLook}
 use Rattle.cal_policy.specs.Judgement.Gone.{shown_when_gone, can_be_gone, GoneIsKept, GoneFreesItsCores}
-use Rattle.cal_policy.specs.Pass.{followed, IsLegal}
-use Rattle.cal_policy.specs.Assured.Grants.{grants}
 use Rattle.cal_policy.specs.Assured.Hyperthreads as assured
-use Rattle.cal_policy.specs.Policies.{pass_by}
-use Rattle.cal_policy.specs.declared.policy.Policy.{Policy}
-use Rattle.cal_policy.specs.declared.policy.Policy.TheVariants.{Caladan, Assured}
-use Rattle.cal_policy.specs.Pass.Frees.{has_left, shows_left, free_at, frees}
-use Rattle.cal_policy.specs.Pass.Bans.{unbans, bans}
-use Rattle.cal_policy.specs.Pass.Bandwidth.{bandwidth_part}
 use Rattle.cal_machine.specs.declared.task.Kind.TheVariants as kinds
-use Rattle.cal_policy.specs.Pass.Grants.{grants_of_kind}
-use Rattle.cal_policy.specs.Setting.{Setting, setting, so_far, kept_now}
 use Rattle.cal_policy.proofs.HistoryLemmas.OneMore.{kept_push, holder_push, sent_push, sent_grows}
 use Rattle.cal_policy.proofs.JudgementLemmas.OneByOne.{only_faults_are_refused}
 use Rattle.cal_policy.proofs.PolicyLemmas.{steady_by}
-use Rattle.std.proofs.lemmas.List.{take_all}
 
 -- what holds of every answer holds of the last one
 last_after_all : {X Y : Type 0} (P : Y → Type 0) (f : List X → X → Option Y) (before xs : List X) →

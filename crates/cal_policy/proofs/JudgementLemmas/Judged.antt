@@ -1,15 +1,6 @@
 -- What is judged of a look, and of what was judged the look.
-use Rattle.std.proofs.Common.{◌≡◌, ℕ, ◌≤◌, Bool, true, false, cond, ltb, List, refl, sym, ap, subst, ◌∙◌, arith}
-use Rattle.std.proofs.lemmas.Bool.Decides.{nat_tests}
-use Rattle.cal_signal.specs.declared.record.Record.{Record}
-use Rattle.cal_signal.specs.declared.look.Look.{Look}
+use Rattle.cal_policy.proofs.Common.{◌≡◌, ℕ, ◌≤◌, Bool, true, false, cond, ltb, List, refl, sym, ap, subst, ◌∙◌, arith, nat_tests, Record, Look, Action, Whole, Ahead, Foreign, sent_to, look_of, judged, is_foreign, FitsCommands}
 use Rattle.cal_signal.specs.declared.look.Look.TheVariants as found
-use Rattle.cal_policy.specs.declared.history.action.Action.{Action}
-use Rattle.cal_policy.specs.declared.history.look.Seen.TheVariants.{Whole, Ahead, Foreign}
-use Rattle.cal_policy.specs.History.{sent_to}
-use Rattle.cal_policy.specs.History.Looks.{look_of}
-use Rattle.cal_policy.specs.Judgement.Judging.{judged, is_foreign}
-use Rattle.cal_policy.specs.Laws.{FitsCommands}
 
 look_of_tests : (ahead foreign : Bool) (number : ℕ) (rec : Record) → look_of (cond ahead (Ahead number rec) (cond foreign (Foreign number rec) (Whole number rec))) ≡ found.Whole number rec
 look_of_tests true foreign number rec = refl

@@ -1,31 +1,11 @@
 -- Looks taken one by one fit, and those that are refused leave no trace.
-use Rattle.std.proofs.Common.{◌≡◌, ◌≢◌, ℕ, ◌+◌, ◌<◌, ◌==◌, nat_lt, zero, suc, Bool, true, false, not, cond, List, [], ◌∷◌, length, map, Option, Some, None, slice_get, inl, refl, sym, ap, subst, ◌∙◌, arith, ◌↔◌}
-use mathlib.Core.Bool.{true≢false}
-use Rattle.std.specs.Option.{is_some, option_or, unwrap_or}
-use Rattle.std.specs.List.{enumerate_from}
-use Rattle.std.proofs.lemmas.List.{length-map}
+use Rattle.cal_policy.proofs.Common.{◌≡◌, ◌≢◌, ℕ, ◌+◌, ◌<◌, ◌==◌, nat_lt, zero, suc, Bool, true, false, not, cond, List, [], ◌∷◌, length, map, Option, Some, None, slice_get, inl, refl, sym, ap, subst, ◌∙◌, arith, ◌↔◌, true≢false, is_some, option_or, unwrap_or, enumerate_from, length-map, Table, Record, Shown, Look, le-leb, lt-ltb, eq-eqb, IsLater, is_same, IsFitShown, IsShownAfter, Seen, Whole, Busy, Ahead, Foreign, PassEntry, FoundLook, actions_of, looks_of, sent_to, kept_by, last_shown, look_of, judged, is_foreign, IsFitLook, rooms_found, misfit_of, misfit_of_record, fault_of, fault_judged, taken_look, taken_found, taken_looks, taken_input}
 use Rattle.std.proofs.lemmas.List.FromFn.{length-enumerate_from}
-use Rattle.cal_machine.specs.Table.{Table}
-use Rattle.cal_signal.specs.declared.record.Record.{Record}
-use Rattle.cal_signal.specs.declared.shown.Shown.{Shown}
-use Rattle.cal_signal.specs.declared.look.Look.{Look}
 use Rattle.cal_signal.specs.declared.look.Look.TheVariants as found
-use Rattle.std.proofs.lemmas.Bool.{le-leb, lt-ltb, eq-eqb}
-use Rattle.cal_signal.specs.Records.{IsLater, is_same}
-use Rattle.cal_signal.specs.Shown.{IsFitShown, IsShownAfter}
 use Rattle.cal_signal.specs.Tests.{is_shaped, is_later, is_shown_after, is_busy_pair}
 use Rattle.cal_signal.proofs.Testing.{shaped_holds, shaped_test, follows_holds, pair_holds, pair_test}
-use Rattle.cal_policy.specs.declared.history.look.Seen.{Seen}
-use Rattle.cal_policy.specs.declared.history.look.Seen.TheVariants.{Whole, Busy, Ahead, Foreign}
-use Rattle.cal_policy.specs.declared.history.entry.PassEntry.{PassEntry}
 use Rattle.cal_policy.specs.declared.judgement.look_fault.LookFault.{LookFault}
 use Rattle.cal_policy.specs.declared.judgement.look_fault.LookFault.TheVariants as faults
-use Rattle.cal_policy.specs.declared.judgement.open_input.FoundLook.{FoundLook}
-use Rattle.cal_policy.specs.History.{actions_of, looks_of, sent_to}
-use Rattle.cal_policy.specs.History.Looks.{kept_by, last_shown, look_of}
-use Rattle.cal_policy.specs.Judgement.Judging.{judged, is_foreign, IsFitLook}
-use Rattle.cal_policy.specs.Judgement.OpenInput.{rooms_found}
-use Rattle.cal_policy.specs.Judgement.OneByOne.{misfit_of, misfit_of_record, fault_of, fault_judged, taken_look, taken_found, taken_looks, taken_input}
 use Rattle.cal_policy.specs.Judgement.Taken.{MisfitsDoNotFit, OnlyFaultsAreRefused, TakenInputFits, OthersCountAsGiven, RoomsCountAsGiven, RefusedLeavesNoTrace}
 use Rattle.cal_policy.proofs.HistoryLemmas.OneMore.{kept_push, shown_push}
 use Rattle.cal_policy.proofs.JudgementLemmas.OpenInput.{length-judged_looks, made_as_judged}

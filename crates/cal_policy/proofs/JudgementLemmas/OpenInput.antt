@@ -1,19 +1,6 @@
 -- What was found of the threads, one more.
-use Rattle.std.proofs.Common.{◌≡◌, ◌+◌, ℕ, zero, suc, Bool, List, [], ◌∷◌, ◌++◌, length, map, Some, slice_get, ap, sym, ◌∙◌, arith}
-use mathlib.Core.Bool.{true≢false}
-use Rattle.std.specs.Option.{is_some, unwrap_or}
-use Rattle.std.proofs.lemmas.List.{map-append, length-map}
+use Rattle.cal_policy.proofs.Common.{◌≡◌, ◌+◌, ℕ, zero, suc, Bool, List, [], ◌∷◌, ◌++◌, length, map, Some, slice_get, ap, sym, ◌∙◌, arith, true≢false, is_some, unwrap_or, map-append, length-map, enumerate_from, Table, Seen, FoundLook, PassEntry, OpenView, IsOfFound, judged_looks, rooms_found, actions_of, judged, look_of, Action}
 use Rattle.std.proofs.lemmas.List.FromFn.{length-enumerate_from}
-use Rattle.std.specs.List.{enumerate_from}
-use Rattle.cal_machine.specs.Table.{Table}
-use Rattle.cal_policy.specs.declared.history.look.Seen.{Seen}
-use Rattle.cal_policy.specs.declared.judgement.open_input.FoundLook.{FoundLook}
-use Rattle.cal_policy.specs.declared.history.entry.PassEntry.{PassEntry}
-use Rattle.cal_policy.specs.Judgement.OpenInput.{OpenView, IsOfFound, judged_looks, rooms_found}
-use Rattle.cal_policy.specs.History.{actions_of}
-use Rattle.cal_policy.specs.Judgement.Judging.{judged}
-use Rattle.cal_policy.specs.History.Looks.{look_of}
-use Rattle.cal_policy.specs.declared.history.action.Action.{Action}
 use Rattle.cal_policy.proofs.JudgementLemmas.Judged.{look_of-judged}
 
 enumerate_from-append : {X : Type 0} (n : ℕ) (xs : List X) (x : X) → enumerate_from n (xs ++ x ∷ []) ≡ enumerate_from n xs ++ (n + length xs, x) ∷ []

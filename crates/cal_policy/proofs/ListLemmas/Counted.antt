@@ -1,8 +1,5 @@
 -- How counts and choices among the numbers below n go with their tests.
-use Rattle.std.proofs.Common.{◌≡◌, ℕ, ◌+◌, ◌<◌, ◌≤◌, ◌⊎◌, Bool, true, false, cond, Option, Some, None, refl, sym, ap, ◌∙◌, subst, arith, inl, inr, ⊎_elim, zero, suc}
-use Rattle.std.proofs.lemmas.Bool.{cases_eq, cases_lt}
-use Rattle.cal_policy.specs.Pass.Choice.{count_below, best_below, better, highest_below, lowest_below, first_or}
-use Rattle.cal_policy.specs.declared.pass.choice.Candidate.{Candidate}
+use Rattle.cal_policy.proofs.Common.{◌≡◌, ℕ, ◌+◌, ◌<◌, ◌≤◌, ◌⊎◌, Bool, true, false, cond, Option, Some, None, refl, sym, ap, ◌∙◌, subst, arith, inl, inr, ⊎_elim, zero, suc, cases_eq, cases_lt, count_below, best_below, better, highest_below, lowest_below, first_or, Candidate}
 use Rattle.cal_policy.proofs.ListLemmas.OneNumberMore.{one_at_most}
 
 -- where fewer pass, fewer are counted

@@ -1,7 +1,5 @@
 -- What holds of each member of a list, told its place.
-use Rattle.std.proofs.Common.{◌≡◌, ℕ, ◌+◌, ◌<◌, ◌≤◌, List, [], ◌∷◌, ◌++◌, length, get_or, take, Some, slice_get, subst, ap, sym, ◌∙◌, append_assoc, arith}
-use Rattle.std.proofs.lemmas.List.{take_more}
-use Rattle.std.proofs.lemmas.Option.{slice_get_within, get_or_from_slice_get, slice_get-get_or}
+use Rattle.cal_policy.proofs.Common.{◌≡◌, ℕ, ◌+◌, ◌<◌, ◌≤◌, List, [], ◌∷◌, ◌++◌, length, get_or, take, Some, slice_get, subst, ap, sym, ◌∙◌, append_assoc, arith, take_more, slice_get_within, get_or_from_slice_get, slice_get-get_or}
 use borrow.Author.Count.{below_more}
 
 -- of each member below n, and of the member at n: then of each below n + 1

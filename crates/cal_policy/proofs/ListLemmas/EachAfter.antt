@@ -1,9 +1,6 @@
 -- What holds of each member of a list, told what came before it.
-use Rattle.std.proofs.Common.{◌≡◌, ℕ, ◌<◌, suc, zero, List, [], ◌∷◌, ◌++◌, take, Some, arith, append_assoc}
+use Rattle.cal_policy.proofs.Common.{◌≡◌, ℕ, ◌<◌, suc, zero, List, [], ◌∷◌, ◌++◌, take, Some, arith, append_assoc, append-nil, in_turn, EachAfter}
 use Rattle.std.specs.List.{slice_get}
-use Rattle.std.proofs.lemmas.List.{append-nil}
-use Rattle.cal_policy.specs.History.Lists.{in_turn}
-use Rattle.cal_policy.specs.Pass.Made.{EachAfter}
 
 pub each_append : {X : Type 0} (P : List X → X → Type 0) (before xs ys : List X) →
     EachAfter P before xs → EachAfter P (before ++ xs) ys → EachAfter P before (xs ++ ys)

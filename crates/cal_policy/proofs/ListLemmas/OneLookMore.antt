@@ -1,8 +1,5 @@
 -- What is said of each thread, when the look at one more is taken.
-use Rattle.std.proofs.Common.{◌≡◌, ◌≢◌, ℕ, ◌+◌, ◌<◌, ◌≤◌, true, false, cond, Option, None, refl, ap, sym, ◌∙◌, arith, eqb, ◌⊎◌, inl, inr, ⊎_elim}
-use Rattle.std.specs.Option.{unwrap_or}
-use Rattle.std.proofs.lemmas.Bool.{cases_eq, cases_lt}
-use Rattle.std.proofs.lemmas.Bool.Decides.{nat_tests}
+use Rattle.cal_policy.proofs.Common.{◌≡◌, ◌≢◌, ℕ, ◌+◌, ◌<◌, ◌≤◌, true, false, cond, Option, None, refl, ap, sym, ◌∙◌, arith, eqb, ◌⊎◌, inl, inr, ⊎_elim, unwrap_or, cases_eq, cases_lt, nat_tests}
 
 at_itself : {Y : Type 0} (k : ℕ) (a b : Y) → cond (eqb k k) a b ≡ a
 at_itself k a b = let e : eqb k k ≡ true = grind (arith, nat_tests) in rw e refl

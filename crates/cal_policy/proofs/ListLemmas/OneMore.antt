@@ -1,10 +1,5 @@
 -- One more member at the end.
-use Rattle.std.proofs.Common.{◌≡◌, ℕ, ◌+◌, ◌<◌, suc, zero, Bool, true, false, cond, List, [], ◌∷◌, ◌++◌, length, get_or, set, take, replicate, length-append, ◌≤◌, Option, Some, None, refl, ap, sym, ◌∙◌, arith, append_assoc, eqb}
-use Rattle.std.specs.List.{flat_map}
-use Rattle.std.specs.Option.{option_or, unwrap_or, option_map, is_some}
-use Rattle.std.proofs.lemmas.List.{append-nil}
-use Rattle.std.proofs.lemmas.Grind.{common_steps}
-use Rattle.cal_policy.specs.History.Lists.{last_after, last_of, each_after, each_of}
+use Rattle.cal_policy.proofs.Common.{◌≡◌, ℕ, ◌+◌, ◌<◌, suc, zero, Bool, true, false, cond, List, [], ◌∷◌, ◌++◌, length, get_or, set, take, replicate, length-append, ◌≤◌, Option, Some, None, refl, ap, sym, ◌∙◌, arith, append_assoc, eqb, flat_map, option_or, unwrap_or, option_map, is_some, append-nil, common_steps, last_after, last_of, each_after, each_of}
 
 pub or_none : {Y : Type 0} (o : Option Y) → o ≡ option_or o None
 or_none None = refl

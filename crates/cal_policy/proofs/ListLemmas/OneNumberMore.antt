@@ -1,9 +1,5 @@
 -- Counts and choices among the numbers below n, one number more.
-use Rattle.std.proofs.Common.{◌≡◌, ℕ, ◌+◌, ◌<◌, ◌≤◌, suc, zero, Bool, true, false, not, max, Option, Some, None, refl, ap, sym, ◌∙◌, cond, add-one, arith, ◌⊎◌, inl, inr, ⊎_elim}
-use Rattle.std.proofs.lemmas.Bool.{cases_lt}
-use Rattle.std.specs.Option.{is_some}
-use Rattle.cal_policy.specs.Pass.Choice.{count_below, greatest_below, best_below, better}
-use Rattle.cal_policy.specs.declared.pass.choice.Candidate.{Candidate}
+use Rattle.cal_policy.proofs.Common.{◌≡◌, ℕ, ◌+◌, ◌<◌, ◌≤◌, suc, zero, Bool, true, false, not, max, Option, Some, None, refl, ap, sym, ◌∙◌, cond, add-one, arith, ◌⊎◌, inl, inr, ⊎_elim, cases_lt, is_some, count_below, greatest_below, best_below, better, Candidate}
 
 pub count_more : (p : ℕ → Bool) (n : ℕ) → count_below p (n + 1) ≡ count_below p n + cond (p n) 1 0
 count_more p n = rw (add-one n) refl

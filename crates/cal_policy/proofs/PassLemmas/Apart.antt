@@ -1,27 +1,7 @@
 -- After an orderly history no core is banned while its sibling is.
-use Rattle.std.proofs.Common.{◌≡◌, ℕ, suc, zero, Bool, true, false, cond, not, ◌&&◌, List, [], ◌∷◌, ◌++◌, take, slice_get, IsTrue, Option, Some, None, refl, ap, sym, subst, ◌∙◌, ⊎_elim, arith, append_assoc, eqb, ltb}
-use Rattle.std.specs.Option.{is_some}
-use Rattle.std.proofs.lemmas.List.{append-nil}
-use Rattle.std.proofs.lemmas.Grind.{flat_map-append}
-use Rattle.std.proofs.lemmas.Bool.{and_parts, not-true}
-use Rattle.std.proofs.lemmas.Bool.Decides.{nat_tests}
-use Rattle.cal_machine.specs.Machine.{sibling_of}
-use Rattle.cal_machine.specs.Table.{Table}
-use Rattle.cal_machine.specs.TableTasks.{threads_of_table}
-use Rattle.cal_policy.specs.declared.history.action.Action.{Action}
-use Rattle.cal_policy.specs.declared.history.action.Action.TheVariants.{Free, Unban, Ban, Revoke, Cap, Grant}
-use Rattle.cal_policy.specs.declared.history.entry.PassEntry.{PassEntry}
-use Rattle.cal_policy.specs.declared.board.bans.BannedFor.{BannedFor}
-use Rattle.cal_policy.specs.History.Lists.{in_turn}
-use Rattle.cal_policy.specs.History.{actions_of, ban_of, is_banned}
-use Rattle.cal_policy.specs.Judgement.Orderly.{IsOrderly, IsOrderlyEntry, fits_state}
-use Rattle.cal_policy.specs.Setting.{Setting, so_far}
-use Rattle.cal_policy.specs.Pass.Frees.{free_at}
-use Rattle.cal_policy.specs.Pass.Bans.{NoPairBanned}
+use Rattle.cal_policy.proofs.Common.{◌≡◌, ℕ, suc, zero, Bool, true, false, cond, not, ◌&&◌, List, [], ◌∷◌, ◌++◌, take, slice_get, IsTrue, Option, Some, None, refl, ap, sym, subst, ◌∙◌, ⊎_elim, arith, append_assoc, eqb, ltb, is_some, append-nil, flat_map-append, and_parts, not-true, nat_tests, sibling_of, Table, threads_of_table, Action, Free, Unban, Ban, Revoke, Cap, Grant, PassEntry, BannedFor, in_turn, actions_of, ban_of, is_banned, IsOrderly, IsOrderlyEntry, fits_state, Setting, so_far, free_at, NoPairBanned, sibling_back, unwrap_if}
 use Rattle.cal_policy.proofs.HistoryLemmas.OneMore.{ban_push}
 use Rattle.cal_policy.proofs.PassLemmas.Pairs.{after_end, none_if_unbanned, so_far_more}
-use Rattle.cal_machine.proofs.Siblings.{sibling_back}
-use Rattle.cal_machine.proofs.Booleans.{unwrap_if}
 
 -- a sibling is another core, and its sibling is the core itself
 sibling_other : (c : ℕ) → eqb c (sibling_of c) ≡ false

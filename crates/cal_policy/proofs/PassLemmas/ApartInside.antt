@@ -1,15 +1,5 @@
 -- No core is banned while its sibling is, at each place inside each pass of a legal history.
-use Rattle.std.proofs.Common.{◌≡◌, ℕ, suc, zero, List, [], ◌∷◌, ◌++◌, take, Some, slice_get, IsTrue, refl, sym, subst, append_assoc, arith}
-use Rattle.std.proofs.lemmas.List.{append-nil}
-use Rattle.std.proofs.lemmas.Option.{slice_get_within}
-use Rattle.cal_machine.specs.Table.{Table, IsTable}
-use Rattle.cal_policy.specs.declared.history.action.Action.{Action}
-use Rattle.cal_policy.specs.declared.history.entry.PassEntry.{PassEntry}
-use Rattle.cal_policy.specs.History.{actions_of}
-use Rattle.cal_policy.specs.Setting.{setting_of, so_far}
-use Rattle.cal_policy.specs.Judgement.Orderly.{fits_state, FitInTurn}
-use Rattle.cal_policy.specs.Pass.Bans.{NoPairBanned}
-use Rattle.cal_policy.specs.Pass.{IsLegal}
+use Rattle.cal_policy.proofs.Common.{◌≡◌, ℕ, suc, zero, List, [], ◌∷◌, ◌++◌, take, Some, slice_get, IsTrue, refl, sym, subst, append_assoc, arith, append-nil, slice_get_within, Table, IsTable, Action, PassEntry, actions_of, setting_of, so_far, fits_state, FitInTurn, NoPairBanned, IsLegal}
 use Rattle.cal_policy.proofs.PassLemmas.Apart.{apart_push, orderly_apart}
 use Rattle.cal_policy.proofs.PassLemmas.Legality.{legal_upto}
 use Rattle.cal_policy.proofs.PassLemmas.LegalOrderly.{legal_orderly}

@@ -1,17 +1,5 @@
 -- What the bandwidth part looks for, one place more.
-use Rattle.std.proofs.Common.{◌≡◌, ℕ, ◌+◌, ◌-◌, ◌<◌, ◌≤◌, length, suc, zero, Bool, true, false, cond, List, [], ◌∷◌, Option, Some, None, refl, ap, subst, eqb, ◌∙◌, arith, add-one}
-use Rattle.std.specs.Option.{IfSome}
-use Rattle.std.proofs.lemmas.Bool.{lt-ltb, le-ltb, eqb-true}
-use Rattle.cal_machine.specs.Table.{Table}
-use Rattle.cal_policy.specs.declared.board.Board.{Board}
-use Rattle.cal_policy.specs.Board.Counts.{is_held_for}
-use Rattle.cal_policy.specs.Board.{holder_in}
-use Rattle.cal_policy.specs.Board.Losing.{HoldsCore}
-use Rattle.cal_policy.specs.declared.history.action.Action.{Action}
-use Rattle.cal_machine.specs.TableTasks.{is_latency_critical}
-use Rattle.cal_policy.specs.Pass.Choice.{sum_below, highest_below, lowest_below, first_or}
-use Rattle.cal_policy.specs.Setting.{Setting}
-use Rattle.cal_policy.specs.Pass.Bandwidth.{is_number, is_capped, core_to_lose, task_misses, victim_rank, victim_of, cut_of, rise_of, bandwidth_after}
+use Rattle.cal_policy.proofs.Common.{◌≡◌, ℕ, ◌+◌, ◌-◌, ◌<◌, ◌≤◌, length, suc, zero, Bool, true, false, cond, List, [], ◌∷◌, Option, Some, None, refl, ap, subst, eqb, ◌∙◌, arith, add-one, IfSome, lt-ltb, le-ltb, eqb-true, Table, Board, is_held_for, holder_in, HoldsCore, Action, is_latency_critical, sum_below, highest_below, lowest_below, first_or, Setting, is_number, is_capped, core_to_lose, task_misses, victim_rank, victim_of, cut_of, rise_of, bandwidth_after}
 
 pub sum_more : (f : ℕ → ℕ) (n sum next : ℕ) → sum ≡ sum_below f n → next ≡ f n → sum + next ≡ sum_below f (n + 1)
 sum_more f n sum next e g = rw (add-one n, e, g) refl

@@ -1,10 +1,6 @@
 -- That what is chosen is the best.
-use Rattle.std.proofs.Common.{◌≡◌, ℕ, ◌<◌, ◌⊎◌, Bool, true, false, cond, Option, Some, None, refl, ap, sym, ◌∙◌, arith, inl, inr, ⊎_elim, zero, suc}
+use Rattle.cal_policy.proofs.Common.{◌≡◌, ℕ, ◌<◌, ◌⊎◌, Bool, true, false, cond, Option, Some, None, refl, ap, sym, ◌∙◌, arith, inl, inr, ⊎_elim, zero, suc, MatchOption, cases_lt, cases_Bool, better, best_below, IsBest, Candidate}
 use Rattle.std.specs.Cmp.{IsStrictWeakOrder}
-use Rattle.std.specs.Option.{MatchOption}
-use Rattle.std.proofs.lemmas.Bool.{cases_lt, cases_Bool}
-use Rattle.cal_policy.specs.Pass.Choice.{better, best_below, IsBest}
-use Rattle.cal_policy.specs.declared.pass.choice.Candidate.{Candidate}
 
 -- the best, or that no number has a rank
 abbrev pub BestOrNone : {R : Type 0} → (R → R → Bool) → (ℕ → Option R) → ℕ → Option (Candidate R) → Type 0

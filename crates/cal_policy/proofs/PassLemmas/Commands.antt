@@ -1,23 +1,9 @@
 -- What the actions of the last pass of a history send, by a board that agrees with the history.
-use Rattle.std.proofs.Common.{◌≡◌, ℕ, ◌<◌, eqb, Bool, true, false, cond, List, [], ◌∷◌, ◌++◌, take, Option, Some, None, refl, sym, ap, ◌∙◌, arith}
-use Rattle.std.proofs.lemmas.Bool.{eqb-true, eq-eqb}
+use Rattle.cal_policy.proofs.Common.{◌≡◌, ℕ, ◌<◌, eqb, Bool, true, false, cond, List, [], ◌∷◌, ◌++◌, take, Option, Some, None, refl, sym, ap, ◌∙◌, arith, eqb-true, eq-eqb, option_map, Table, IsTable, threads_of_table, Action, Free, Unban, Ban, Revoke, Cap, Grant, Cause, PassEntry, Board, actions_of, last_placement, last_thread, command_to, addressed_to, sends, setting_of, so_far, EachAfter, NamesTable, granted_in, core_changed, kept_placement, Agrees}
 use Rattle.std.specs.List.{slice_get}
-use Rattle.std.specs.Option.{option_map}
-use Rattle.cal_machine.specs.Table.{Table, IsTable}
-use Rattle.cal_machine.specs.TableTasks.{threads_of_table}
 use Rattle.cal_machine.specs.declared.command.Command.{Command}
 use Rattle.cal_machine.specs.declared.command.Command.TheVariants.{Run, Park}
-use Rattle.cal_policy.specs.declared.history.action.Action.{Action}
-use Rattle.cal_policy.specs.declared.history.action.Action.TheVariants.{Free, Unban, Ban, Revoke, Cap, Grant}
-use Rattle.cal_policy.specs.declared.history.action.Cause.{Cause}
-use Rattle.cal_policy.specs.declared.history.entry.PassEntry.{PassEntry}
 use Rattle.cal_policy.specs.declared.board.holders.Placement as placements
-use Rattle.cal_policy.specs.declared.board.Board.{Board}
-use Rattle.cal_policy.specs.History.{actions_of, last_placement, last_thread, command_to, addressed_to, sends}
-use Rattle.cal_policy.specs.Setting.{setting_of, so_far}
-use Rattle.cal_policy.specs.Pass.Made.{EachAfter}
-use Rattle.cal_policy.specs.Board.{NamesTable, granted_in, core_changed, kept_placement}
-use Rattle.cal_policy.specs.State.{Agrees}
 use Rattle.cal_policy.specs.Book.{IsSentBy}
 use Rattle.cal_policy.proofs.ListLemmas.EachAfter.{each_at}
 use Rattle.cal_policy.proofs.PassLemmas.LegalOrderly.{FitsSteady}

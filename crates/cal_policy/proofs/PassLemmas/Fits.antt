@@ -1,40 +1,13 @@
 -- Each action that is made fits the state at its place, and leaves a steady one.
-use Rattle.std.proofs.Common.{◌≡◌, ℕ, ◌<◌, ◌≤◌, Bool, true, false, ◌&&◌, ◌||◌, not, cond, eqb, ltb, leb, nat_lt, List, [], ◌∷◌, ◌++◌, length, Option, Some, None, refl, sym, ap, ◌∙◌, arith, inl, inr, subst, append_assoc}
-use Rattle.std.proofs.lemmas.Bool.{lt-ltb, le-leb, and_parts, and_from, not-true, not_from_false}
-use Rattle.std.proofs.lemmas.Bool.Decides.{nat_tests}
-use Rattle.cal_machine.specs.Table.{Table, IsTable}
-use Rattle.cal_signal.specs.declared.record.Record.{Record}
-use Rattle.cal_machine.specs.Machine.{sibling_of}
-use Rattle.cal_machine.specs.TableTasks.{owner_of, thread_of, threads_of_table, limit_of, is_latency_critical, guaranteed_of}
-use Rattle.cal_policy.specs.declared.history.action.Action.{Action}
-use Rattle.cal_policy.specs.declared.history.action.Action.TheVariants.{Free, Unban, Ban, Revoke, Cap, Grant}
-use Rattle.cal_policy.specs.declared.history.action.Cause.{Cause}
+use Rattle.cal_policy.proofs.Common.{◌≡◌, ℕ, ◌<◌, ◌≤◌, Bool, true, false, ◌&&◌, ◌||◌, not, cond, eqb, ltb, leb, nat_lt, List, [], ◌∷◌, ◌++◌, length, Option, Some, None, refl, sym, ap, ◌∙◌, arith, inl, inr, subst, append_assoc, lt-ltb, le-leb, and_parts, and_from, not-true, not_from_false, nat_tests, Table, IsTable, Record, sibling_of, owner_of, thread_of, threads_of_table, limit_of, is_latency_critical, guaranteed_of, Action, Free, Unban, Ban, Revoke, Cap, Grant, Cause, BannedFor, Candidate, CoreClass, is_idle, comes_before, Holder, actions_of, holder_of, last_thread, is_banned, is_free, is_held, is_held_for, is_booked_for, held_by, booked_by, cores_of_thread, cap_of, is_over, Setting, so_far, kept_now, has_room, is_held_with_room, shows_left, too_long_on, may_ban_beside, may_be_emptied, ban_due, can_lose, victim_rank, is_capped, class_of, class_by, idle_class, preempt_class, is_thread_for, choice_of, thread_choice, thread_rank, thread_delay, fits_state, names_table, placement_of, IsMade, IsFreed, IsUnbanned, IsBanned, IsRevokedForBan, IsPreempted, IsCapCut, IsCapRise, IsGranted, IsCut, IsSteady, pairs, task_there, next_le, some_then, some_else}
 use Rattle.cal_policy.specs.declared.history.action.Cause.TheVariants as causes
-use Rattle.cal_policy.specs.declared.board.bans.BannedFor.{BannedFor}
-use Rattle.cal_policy.specs.declared.pass.choice.Candidate.{Candidate}
-use Rattle.cal_policy.specs.declared.history.core_class.CoreClass.{CoreClass}
-use Rattle.cal_policy.specs.History.CoreClasses.{is_idle, comes_before}
 use Rattle.cal_policy.specs.declared.history.core_class.CoreClass.TheVariants as classes
 use Rattle.cal_policy.specs.declared.board.holders.Placement as placements
-use Rattle.cal_policy.specs.declared.board.holders.Holder.{Holder}
 use Rattle.cal_policy.specs.declared.board.holders.Holder.TheVariants as holders
-use Rattle.cal_policy.specs.History.{actions_of, holder_of, last_thread, is_banned}
-use Rattle.cal_policy.specs.Board.Counts.{is_free, is_held, is_held_for, is_booked_for, held_by, booked_by, cores_of_thread, cap_of, is_over}
-use Rattle.cal_policy.specs.Setting.{Setting, so_far, kept_now, has_room, is_held_with_room}
-use Rattle.cal_policy.specs.Pass.Frees.{shows_left}
-use Rattle.cal_policy.specs.Pass.Bans.{too_long_on, may_ban_beside, may_be_emptied, ban_due}
-use Rattle.cal_policy.specs.Pass.Bandwidth.{can_lose, victim_rank, is_capped}
-use Rattle.cal_policy.specs.Pass.Grants.{class_of, class_by, idle_class, preempt_class, may_preempt, is_thread_for, choice_of, thread_choice, thread_rank, thread_delay}
-use Rattle.cal_policy.specs.Judgement.Orderly.{fits_state, names_table}
-use Rattle.cal_policy.specs.Board.{placement_of}
-use Rattle.cal_policy.specs.Pass.Made.{IsMade, IsFreed, IsUnbanned, IsBanned, IsRevokedForBan, IsPreempted, IsCapCut, IsCapRise, IsGranted, IsCut}
-use Rattle.cal_policy.specs.Pass.Steady.{IsSteady}
+use Rattle.cal_policy.specs.Pass.Grants.{may_preempt}
 use Rattle.cal_policy.proofs.ListLemmas.Counted.{count_le, highest_passes, lowest_passes, best_ranked}
 use Rattle.cal_policy.proofs.HistoryLemmas.OneMore.{holder_push}
 use Rattle.cal_policy.proofs.PassLemmas.Steady.{Shrinks_ban, Shrinks_unban, Shrinks_cap, Shrinks_free, Shrinks_revoke, Steady_shrinks, Steady_grant}
-use Rattle.cal_machine.proofs.Siblings.{pairs}
-use Rattle.cal_machine.proofs.ThreadNumbers.{task_there, next_le}
-use Rattle.cal_machine.proofs.Booleans.{some_then, some_else}
 
 -- the actions so far, with one more
 pub so_far_push : (s : Setting) (acts : List Action) (a : Action) → so_far s (acts ++ a ∷ []) ≡ so_far s acts ++ a ∷ []

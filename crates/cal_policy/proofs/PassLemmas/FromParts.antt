@@ -1,22 +1,6 @@
 -- A pass from its parts, and where it begins and ends.
-use Rattle.std.proofs.Common.{◌≡◌, List, [], ◌∷◌, ◌++◌, sym, ap, ◌∙◌, subst}
-use Rattle.std.proofs.lemmas.List.{append-nil}
-use Rattle.cal_policy.specs.declared.history.action.Action.{Action}
-use Rattle.cal_policy.specs.declared.history.entry.PassEntry.{PassEntry}
-use Rattle.cal_policy.specs.declared.history.look.Seen.{Seen}
-use Rattle.cal_policy.specs.declared.board.Board.{Board}
-use Rattle.cal_policy.specs.History.{actions_of, looks_of}
-use Rattle.cal_policy.specs.Setting.{Setting, so_far}
-use Rattle.cal_policy.specs.Pass.Frees.{frees}
-use Rattle.cal_policy.specs.Pass.Bans.{unbans, bans, NoPairBanned}
-use Rattle.cal_policy.specs.Pass.Bandwidth.{bandwidth_part}
+use Rattle.cal_policy.proofs.Common.{◌≡◌, List, [], ◌∷◌, ◌++◌, sym, ap, ◌∙◌, subst, append-nil, Action, PassEntry, Seen, Board, actions_of, looks_of, Setting, so_far, frees, unbans, bans, NoPairBanned, bandwidth_part, grants_of_kind, pass_of, followed, pass_by, Policy, HasGranted, KeepsBefore, IsStateAfter, Stands, Agrees, KeepingAgrees}
 use Rattle.cal_machine.specs.declared.task.Kind.TheVariants as kinds
-use Rattle.cal_policy.specs.Pass.Grants.{grants_of_kind}
-use Rattle.cal_policy.specs.Pass.{pass_of, followed}
-use Rattle.cal_policy.specs.Policies.{pass_by}
-use Rattle.cal_policy.specs.declared.policy.Policy.{Policy}
-use Rattle.cal_policy.specs.Board.{HasGranted, KeepsBefore}
-use Rattle.cal_policy.specs.State.{IsStateAfter, Stands, Agrees, KeepingAgrees}
 use Rattle.cal_policy.proofs.PassLemmas.Apart.{frees_apart}
 use Rattle.cal_policy.proofs.PassLemmas.Pairs.{so_far_more}
 use Rattle.cal_policy.proofs.BoardLemmas.Replayed.{actions_push, looks_push}

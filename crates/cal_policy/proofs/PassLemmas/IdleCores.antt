@@ -1,26 +1,7 @@
 -- The choice among the idle cores, each class looked for by itself.
-use Rattle.std.proofs.Common.{◌≡◌, ℕ, ◌<◌, ◌≤◌, ◌&&◌, not, Bool, true, false, cond, List, Option, Some, None, refl, ap, sym, subst, ◌∙◌, arith}
-use Rattle.std.proofs.lemmas.List.MinMax.{IsStrictWeakOrder-by_number}
-use Rattle.cal_machine.specs.Table.{Table}
-use Rattle.cal_machine.specs.CoreSet.{has}
-use Rattle.cal_machine.specs.Machine.{sibling_of}
-use Rattle.cal_policy.specs.declared.history.action.Action.{Action}
-use Rattle.cal_policy.specs.declared.board.holders.Holder.{Holder}
-use Rattle.cal_policy.specs.declared.board.holders.Holder.TheVariants.{Free, Held, Leaving}
-use Rattle.cal_policy.specs.declared.board.Board.{Board}
-use Rattle.cal_policy.specs.declared.pass.choice.Candidate.{Candidate}
-use Rattle.cal_policy.specs.declared.history.core_class.CoreClass.{CoreClass}
+use Rattle.cal_policy.proofs.Common.{◌≡◌, ℕ, ◌<◌, ◌≤◌, ◌&&◌, not, Bool, true, false, cond, List, Option, Some, None, refl, ap, sym, subst, ◌∙◌, arith, IsStrictWeakOrder-by_number, Table, has, sibling_of, Action, Holder, Held, Leaving, Board, Candidate, CoreClass, holder_of, last_thread, is_banned, class_number, comes_before, is_free, is_held, is_held_for, Opens, is_idle_by, holder_in, Agrees, Stands, Setting, so_far, best_below, lowest_below, class_among, is_beside_own, was_own_last, class_of, class_by, idle_class, is_thread_for}
+use Rattle.cal_policy.specs.declared.board.holders.Holder.TheVariants.{Free}
 use Rattle.cal_policy.specs.declared.history.core_class.CoreClass.TheVariants as classes
-use Rattle.cal_policy.specs.History.{holder_of, last_thread, is_banned}
-use Rattle.cal_policy.specs.History.CoreClasses.{class_number, comes_before}
-use Rattle.cal_policy.specs.Board.Counts.{is_free, is_held, is_held_for}
-use Rattle.cal_policy.specs.Board.OpenCores.{Opens, is_idle_by}
-use Rattle.cal_policy.specs.Board.{holder_in}
-use Rattle.cal_policy.specs.State.{Agrees, Stands}
-use Rattle.cal_policy.specs.Setting.{Setting, so_far}
-use Rattle.cal_policy.specs.Pass.Choice.{best_below, lowest_below}
-use Rattle.cal_policy.specs.Pass.Among.{class_among, is_beside_own, was_own_last}
-use Rattle.cal_policy.specs.Pass.Grants.{class_of, class_by, idle_class, is_thread_for}
 use Rattle.cal_policy.proofs.BoardLemmas.AsKept.{held_as_kept}
 use Rattle.cal_policy.proofs.BoardLemmas.StateKept.{free_kept}
 use Rattle.cal_policy.proofs.ListLemmas.Counted.{lowest_passes, lowest_first, lowest_missing}

@@ -1,18 +1,6 @@
 -- A legal history is orderly, and steady at each point.
-use Rattle.std.proofs.Common.{true, ◌≡◌, ℕ, ◌+◌, ◌<◌, ◌≤◌, zero, suc, List, [], ◌∷◌, ◌++◌, length, take, get_or, Some, sym, ap, ◌∙◌, arith, subst, append_assoc, ⊎_elim}
+use Rattle.cal_policy.proofs.Common.{true, ◌≡◌, ℕ, ◌+◌, ◌<◌, ◌≤◌, zero, suc, List, [], ◌∷◌, ◌++◌, length, take, get_or, Some, sym, ap, ◌∙◌, arith, subst, append_assoc, ⊎_elim, take_more, append-nil, flat_map-append, slice_get_cases, slice_get_within, get_or_from_slice_get, Table, IsTable, Action, PassEntry, actions_of, Setting, setting_of, so_far, fits_state, IsOrderlyEntry, IsOrderly, pass_of, IsPass, IsLegal, EachAfter, IsMade, IsSteady, IsSound}
 use Rattle.std.specs.List.{slice_get}
-use Rattle.std.proofs.lemmas.List.{take_more, append-nil}
-use Rattle.std.proofs.lemmas.Grind.{flat_map-append}
-use Rattle.std.proofs.lemmas.Option.{slice_get_cases, slice_get_within, get_or_from_slice_get}
-use Rattle.cal_machine.specs.Table.{Table, IsTable}
-use Rattle.cal_policy.specs.declared.history.action.Action.{Action}
-use Rattle.cal_policy.specs.declared.history.entry.PassEntry.{PassEntry}
-use Rattle.cal_policy.specs.History.{actions_of}
-use Rattle.cal_policy.specs.Setting.{Setting, setting_of, so_far}
-use Rattle.cal_policy.specs.Judgement.Orderly.{fits_state, IsOrderlyEntry, IsOrderly}
-use Rattle.cal_policy.specs.Pass.{pass_of, IsPass, IsLegal}
-use Rattle.cal_policy.specs.Pass.Made.{EachAfter, IsMade}
-use Rattle.cal_policy.specs.Pass.Steady.{IsSteady, IsSound}
 use Rattle.cal_policy.proofs.ListLemmas.EachAfter.{each_at}
 use Rattle.cal_policy.proofs.PassLemmas.Made.{pass_made}
 use Rattle.cal_policy.proofs.PassLemmas.Steady.{Steady_start}

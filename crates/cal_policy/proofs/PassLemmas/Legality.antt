@@ -1,13 +1,5 @@
 -- Legal histories, pass by pass.
-use Rattle.std.proofs.Common.{◌≡◌, ℕ, ◌<◌, ◌≤◌, Bool, true, false, nat_lt, List, [], ◌∷◌, ◌++◌, length, get_or, take, Some, slice_get, inl, inr, sym, subst, ◌∙◌, arith, refl, length-append}
-use Rattle.std.proofs.lemmas.List.{length-take-le, get_or-take, take-take, take-append-le, take_all}
-use Rattle.std.proofs.lemmas.Option.{slice_get_within, slice_get_read, get_or_from_slice_get}
-use Rattle.std.proofs.Math.Seq.{take-append_seam}
-use Rattle.cal_machine.proofs.Places.{slice_get_at}
-use Rattle.cal_machine.proofs.Last.{some_same, slice_get-last, slice_get-other, last_or_before}
-use Rattle.cal_machine.specs.Table.{Table}
-use Rattle.cal_policy.specs.declared.history.entry.PassEntry.{PassEntry}
-use Rattle.cal_policy.specs.Pass.{IsPass, IsLegal}
+use Rattle.cal_policy.proofs.Common.{◌≡◌, ℕ, ◌<◌, ◌≤◌, Bool, true, false, nat_lt, List, [], ◌∷◌, ◌++◌, length, get_or, take, Some, slice_get, inl, inr, sym, subst, ◌∙◌, arith, refl, length-append, length-take-le, get_or-take, take-take, take-append-le, take_all, slice_get_within, slice_get_read, get_or_from_slice_get, take-append_seam, slice_get_at, some_same, slice_get-last, slice_get-other, last_or_before, Table, PassEntry, IsPass, IsLegal}
 use Rattle.cal_policy.specs.Verdict.{IsFirstIllegal}
 
 -- where each of the first n entries is a pass after those before it, they are a legal history

@@ -1,28 +1,8 @@
 -- How many actions a pass of a legal history has at most.
-use Rattle.std.proofs.Common.{◌≡◌, ℕ, zero, suc, ◌+◌, ◌*◌, ◌/◌, ◌≤◌, ◌&&◌, nat_lt, Bool, true, false, List, [], ◌∷◌, ◌++◌, length, take, Option, Some, None, slice_get, if◌then◌else◌, refl, sym, subst, arith, append_assoc, append-nil, length-append, suc-mul}
-use Rattle.std.proofs.lemmas.Option.{slice_get_within}
-use Rattle.cal_machine.specs.Machine.{sibling_of}
-use Rattle.cal_machine.specs.Table.{Table, IsTable}
-use Rattle.cal_policy.specs.declared.board.bans.BannedFor.{BannedFor}
-use Rattle.cal_policy.specs.declared.pass.choice.Candidate.{Candidate}
-use Rattle.cal_policy.specs.declared.history.core_class.CoreClass.{CoreClass}
-use Rattle.cal_policy.specs.History.CoreClasses.{class_number, is_idle}
-use Rattle.cal_policy.specs.declared.history.action.Action.{Action}
-use Rattle.cal_policy.specs.declared.history.action.Action.TheVariants.{Free, Unban, Ban, Revoke, Grant}
+use Rattle.cal_policy.proofs.Common.{◌≡◌, ℕ, zero, suc, ◌+◌, ◌*◌, ◌/◌, ◌≤◌, ◌&&◌, nat_lt, Bool, true, false, List, [], ◌∷◌, ◌++◌, length, take, Option, Some, None, slice_get, if◌then◌else◌, refl, sym, subst, arith, append_assoc, length-append, suc-mul, slice_get_within, sibling_of, Table, IsTable, BannedFor, Candidate, CoreClass, class_number, is_idle, Action, Free, Unban, Ban, Revoke, Grant, PassEntry, bandwidth_part, core_to_lose, victim_of, is_capped, cut_at, cut_of, rise_of, NoPairBanned, still_shows, unban_for, unban_at, unbans, ban_due, ban_for, bans_at, bans, lowest_below, is_held, shows_left, free_at, frees, is_congested, may_book, thread_choice, choice_of, grant_of, grant_at, grant_of_kind_at, grants_of_kind, actions_of, holder_of, ban_of, in_turn, in_pair, pass_of, IsLegal, Setting, setting_of, so_far, kept_now, is_latency_critical, thread_of}
+use Rattle.std.proofs.Common.{append-nil}
 use Rattle.cal_policy.specs.declared.history.action.Cause.TheVariants as causes
-use Rattle.cal_policy.specs.declared.history.entry.PassEntry.{PassEntry}
-use Rattle.cal_policy.specs.Pass.Bandwidth.{bandwidth_part, core_to_lose, victim_of, is_capped, cut_at, cut_of, rise_of}
-use Rattle.cal_policy.specs.Pass.Bans.{NoPairBanned, still_shows, unban_for, unban_at, unbans, ban_due, ban_for, bans_at, bans}
-use Rattle.cal_policy.specs.Pass.Choice.{lowest_below}
-use Rattle.cal_policy.specs.Board.Counts.{is_held}
-use Rattle.cal_policy.specs.Pass.Frees.{shows_left, free_at, frees}
 use Rattle.cal_machine.specs.declared.task.Kind.TheVariants as kinds
-use Rattle.cal_policy.specs.Pass.Grants.{is_congested, may_book, thread_choice, choice_of, grant_of, grant_at, grant_of_kind_at, grants_of_kind}
-use Rattle.cal_policy.specs.History.{actions_of, holder_of, ban_of}
-use Rattle.cal_policy.specs.History.Lists.{in_turn, in_pair}
-use Rattle.cal_policy.specs.Pass.{pass_of, IsLegal}
-use Rattle.cal_policy.specs.Setting.{Setting, setting_of, so_far, kept_now}
-use Rattle.cal_machine.specs.TableTasks.{is_latency_critical, thread_of}
 use Rattle.cal_policy.proofs.PassLemmas.Apart.{orderly_apart, frees_apart}
 use Rattle.cal_policy.proofs.PassLemmas.LegalOrderly.{legal_orderly}
 use Rattle.cal_policy.proofs.PassLemmas.Legality.{legal_upto}

@@ -1,27 +1,8 @@
 -- Each action of a pass is made at its own place.
-use Rattle.std.proofs.Common.{◌≡◌, ℕ, ◌<◌, Bool, true, false, ◌&&◌, nat_lt, List, [], ◌∷◌, ◌++◌, length, Option, Some, None, inl, inr, refl, if◌then◌else◌}
-use Rattle.cal_machine.specs.Machine.{sibling_of}
-use Rattle.cal_machine.specs.TableTasks.{is_latency_critical, thread_of}
-use Rattle.cal_policy.specs.declared.history.action.Action.{Action}
-use Rattle.cal_policy.specs.declared.history.action.Action.TheVariants.{Free, Unban, Ban, Revoke, Grant}
+use Rattle.cal_policy.proofs.Common.{◌≡◌, ℕ, ◌<◌, Bool, true, false, ◌&&◌, nat_lt, List, [], ◌∷◌, ◌++◌, length, Option, Some, None, inl, inr, refl, if◌then◌else◌, sibling_of, is_latency_critical, thread_of, Action, Free, Unban, Ban, Revoke, Grant, BannedFor, Candidate, CoreClass, class_number, is_idle, holder_of, ban_of, is_held, lowest_below, Setting, so_far, kept_now, shows_left, free_at, frees, still_shows, unban_for, unban_at, unbans, ban_due, ban_for, bans_at, bans, victim_of, core_to_lose, cut_at, cut_of, rise_of, is_capped, bandwidth_part, is_congested, may_book, thread_choice, choice_of, grant_of, grant_at, grant_of_kind_at, grants_of_kind, pass_of, EachAfter, IsMade, IsCut, IsChosen, and_parts}
 use Rattle.cal_policy.specs.declared.history.action.Cause.TheVariants as causes
-use Rattle.cal_policy.specs.declared.board.bans.BannedFor.{BannedFor}
-use Rattle.cal_policy.specs.declared.pass.choice.Candidate.{Candidate}
-use Rattle.cal_policy.specs.declared.history.core_class.CoreClass.{CoreClass}
-use Rattle.cal_policy.specs.History.CoreClasses.{class_number, is_idle}
-use Rattle.cal_policy.specs.History.{holder_of, ban_of}
-use Rattle.cal_policy.specs.Board.Counts.{is_held}
-use Rattle.cal_policy.specs.Pass.Choice.{lowest_below}
-use Rattle.cal_policy.specs.Setting.{Setting, so_far, kept_now}
-use Rattle.cal_policy.specs.Pass.Frees.{shows_left, free_at, frees}
-use Rattle.cal_policy.specs.Pass.Bans.{still_shows, unban_for, unban_at, unbans, ban_due, ban_for, bans_at, bans}
-use Rattle.cal_policy.specs.Pass.Bandwidth.{victim_of, core_to_lose, cut_at, cut_of, rise_of, is_capped, bandwidth_part}
 use Rattle.cal_machine.specs.declared.task.Kind.TheVariants as kinds
-use Rattle.cal_policy.specs.Pass.Grants.{is_congested, may_book, thread_choice, choice_of, grant_of, grant_at, grant_of_kind_at, grants_of_kind}
-use Rattle.cal_policy.specs.Pass.{pass_of}
-use Rattle.cal_policy.specs.Pass.Made.{EachAfter, IsMade, IsCut, IsChosen}
 use Rattle.cal_policy.proofs.ListLemmas.EachAfter.{each_append, each_in_turn}
-use Rattle.std.proofs.lemmas.Bool.{and_parts}
 
 -- what holds of all members where the test holds holds of all where nothing stands otherwise
 each_if : {X : Type 0} (P : List X → X → Type 0) (before : List X) (b : Bool) (xs : List X) → (b ≡ true → EachAfter P before xs) → EachAfter P before (if b then xs else [])

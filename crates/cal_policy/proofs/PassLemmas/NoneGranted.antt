@@ -1,16 +1,5 @@
 -- Where no thread waits no core is granted, and none revoked for a task.
-use Rattle.std.proofs.Common.{◌≡◌, ℕ, ◌<◌, ◌≤◌, ◌++◌, List, length, false, refl, sym, arith}
-use Rattle.std.proofs.lemmas.List.{append-nil}
-use Rattle.cal_machine.proofs.ThreadNumbers.{next_le}
-use Rattle.cal_machine.specs.TableTasks.{threads_of_table}
-use Rattle.cal_machine.specs.ThreadSet.{has_thread}
-use Rattle.cal_machine.specs.declared.task.Kind.{Kind}
-use Rattle.cal_policy.specs.declared.board.Board.{Board}
-use Rattle.cal_policy.specs.declared.history.action.Action.{Action}
-use Rattle.cal_policy.specs.Board.KeepingSets.{KeepsSets}
-use Rattle.cal_policy.specs.Pass.Grants.{grant_of_kind_at, grants_of_kind}
-use Rattle.cal_policy.specs.Setting.{Setting}
-use Rattle.cal_policy.specs.State.{Stands}
+use Rattle.cal_policy.proofs.Common.{◌≡◌, ℕ, ◌<◌, ◌≤◌, ◌++◌, List, length, false, sym, arith, append-nil, next_le, threads_of_table, has_thread, Kind, Board, Action, KeepsSets, grant_of_kind_at, grants_of_kind, Setting, Stands}
 use Rattle.cal_policy.proofs.PassLemmas.NothingDue.{none_waits}
 use Rattle.cal_policy.proofs.PassLemmas.PartSoFar.{Reached_skip}
 

@@ -1,24 +1,7 @@
 -- Where no core is idle and no task may lose one, no task is given any.
-use Rattle.std.proofs.Common.{◌≡◌, ℕ, ◌<◌, ◌≤◌, ◌&&◌, Bool, true, false, not, cond, eqb, nat_lt, List, length, [], Option, Some, None, refl, ap, sym, ◌∙◌, arith}
-use Rattle.std.proofs.lemmas.Bool.Decides.{nat_tests}
-use Rattle.std.specs.Option.{is_some, option_or}
-use Rattle.cal_machine.specs.Table.{Table}
-use Rattle.cal_machine.specs.CoreSet.{has}
-use Rattle.cal_machine.specs.TableTasks.{is_latency_critical, guaranteed_of}
-use Rattle.cal_machine.specs.declared.task.Kind.{Kind}
+use Rattle.cal_policy.proofs.Common.{◌≡◌, ℕ, ◌<◌, ◌≤◌, ◌&&◌, Bool, true, false, not, cond, eqb, nat_lt, List, length, [], Option, Some, None, refl, ap, sym, ◌∙◌, arith, nat_tests, is_some, option_or, Table, has, is_latency_critical, guaranteed_of, Kind, Action, Candidate, Board, comes_before, held_by, booked_by, IsReady, Stands, secure_of, Setting, so_far, best_below, class_among, preempt_class, class_of, choice_of, grant_of, grant_at, grant_of_kind_at, thread_choice, is_congested, may_book}
 use Rattle.cal_machine.specs.declared.task.Kind.TheVariants as kinds
-use Rattle.cal_policy.specs.declared.history.action.Action.{Action}
 use Rattle.cal_policy.specs.declared.history.core_class.CoreClass.TheVariants as classes
-use Rattle.cal_policy.specs.declared.pass.choice.Candidate.{Candidate}
-use Rattle.cal_policy.specs.declared.board.Board.{Board}
-use Rattle.cal_policy.specs.History.CoreClasses.{comes_before}
-use Rattle.cal_policy.specs.Board.Counts.{held_by, booked_by}
-use Rattle.cal_policy.specs.State.{IsReady, Stands}
-use Rattle.cal_policy.specs.Board.Losing.{secure_of}
-use Rattle.cal_policy.specs.Setting.{Setting, so_far}
-use Rattle.cal_policy.specs.Pass.Choice.{best_below}
-use Rattle.cal_policy.specs.Pass.Among.{class_among}
-use Rattle.cal_policy.specs.Pass.Grants.{preempt_class, class_of, choice_of, grant_of, grant_at, grant_of_kind_at, thread_choice, is_congested, may_book}
 use Rattle.cal_policy.proofs.BoardLemmas.TwoSets.{best_none, choice_joins, idle_choice}
 use Rattle.cal_policy.proofs.PassLemmas.Preempting.{none_preempted}
 

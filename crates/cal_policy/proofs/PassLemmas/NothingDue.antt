@@ -1,48 +1,12 @@
 -- Cores that a part of a pass goes past, since nothing is due for them.
-use Rattle.std.proofs.Common.{◌≡◌, ℕ, zero, suc, ◌+◌, ◌-◌, ◌*◌, ◌<◌, ◌≤◌, Bool, true, false, not, ◌&&◌, ◌||◌, nat_lt, nat_le, max, cond, eqb, List, length, [], ◌∷◌, ◌++◌, Option, Some, None, refl, ap, sym, subst, ◌∙◌, arith, ⊎_elim}
-use Rattle.std.proofs.lemmas.Bool.{cases_lt}
-use Rattle.std.proofs.lemmas.Bool.Decides.{nat_tests}
-use Rattle.cal_machine.specs.Table.{Table}
-use Rattle.std.proofs.lemmas.List.{append-nil}
-use Rattle.std.specs.Option.{IfSome, is_some}
-use Rattle.cal_machine.proofs.ThreadNumbers.{task_in, first_next}
-use Rattle.cal_machine.specs.declared.task.Kind.{Kind}
+use Rattle.cal_policy.proofs.Common.{◌≡◌, ℕ, zero, suc, ◌+◌, ◌-◌, ◌*◌, ◌<◌, ◌≤◌, Bool, true, false, not, ◌&&◌, ◌||◌, nat_lt, nat_le, max, cond, eqb, List, length, [], ◌∷◌, ◌++◌, Option, Some, None, refl, ap, sym, subst, ◌∙◌, arith, ⊎_elim, cases_lt, nat_tests, Table, append-nil, IfSome, is_some, task_in, first_next, Kind, Task, owner_of, threads_of_table, thread_of, limit_of, delay_of, is_latency_critical, has_room, Setting, so_far, kept_now, Record, has, Action, BannedFor, Holder, Held, Leaving, Board, in_pair, holder_of, ban_of, is_free, is_held, is_over, sibling_of, free_at, has_left, shows_left, unban_at, unban_for, bans_at, ban_for, ban_due, may_ban_beside, may_be_emptied, too_long_on, holder_in, kept_holder, placement_of, IsReady, Stands, is_alone_by, NoneOver, cores_to_ban, Sorts, KeepsSets, kept_in, shows_waiting, has_thread, IsShownOn, record_delay, thread_delay, waited, task_delay, is_congested, grant_at, grant_of_kind_at, first_thread, task_at, greatest_below, and-false}
 use Rattle.cal_machine.specs.declared.task.Kind.TheVariants as kinds
-use Rattle.cal_machine.specs.declared.task.Task.{Task}
-use Rattle.cal_machine.specs.TableTasks.{owner_of, threads_of_table}
-use Rattle.cal_policy.specs.Setting.{has_room}
 use Rattle.cal_policy.proofs.BoardLemmas.StateKept.{held_kept}
 use Rattle.cal_policy.proofs.PassLemmas.Pairs.{beside_lower, beside_upper}
-use Rattle.cal_signal.specs.declared.record.Record.{Record}
-use Rattle.cal_machine.specs.CoreSet.{has}
-use Rattle.cal_policy.specs.declared.history.action.Action.{Action}
 use Rattle.cal_policy.specs.declared.history.action.Action.TheVariants as actions
-use Rattle.cal_policy.specs.declared.board.bans.BannedFor.{BannedFor}
-use Rattle.cal_policy.specs.declared.board.holders.Holder.{Holder}
-use Rattle.cal_policy.specs.declared.board.holders.Holder.TheVariants.{Free, Held, Leaving}
-use Rattle.cal_policy.specs.declared.board.Board.{Board}
-use Rattle.cal_policy.specs.History.Lists.{in_pair}
-use Rattle.cal_policy.specs.History.{holder_of, ban_of}
-use Rattle.cal_policy.specs.Board.Counts.{is_free, is_held, is_over}
-use Rattle.cal_machine.specs.Machine.{sibling_of}
-use Rattle.cal_policy.specs.Setting.{Setting, so_far, kept_now}
-use Rattle.cal_policy.specs.Pass.Frees.{free_at, has_left, shows_left}
-use Rattle.cal_policy.specs.Pass.Bans.{unban_at, unban_for, bans_at, ban_for, ban_due, may_ban_beside, may_be_emptied, too_long_on}
-use Rattle.cal_policy.specs.Board.{holder_in, kept_holder, placement_of}
-use Rattle.cal_policy.specs.State.{IsReady, Stands}
-use Rattle.cal_policy.specs.Board.OpenCores.{is_alone_by}
-use Rattle.cal_policy.specs.Pass.ToBan.{NoneOver, cores_to_ban}
-use Rattle.cal_policy.specs.Board.CoreSets.{Sorts}
-use Rattle.cal_policy.specs.Board.KeepingSets.{KeepsSets, kept_in, shows_waiting}
-use Rattle.cal_machine.specs.ThreadSet.{has_thread}
-use Rattle.cal_policy.specs.Board.Unshown.{IsShownOn}
-use Rattle.cal_policy.specs.Pass.Grants.{record_delay, thread_delay, waited, task_delay, is_congested, grant_at, grant_of_kind_at}
-use Rattle.cal_machine.specs.Tasks.{first_thread, task_at}
-use Rattle.cal_machine.specs.TableTasks.{thread_of, limit_of, delay_of, is_latency_critical}
-use Rattle.cal_policy.specs.Pass.Choice.{greatest_below}
+use Rattle.cal_policy.specs.declared.board.holders.Holder.TheVariants.{Free}
 use Rattle.cal_policy.proofs.BoardLemmas.TwoSets.{in_taken}
 use Rattle.cal_policy.proofs.ListLemmas.OneNumberMore.{greatest_past}
-use Rattle.std.proofs.Math.Bool.{and-false}
 
 -- a thread that is shown on its core has not left it
 shown_stays : (rec : Record) (n c : ℕ) → rec.running ≡ c + 1 → has_left rec n ≡ false

@@ -1,23 +1,8 @@
 -- A part that goes over the cores pair by pair, and bans of cores beside each other.
-use Rattle.std.proofs.Common.{◌≡◌, ℕ, ◌+◌, ◌*◌, suc, zero, Bool, true, false, cond, List, [], ◌∷◌, ◌++◌, Option, Some, None, refl, ap, sym, ◌∙◌, arith, append_assoc, eqb, ◌⊎◌, inl, inr, ⊎_elim}
-use Rattle.std.specs.Option.{is_some}
-use Rattle.std.proofs.lemmas.List.{append-nil}
-use Rattle.std.proofs.lemmas.Bool.Decides.{nat_tests}
-use Rattle.cal_signal.specs.declared.record.Record.{Record}
-use Rattle.cal_machine.specs.Machine.{sibling_of}
-use Rattle.cal_policy.specs.declared.history.action.Action.{Action}
-use Rattle.cal_policy.specs.declared.history.action.Action.TheVariants.{Unban, Ban, Revoke}
-use Rattle.cal_policy.specs.declared.history.action.Cause.{Cause}
+use Rattle.cal_policy.proofs.Common.{◌≡◌, ℕ, ◌+◌, ◌*◌, suc, zero, Bool, true, false, cond, List, [], ◌∷◌, ◌++◌, Option, Some, None, refl, ap, sym, ◌∙◌, arith, append_assoc, eqb, ◌⊎◌, inl, inr, ⊎_elim, is_some, append-nil, nat_tests, Record, sibling_of, Action, Unban, Ban, Revoke, Cause, BannedFor, in_turn, in_pair, holder_of, ban_of, is_banned, is_held, Setting, so_far, kept_now, NoPairBanned, still_shows, unban_at, unban_for, ban_for, ban_due, bans_at, unwrap_if}
 use Rattle.cal_policy.specs.declared.history.action.Cause.TheVariants as causes
-use Rattle.cal_policy.specs.declared.board.bans.BannedFor.{BannedFor}
-use Rattle.cal_policy.specs.History.Lists.{in_turn, in_pair}
-use Rattle.cal_policy.specs.History.{holder_of, ban_of, is_banned}
-use Rattle.cal_policy.specs.Board.Counts.{is_held}
-use Rattle.cal_policy.specs.Setting.{Setting, so_far, kept_now}
-use Rattle.cal_policy.specs.Pass.Bans.{NoPairBanned, still_shows, unban_at, unban_for, ban_for, ban_due, bans_at}
 use Rattle.cal_policy.proofs.HistoryLemmas.OneMore.{ban_push}
 use Rattle.cal_policy.proofs.PassLemmas.PartSoFar.{in_turn_more}
-use Rattle.cal_machine.proofs.Booleans.{unwrap_if}
 
 -- two by two is one by one
 pub in_turn_pairs : {X : Type 0} (f : List X → ℕ → List X) (before : List X) (n : ℕ) →

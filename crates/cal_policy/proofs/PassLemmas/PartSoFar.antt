@@ -1,12 +1,5 @@
 -- Where a part of a pass has come.
-use Rattle.std.proofs.Common.{◌≡◌, ℕ, ◌+◌, ◌<◌, ◌≤◌, zero, suc, List, [], ◌++◌, ap, sym, ◌∙◌, refl, append_assoc, add-one, arith, ⊎_elim}
-use Rattle.std.proofs.lemmas.Bool.{cases_lt}
-use Rattle.std.proofs.lemmas.List.{append-nil}
-use Rattle.cal_policy.specs.declared.history.action.Action.{Action}
-use Rattle.cal_policy.specs.declared.board.Board.{Board}
-use Rattle.cal_policy.specs.History.Lists.{in_turn}
-use Rattle.cal_policy.specs.Setting.{Setting}
-use Rattle.cal_policy.specs.State.{Stands}
+use Rattle.cal_policy.proofs.Common.{◌≡◌, ℕ, ◌+◌, ◌<◌, ◌≤◌, zero, suc, List, [], ◌++◌, ap, sym, ◌∙◌, refl, append_assoc, add-one, arith, ⊎_elim, cases_lt, append-nil, Action, Board, in_turn, Setting, Stands}
 
 pub in_turn_more : {X : Type 0} (f : List X → ℕ → List X) (before : List X) (n : ℕ) →
     in_turn f before (n + 1) ≡ in_turn f before n ++ f (before ++ in_turn f before n) n

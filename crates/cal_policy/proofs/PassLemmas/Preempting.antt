@@ -1,27 +1,9 @@
 -- Where no task may be preempted for another, no core that is taken has a class for that one.
-use Rattle.std.proofs.Common.{◌≡◌, ℕ, ◌<◌, ◌≤◌, ◌&&◌, Bool, true, false, not, cond, nat_lt, List, length, Option, Some, None, refl, ap, ◌∙◌, arith}
-use Rattle.std.proofs.lemmas.Bool.Decides.{nat_tests}
-use Rattle.std.specs.Option.{IfSome, is_some}
-use Rattle.cal_machine.specs.Table.{Table}
-use Rattle.cal_machine.proofs.ThreadNumbers.{task_in}
-use Rattle.cal_policy.specs.declared.history.action.Action.{Action}
-use Rattle.cal_policy.specs.declared.history.core_class.CoreClass.{CoreClass}
-use Rattle.cal_policy.specs.History.CoreClasses.{comes_before}
-use Rattle.cal_policy.specs.declared.board.holders.Holder.{Holder}
-use Rattle.cal_policy.specs.declared.board.holders.Holder.TheVariants.{Free, Held, Leaving}
-use Rattle.cal_policy.specs.declared.board.Board.{Board}
-use Rattle.cal_machine.specs.TableTasks.{owner_of, threads_of_table}
-use Rattle.cal_policy.specs.History.{holder_of}
-use Rattle.cal_policy.specs.Board.Counts.{is_free, is_held_for, held_by}
-use Rattle.cal_policy.specs.Pass.Choice.{best_below}
-use Rattle.cal_policy.specs.Setting.{Setting, so_far}
-use Rattle.cal_policy.specs.Pass.Grants.{class_of, class_by, preempt_class, may_preempt}
-use Rattle.cal_policy.specs.Pass.Among.{class_among}
-use Rattle.cal_policy.specs.Board.{kept_holder, placement_of}
-use Rattle.cal_policy.specs.State.{IsReady, Stands}
+use Rattle.cal_policy.proofs.Common.{◌≡◌, ℕ, ◌<◌, ◌≤◌, ◌&&◌, Bool, true, false, not, cond, nat_lt, List, length, Option, Some, None, refl, ap, ◌∙◌, arith, nat_tests, IfSome, is_some, Table, task_in, Action, CoreClass, comes_before, Holder, Held, Leaving, Board, owner_of, threads_of_table, holder_of, is_free, is_held_for, held_by, best_below, Setting, so_far, class_of, class_by, preempt_class, class_among, kept_holder, placement_of, IsReady, Stands, eq-eqb}
+use Rattle.cal_policy.specs.declared.board.holders.Holder.TheVariants.{Free}
+use Rattle.cal_policy.specs.Pass.Grants.{may_preempt}
 use Rattle.cal_policy.proofs.BoardLemmas.StateKept.{some_counted}
 use Rattle.cal_policy.proofs.BoardLemmas.TwoSets.{best_none, in_taken}
-use Rattle.std.proofs.lemmas.Bool.{eq-eqb}
 
 -- no task may be preempted for task t
 abbrev pub NoneMayBePreempted : Table → List Action → ℕ → Type 0

@@ -1,41 +1,14 @@
 -- What a pass revokes it grants to nobody any more: after its frees it frees no core, and a core
 -- that is being left is not granted.
-use Rattle.std.proofs.Common.{◌≡◌, ℕ, ◌<◌, suc, zero, Bool, true, false, ◌&&◌, cond, eqb, nat_lt, List, [], ◌∷◌, ◌++◌, length, take, Option, Some, None, refl, sym, ap, subst, ◌∙◌, append_assoc, arith}
+use Rattle.cal_policy.proofs.Common.{◌≡◌, ℕ, ◌<◌, suc, zero, Bool, true, false, ◌&&◌, cond, eqb, nat_lt, List, [], ◌∷◌, ◌++◌, length, take, Option, Some, None, refl, sym, ap, subst, ◌∙◌, append_assoc, arith, append-nil, nat_tests, sibling_of, Table, is_latency_critical, thread_of, threads_of_table, Action, Free, Unban, Ban, Revoke, Cap, Grant, Cause, BannedFor, Candidate, CoreClass, class_number, is_idle, Holder, in_turn, holder_of, last_placement, ban_of, is_held, is_free, lowest_below, Setting, so_far, kept_now, shows_left, free_at, frees, still_shows, unban_for, unban_at, unbans, ban_due, ban_for, bans_at, bans, victim_of, core_to_lose, cut_at, cut_of, rise_of, is_capped, bandwidth_part, is_congested, may_book, thread_choice, choice_of, grant_of, grant_at, grant_of_kind_at, grants_of_kind, pass_of, placement_of, EachAfter, fits_state, and_parts}
 use Rattle.std.specs.List.{slice_get}
-use Rattle.std.proofs.lemmas.List.{append-nil}
-use Rattle.std.proofs.lemmas.Bool.Decides.{nat_tests}
-use Rattle.cal_machine.specs.Machine.{sibling_of}
-use Rattle.cal_machine.specs.Table.{Table}
-use Rattle.cal_machine.specs.TableTasks.{is_latency_critical, thread_of, threads_of_table}
-use Rattle.cal_policy.specs.declared.history.action.Action.{Action}
-use Rattle.cal_policy.specs.declared.history.action.Action.TheVariants.{Free, Unban, Ban, Revoke, Cap, Grant}
-use Rattle.cal_policy.specs.declared.history.action.Cause.{Cause}
 use Rattle.cal_policy.specs.declared.history.action.Cause.TheVariants as causes
-use Rattle.cal_policy.specs.declared.board.bans.BannedFor.{BannedFor}
-use Rattle.cal_policy.specs.declared.pass.choice.Candidate.{Candidate}
-use Rattle.cal_policy.specs.declared.history.core_class.CoreClass.{CoreClass}
-use Rattle.cal_policy.specs.History.CoreClasses.{class_number, is_idle}
 use Rattle.cal_policy.specs.declared.board.holders.Placement as placements
-use Rattle.cal_policy.specs.declared.board.holders.Holder.{Holder}
 use Rattle.cal_policy.specs.declared.board.holders.Holder.TheVariants as holders
-use Rattle.cal_policy.specs.History.Lists.{in_turn}
-use Rattle.cal_policy.specs.History.{holder_of, last_placement, ban_of}
-use Rattle.cal_policy.specs.Board.Counts.{is_held, is_free}
-use Rattle.cal_policy.specs.Pass.Choice.{lowest_below}
-use Rattle.cal_policy.specs.Setting.{Setting, so_far, kept_now}
-use Rattle.cal_policy.specs.Pass.Frees.{shows_left, free_at, frees}
-use Rattle.cal_policy.specs.Pass.Bans.{still_shows, unban_for, unban_at, unbans, ban_due, ban_for, bans_at, bans}
-use Rattle.cal_policy.specs.Pass.Bandwidth.{victim_of, core_to_lose, cut_at, cut_of, rise_of, is_capped, bandwidth_part}
 use Rattle.cal_machine.specs.declared.task.Kind.TheVariants as kinds
-use Rattle.cal_policy.specs.Pass.Grants.{is_congested, may_book, thread_choice, choice_of, grant_of, grant_at, grant_of_kind_at, grants_of_kind}
-use Rattle.cal_policy.specs.Pass.{pass_of}
-use Rattle.cal_policy.specs.Board.{placement_of}
-use Rattle.cal_policy.specs.Pass.Made.{EachAfter}
-use Rattle.cal_policy.specs.Judgement.Orderly.{fits_state}
 use Rattle.cal_policy.proofs.PassLemmas.Fits.{so_far_push}
 use Rattle.cal_policy.proofs.PassLemmas.LegalOrderly.{FitsSteady}
 use Rattle.cal_policy.proofs.HistoryLemmas.OneMore.{holder_push, last_placement_push}
-use Rattle.std.proofs.lemmas.Bool.{and_parts}
 
 -- each action is so
 abbrev pub Every : (Action → Type 0) → List Action → Type 0

@@ -1,18 +1,8 @@
 -- A list of rooms, and the set of the rings without room.
-use Rattle.std.proofs.Common.{◌≡◌, ℕ, zero, suc, ◌+◌, ◌<◌, Bool, false, not, List, [], ◌∷◌, length, get_or, refl, ap, sym, ◌∙◌, arith}
-use Rattle.std.proofs.lemmas.List.{length-map}
-use Rattle.cal_machine.specs.Table.{Table}
-use Rattle.cal_machine.specs.TableTasks.{threads_of_table}
-use Rattle.cal_machine.specs.ThreadSet.{has_thread}
+use Rattle.cal_policy.proofs.Common.{◌≡◌, ℕ, zero, suc, ◌+◌, ◌<◌, Bool, false, not, List, [], ◌∷◌, length, get_or, refl, ap, sym, ◌∙◌, arith, length-map, Table, threads_of_table, has_thread, Policy, PassEntry, FoundLook, judged_input, judged_looks, rooms_found, IsOpenAt, Setting, rooms_from, setting, setting_at}
 use Rattle.cal_machine.specs.declared.thread_set.ThreadSet.{ThreadSet}
-use Rattle.cal_policy.specs.declared.policy.Policy.{Policy}
-use Rattle.cal_policy.specs.declared.history.entry.PassEntry.{PassEntry}
-use Rattle.cal_policy.specs.declared.judgement.open_input.FoundLook.{FoundLook}
 use Rattle.cal_policy.specs.declared.judgement.open_pass.OpenPass.{OpenPass}
-use Rattle.cal_policy.specs.Judgement.OpenInput.{judged_input, judged_looks, rooms_found}
-use Rattle.cal_policy.specs.Judgement.OpenPass.{IsOpenAt}
 use Rattle.cal_policy.proofs.JudgementLemmas.OpenPass.{room_came}
-use Rattle.cal_policy.specs.Setting.{Setting, rooms_from, setting, setting_at}
 
 -- the ring of a thread below n
 pub room_at : (full : ThreadSet) (first n k : ℕ) → k < n → get_or (rooms_from full first n) k false ≡ not (has_thread full (first + k))

@@ -1,24 +1,10 @@
 -- What holds at a point holds after one more action that is made there.
-use Rattle.std.proofs.Common.{◌≡◌, ℕ, ◌<◌, ◌≤◌, ◌⊎◌, Bool, true, false, cond, eqb, List, [], ◌∷◌, ◌++◌, Option, Some, None, refl, sym, ap, ◌∙◌, arith, inl, inr, subst, zero, suc}
-use Rattle.std.proofs.lemmas.Bool.{cases_eq}
-use Rattle.std.proofs.lemmas.Bool.Decides.{nat_tests}
-use Rattle.cal_machine.specs.Table.{Table}
-use Rattle.cal_machine.specs.TableTasks.{owner_of, threads_of_table, limit_of}
-use Rattle.cal_policy.specs.declared.history.action.Action.{Action}
-use Rattle.cal_policy.specs.declared.history.action.Action.TheVariants.{Free, Unban, Ban, Revoke, Cap, Grant}
-use Rattle.cal_policy.specs.declared.history.action.Cause.{Cause}
+use Rattle.cal_policy.proofs.Common.{◌≡◌, ℕ, ◌<◌, ◌≤◌, ◌⊎◌, Bool, true, false, cond, eqb, List, [], ◌∷◌, ◌++◌, Option, Some, None, refl, sym, ap, ◌∙◌, arith, inl, inr, subst, zero, suc, cases_eq, nat_tests, Table, owner_of, threads_of_table, limit_of, Action, Free, Unban, Ban, Revoke, Cap, Grant, Cause, Holder, holder_of, last_placement, placed, left_by, is_held, is_booked_for, booked_by, placement_of, count_below, IsSteady, unwrap_if}
 use Rattle.cal_policy.specs.declared.board.holders.Placement as placements
-use Rattle.cal_policy.specs.declared.board.holders.Holder.{Holder}
 use Rattle.cal_policy.specs.declared.board.holders.Holder.TheVariants as holders
-use Rattle.cal_policy.specs.History.{holder_of, last_placement, placed, left_by}
-use Rattle.cal_policy.specs.Board.Counts.{is_held, is_booked_for, booked_by}
-use Rattle.cal_policy.specs.Board.{placement_of}
-use Rattle.cal_policy.specs.Pass.Choice.{count_below}
-use Rattle.cal_policy.specs.Pass.Steady.{IsSteady}
 use Rattle.cal_policy.proofs.ListLemmas.Counted.{count_le, count_le_one}
 use Rattle.cal_policy.proofs.HistoryLemmas.OneMore.{holder_push, last_placement_push}
 use Rattle.cal_policy.proofs.ListLemmas.OneMore.{or_if}
-use Rattle.cal_machine.proofs.Booleans.{unwrap_if}
 
 -- a placement is one of a task's
 abbrev pub is_place_of : Table → ℕ → Option placements.Placement → Bool

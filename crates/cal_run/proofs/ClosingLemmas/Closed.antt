@@ -1,25 +1,6 @@
 -- What the ends of all threads come to, when their pages and rings were closed.
-use Rattle.std.proofs.Common.{◌≡◌, ℕ, zero, suc, List, [], ◌∷◌, map, length, Some, refl, sym, ap, subst, ◌∙◌}
-use Rattle.std.specs.List.{slice_get}
-use Rattle.std.proofs.lemmas.Option.{get_or_from_slice_get}
-use Rattle.std.proofs.lemmas.List.{length-map}
-use mathlib.Core.Option.{some-ne-none}
-use Rattle.cal_command.specs.Rings.{SenderView}
-use Rattle.cal_machine.specs.declared.request.Request.{Request}
-use Rattle.cal_signal.specs.Ends.{ObserverView}
-use Rattle.cal_signal.specs.Pages.{FitsPage, page_of}
-use Rattle.cal_kthread.specs.End.Account.{IsAccounted}
-use Rattle.cal_kthread.specs.End.HandingOut.{RunView, run_of}
-use Rattle.cal_kthread.specs.Journal.{IsJournal, commands_of, records_of}
+use Rattle.cal_run.proofs.Common.{◌≡◌, ℕ, zero, suc, List, [], ◌∷◌, map, length, Some, refl, sym, ap, subst, ◌∙◌, slice_get, get_or_from_slice_get, length-map, some-ne-none, SenderView, Request, ObserverView, FitsPage, page_of, IsAccounted, RunView, run_of, IsJournal, commands_of, records_of, place_of_rest, Entry, EndView, AreFirst, page_at, journal_at, AreClosed, AreEndsOf, AreOtherEnds, HaveClosed, IsClosed, IsEndOf, IsWholeRun, pages_of_runs, rings_of_runs, Seat, journals_of, pages_of_seats, rings_of_seats, seat_of, seats_of, Worker}
 use Rattle.cal_kthread.specs.Places.{Each}
-use Rattle.cal_kthread.specs.Team.{place_of_rest}
-use Rattle.cal_kthread.specs.declared.journal.entry.Entry.{Entry}
-use Rattle.cal_kthread.specs.End.Rest.{EndView}
-use Rattle.cal_linear.specs.Runs.{AreFirst, page_at}
-use Rattle.cal_linear.specs.Steps.{journal_at}
-use Rattle.cal_run.specs.Closing.{AreClosed, AreEndsOf, AreOtherEnds, HaveClosed, IsClosed, IsEndOf, IsWholeRun, pages_of_runs, rings_of_runs}
-use Rattle.cal_run.specs.Workers.{Seat, journals_of, pages_of_seats, rings_of_seats, seat_of, seats_of}
-use Rattle.cal_run.specs.declared.workers.worker.Worker.{Worker}
 
 -- what holds of each end of a thread
 pub each_end : (P : EndView → Type 0) → ((worker : Worker) (e : EndView) → IsEndOf worker e → P e) → (workers : List Worker) (ends : List EndView) → AreEndsOf workers ends → Each P ends

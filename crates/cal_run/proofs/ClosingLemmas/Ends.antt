@@ -1,11 +1,5 @@
 -- Threads that end one after another, and pages and rings that are closed one after another.
-use Rattle.std.proofs.Common.{◌≡◌, zero, suc, List, [], ◌∷◌, ◌++◌, map, length, refl, sym, ap, subst, append_assoc, append-nil, arith}
-use Rattle.cal_command.specs.Rings.{SenderView}
-use Rattle.cal_signal.specs.Ends.{ObserverView}
-use Rattle.cal_kthread.specs.End.HandingOut.{RunView, run_of}
-use Rattle.cal_kthread.specs.End.Rest.{EndView}
-use Rattle.cal_run.specs.Closing.{AreClosed, AreEndsOf, AreOtherEnds, IsClosed, IsEndOf, pages_of_runs, rings_of_runs}
-use Rattle.cal_run.specs.declared.workers.worker.Worker.{Worker}
+use Rattle.cal_run.proofs.Common.{◌≡◌, zero, suc, List, [], ◌∷◌, ◌++◌, map, length, refl, sym, ap, subst, append_assoc, append-nil, arith, SenderView, ObserverView, RunView, run_of, EndView, AreClosed, AreEndsOf, AreOtherEnds, IsClosed, IsEndOf, pages_of_runs, rings_of_runs, Worker}
 
 pub nothing_left : {X : Type 0} (xs : List X) → length xs ≡ 0 → xs ≡ []
 nothing_left [] none = refl

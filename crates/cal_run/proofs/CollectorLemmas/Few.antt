@@ -1,8 +1,5 @@
 -- How few entries the turns of a run make.
-use Rattle.std.proofs.Common.{◌≡◌, ◌≤◌, ◌*◌, ℕ, List, [], length, min, take, arith}
-use Rattle.std.proofs.lemmas.List.{length-take}
-use Rattle.cal_kthread.specs.Turn.Turns.{AreTurns, Given, TurnsAddUp}
-use Rattle.cal_kthread.specs.declared.journal.entry.Entry.{Entry}
+use Rattle.cal_run.proofs.Common.{◌≡◌, ◌≤◌, ◌*◌, ℕ, List, [], length, min, take, arith, length-take, AreTurns, Given, TurnsAddUp, Entry}
 
 -- five a turn at most
 pub few_entries : TurnsAddUp → (turns : List Given) (n : ℕ) (journal : List Entry) → AreTurns (take n turns) [] journal → length journal ≤ 5 * n

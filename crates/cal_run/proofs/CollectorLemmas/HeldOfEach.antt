@@ -1,7 +1,5 @@
 -- What is held of each thread, one of which made a turn.
-use Rattle.std.proofs.Common.{◌≡◌, ℕ, zero, suc, List, [], ◌∷◌, Some, get_or, subst}
-use Rattle.std.specs.List.{AllZip, slice_get}
-use Rattle.std.proofs.Math.ListN.{set}
+use Rattle.cal_run.proofs.Common.{◌≡◌, ℕ, zero, suc, List, [], ◌∷◌, Some, get_or, subst, AllZip, slice_get, set}
 
 -- what is held at a thread's place is of its journal
 pub held_at : {X Y : Type 0} (R : X → Y → Type 0) (xs : List X) (ys : List Y) (k : ℕ) (x : X) (d : Y) → AllZip R xs ys → slice_get xs k ≡ Some x → R x (get_or ys k d)

@@ -1,13 +1,5 @@
 -- The journals of threads, one of which made a turn.
-use Rattle.std.proofs.Common.{◌≡◌, ℕ, List, Some, sym, ap, ◌∙◌}
-use Rattle.std.specs.Prelude.{option_map}
-use Rattle.std.specs.List.{slice_get}
-use Rattle.std.proofs.Math.ListN.{set}
-use Rattle.std.proofs.lemmas.List.{map-set}
-use Rattle.std.proofs.lemmas.Option.{slice_get-map}
-use Rattle.cal_kthread.specs.declared.journal.entry.Entry.{Entry}
-use Rattle.cal_run.specs.Workers.{journals_of}
-use Rattle.cal_run.specs.declared.workers.worker.Worker.{Worker}
+use Rattle.cal_run.proofs.Common.{◌≡◌, ℕ, List, Some, sym, ap, ◌∙◌, option_map, slice_get, set, map-set, slice_get-map, Entry, journals_of, Worker}
 
 -- the journal at a thread's place
 pub journal_at_place : (workers : List Worker) (k : ℕ) (worker : Worker) → slice_get workers k ≡ Some worker → slice_get (journals_of workers) k ≡ Some worker.thread.journal

@@ -1,17 +1,6 @@
 -- Before the first round nothing was made.
-use Rattle.std.proofs.Common.{◌≡◌, ℕ, zero, suc, ⊎_elim, sym, List, [], ◌∷◌, ◌++◌, Some, length, map, replicate, refl, ◌∙◌, arith}
-use Rattle.std.specs.List.{AllZip, slice_get}
-use Rattle.cal_kthread.specs.declared.journal.entry.Entry.{Entry}
-use Rattle.cal_sched.specs.Scheduler.{SchedulerView}
-use Rattle.cal_trace.specs.Report.Summary.{IsTallyOf}
-use Rattle.cal_trace.specs.declared.arrivals.Arrivals.{Arrivals}
-use Rattle.cal_trace.specs.declared.report.tally.TheConstants.Tally.{NONE}
+use Rattle.cal_run.proofs.Common.{◌≡◌, ℕ, zero, suc, ⊎_elim, sym, List, [], ◌∷◌, ◌++◌, Some, length, map, replicate, refl, ◌∙◌, arith, AllZip, slice_get, Entry, SchedulerView, IsTallyOf, Arrivals, NONE, figures_of, HasPassed, HaveMade, journals_of, Worker, last_or_before}
 use Rattle.cal_run.specs.Collecting.{AreEmpty}
-use Rattle.cal_run.specs.Outcome.{figures_of}
-use Rattle.cal_run.specs.Parts.{HasPassed}
-use Rattle.cal_run.specs.Workers.{HaveMade, journals_of}
-use Rattle.cal_run.specs.declared.workers.worker.Worker.{Worker}
-use Rattle.cal_machine.proofs.Last.{last_or_before}
 
 -- a list of which nothing is made is empty
 none_made : {X Y : Type 0} (f : X → Y) (xs : List X) → map f xs ≡ [] → xs ≡ []

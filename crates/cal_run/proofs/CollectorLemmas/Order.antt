@@ -1,6 +1,5 @@
 -- The order in which passes and turns are made, step by step.
-use Rattle.std.proofs.Common.{◌≡◌, ◌+◌, ℕ, suc, List, ◌∷◌, subst, arith}
-use Rattle.cal_run.specs.Order.{Made, a_pass, turn_of, then_passes, then_turns, then_round, then_rounds}
+use Rattle.cal_run.proofs.Common.{◌≡◌, ◌+◌, ℕ, suc, List, ◌∷◌, subst, arith, Made, a_pass, turn_of, then_passes, then_turns, then_round, then_rounds}
 
 module _ (made : List Made) (P : List Made → Type 0) where
   pub no-turns : P made → P (then_turns 0 made)

@@ -1,18 +1,9 @@
 -- Rounds that the watch of a run did not make, each with looks that read no record.
-use Rattle.std.proofs.Common.{◌≡◌, ℕ, ◌-◌, ◌≤◌, zero, suc, List, [], ◌∷◌, ◌++◌, length, replicate, Some, refl, sym, ap, ◌∙◌, arith, length-append}
-use Rattle.std.specs.List.{slice_get}
+use Rattle.cal_run.proofs.Common.{◌≡◌, ℕ, ◌-◌, ◌≤◌, zero, suc, List, [], ◌∷◌, ◌++◌, length, replicate, Some, refl, sym, ap, ◌∙◌, arith, length-append, slice_get, length-replicate, Table, threads_of_table, HaveWatched, ObserverView, Look, Record, Arrivals, filled, rounds_of, unread_round}
 use Rattle.std.proofs.lemmas.Grind.{flat_map-append}
-use Rattle.std.proofs.lemmas.List.{append-nil, length-replicate}
-use Rattle.cal_machine.specs.Table.{Table}
-use Rattle.cal_machine.specs.TableTasks.{threads_of_table}
-use Rattle.cal_sched.specs.Watching.{HaveWatched}
-use Rattle.cal_signal.specs.Ends.{ObserverView}
+use Rattle.std.proofs.lemmas.List.{append-nil}
 use Rattle.cal_signal.specs.Rounds.{found_at, found_by}
-use Rattle.cal_signal.specs.declared.look.Look.{Look}
 use Rattle.cal_signal.specs.declared.look.Look.TheVariants.{Busy}
-use Rattle.cal_signal.specs.declared.record.Record.{Record}
-use Rattle.cal_trace.specs.declared.arrivals.Arrivals.{Arrivals}
-use Rattle.cal_run.specs.Parts.{filled, rounds_of, unread_round}
 
 -- no look of an unread round is whole
 nothing_read : (n k : ℕ) → found_by (slice_get (replicate n (Busy 1 1)) k) ≡ []

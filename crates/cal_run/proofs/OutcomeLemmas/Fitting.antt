@@ -1,12 +1,7 @@
 -- Looks that fit a page, by place.
-use Rattle.std.proofs.Common.{◌≡◌, ℕ, ◌≤◌, zero, suc, List, [], ◌∷◌, Some, map, arith, subst}
-use Rattle.std.specs.List.{slice_get}
-use mathlib.Core.Option.{some}
+use Rattle.cal_run.proofs.Common.{◌≡◌, ℕ, ◌≤◌, zero, suc, List, [], ◌∷◌, Some, map, arith, subst, slice_get, some, Record, FitsFrom, NeverFall}
 use lib.ListN.{get_elem?}
-use Rattle.cal_signal.specs.declared.record.Record.{Record}
-use Rattle.cal_signal.specs.Pages.{FitsFrom}
 use Rattle.cal_linear.proofs.Shown.{get_both}
-use Rattle.cal_run.specs.Outcome.Headline.{NeverFall}
 
 -- each is the record of its place
 pub fitting_published : (page : List Record) (floor : ℕ) (looks : List (ℕ × Record)) (i number : ℕ) (rec : Record) → FitsFrom page floor looks →

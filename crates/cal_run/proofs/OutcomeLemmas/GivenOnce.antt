@@ -1,23 +1,8 @@
 -- How often each id arrives, over all journals: once where it is given, else never.
-use Rattle.std.proofs.Common.{◌≡◌, ℕ, ◌+◌, ◌<◌, ◌≤◌, ◌⊎◌, inl, inr, zero, suc, Bool, true, false, nat_eq, if◌then◌else◌, ◌&&◌, List, [], ◌∷◌, length, Option, Some, None, get_or, refl, sym, ap, subst, ◌∙◌, arith}
-use Rattle.std.specs.Prelude.{◌==◌, option_to_list}
-use Rattle.std.specs.List.{slice_get, filter_map, cons_option}
-use Rattle.std.proofs.lemmas.Bool.{eq-eqb, eqb-true}
-use Rattle.std.proofs.lemmas.Option.{slice_get_within, slice_get-get_or, get_or_from_slice_get}
-use Rattle.cal_machine.specs.declared.request.Request.{Request}
-use Rattle.cal_kthread.specs.declared.journal.entry.Entry.{Entry}
-use Rattle.cal_kthread.specs.End.Account.{names_of, times}
-use Rattle.cal_kthread.specs.Journal.{arrivals_of}
+use Rattle.cal_run.proofs.Common.{◌≡◌, ℕ, ◌+◌, ◌<◌, ◌≤◌, ◌⊎◌, inl, inr, zero, suc, Bool, true, false, nat_eq, if◌then◌else◌, ◌&&◌, List, [], ◌∷◌, length, Option, Some, None, get_or, refl, sym, ap, subst, ◌∙◌, arith, ◌==◌, option_to_list, slice_get, filter_map, cons_option, eq-eqb, eqb-true, slice_get_within, slice_get-get_or, get_or_from_slice_get, Request, Entry, names_of, times, arrivals_of, AreTurns, Given, TurnsAddUp, journal_at, ComesBefore, Fits, Arrival, Arrivals, IsGiven, coming_to, request_at, turns_from, turns_given, IsFrom}
 use Rattle.cal_kthread.specs.End.OnePlace.{arrived_times}
 use Rattle.cal_kthread.specs.Places.{one_if}
 use Rattle.cal_kthread.specs.Queue.Rule.{weigh}
-use Rattle.cal_kthread.specs.Turn.Turns.{AreTurns, Given, TurnsAddUp}
-use Rattle.cal_linear.specs.Steps.{journal_at}
-use Rattle.cal_trace.specs.Arrivals.FitsTable.{ComesBefore, Fits}
-use Rattle.cal_trace.specs.declared.arrivals.Arrival.{Arrival}
-use Rattle.cal_trace.specs.declared.arrivals.Arrivals.{Arrivals}
-use Rattle.cal_run.specs.Workers.GivenTurns.{IsGiven, coming_to, request_at, turns_from, turns_given}
-use Rattle.cal_run.specs.Workers.{IsFrom}
 use Rattle.cal_run.proofs.WorkersLemmas.NextRequest.{comes_next, three}
 use Rattle.cal_run.proofs.WorkersLemmas.GivenTurns.{given_at}
 use Rattle.cal_kthread.proofs.EndLemmas.OnePlace.{has}

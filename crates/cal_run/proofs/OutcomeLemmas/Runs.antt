@@ -1,48 +1,17 @@
 -- What closed pages and rings and a kept scheduler and watch say together: the run.
-use Rattle.std.proofs.Common.{◌≡◌, ℕ, ◌+◌, ◌<◌, ◌≤◌, zero, suc, List, [], ◌∷◌, ◌++◌, map, length, take, Option, Some, None, refl, sym, ap, subst, ◌∙◌, ⊎_elim, arith}
-use Rattle.std.specs.Prelude.{option_map}
-use Rattle.std.specs.List.{slice_get}
-use Rattle.std.proofs.lemmas.Bool.{cases_lt}
-use Rattle.std.proofs.lemmas.List.{get_or_past, length-map}
-use Rattle.std.proofs.lemmas.Option.{slice_get_past, get_or_from_slice_get}
+use Rattle.cal_run.proofs.Common.{◌≡◌, ℕ, ◌+◌, ◌<◌, ◌≤◌, zero, suc, List, [], ◌∷◌, ◌++◌, map, length, take, Option, Some, None, refl, sym, ap, subst, ◌∙◌, ⊎_elim, arith, option_map, slice_get, cases_lt, get_or_past, length-map, slice_get_past, get_or_from_slice_get, slice_get_at, pass_at_by, pass_input, Table, Request, Look, Record, ObserverView, FitsPage, PassEntry, IsLegalBy, threads_of_table, IsKept, SchedulerView, IsJournal, commands_of, AreTurns, Given, Entry, AreFirst, AreOfOneRunBy, AreWatched, page_at, journal_at, FitsTable, Arrival, Arrivals, HaveClosed, turns_from, turns_given, IsRunBy, AreOfOneTeam, HasPassed, rounds_of, scheduler_seat_of, watch_seat_of, HaveMade, Seat, seat_of, seats_of, Worker}
 use Rattle.std.proofs.Math.Seq.{take-length}
-use Rattle.cal_machine.proofs.Places.{slice_get_at}
-use Rattle.cal_policy.proofs.PolicyLemmas.{pass_at_by, pass_input}
-use Rattle.cal_machine.specs.Table.{Table}
-use Rattle.cal_machine.specs.declared.request.Request.{Request}
-use Rattle.cal_signal.specs.declared.look.Look.{Look}
-use Rattle.cal_signal.specs.declared.record.Record.{Record}
-use Rattle.cal_signal.specs.Ends.{ObserverView}
-use Rattle.cal_signal.specs.Pages.{FitsPage}
 use Rattle.cal_signal.specs.Rounds.{found_at, found_by}
 use Rattle.cal_policy.specs.declared.history.look.Seen.{Seen}
-use Rattle.cal_policy.specs.declared.history.entry.PassEntry.{PassEntry}
 use Rattle.cal_policy.specs.History.{actions_of, commands_to}
 use Rattle.cal_policy.specs.History.Found.{looks_at}
 use Rattle.cal_policy.specs.History.Looks.{look_of}
-use Rattle.cal_policy.specs.Policies.{IsLegalBy}
-use Rattle.cal_machine.specs.TableTasks.{threads_of_table}
-use Rattle.cal_sched.specs.Scheduler.{IsKept, SchedulerView}
 use Rattle.cal_sched.specs.Watching as watching
-use Rattle.cal_kthread.specs.Journal.{IsJournal, commands_of}
-use Rattle.cal_kthread.specs.Turn.Turns.{AreTurns, Given}
-use Rattle.cal_kthread.specs.declared.journal.entry.Entry.{Entry}
 use Rattle.cal_linear.specs.Law.{FittingLooksArePublications, IsLinearisedBy}
 use Rattle.cal_linear.specs.Linear.{linear}
-use Rattle.cal_linear.specs.Runs.{AreFirst, AreOfOneRunBy, AreWatched, page_at}
-use Rattle.cal_linear.specs.Steps.{journal_at}
-use Rattle.cal_trace.specs.Arrivals.FitsTable.{FitsTable}
-use Rattle.cal_trace.specs.declared.arrivals.Arrival.{Arrival}
-use Rattle.cal_trace.specs.declared.arrivals.Arrivals.{Arrivals}
 use Rattle.cal_world.specs.declared.event.Event.{Event}
-use Rattle.cal_run.specs.Closing.{HaveClosed}
-use Rattle.cal_run.specs.Workers.GivenTurns.{turns_from, turns_given}
 use Rattle.cal_run.specs.Outcome.GivenOnce.{GivenStandOnce}
-use Rattle.cal_run.specs.Outcome.{IsRunBy}
-use Rattle.cal_run.specs.Parts.{AreOfOneTeam, HasPassed, rounds_of, scheduler_seat_of, watch_seat_of}
-use Rattle.cal_run.specs.Workers.{HaveMade, Seat, seat_of, seats_of}
 use Rattle.cal_run.specs.declared.outcome.Outcome.{Outcome}
-use Rattle.cal_run.specs.declared.workers.worker.Worker.{Worker}
 
 -- where no pass looked at a thread, none found anything of it
 none_shown : (history : List PassEntry) (k n : ℕ) → ((p : ℕ) (entry : PassEntry) → slice_get history p ≡ Some entry → length entry.input.seen ≡ n) → n ≤ k → looks_at history k ≡ []

@@ -1,24 +1,6 @@
 -- The parts of a run that was just opened.
-use Rattle.std.proofs.Common.{◌≡◌, ℕ, List, [], ◌∷◌, ◌++◌, length, map, refl, sym, ap, subst, ◌∙◌, append_assoc}
-use Rattle.std.specs.List.{slice_get}
-use Rattle.std.proofs.lemmas.List.{length-map, map-append}
-use Rattle.cal_command.specs.Rings.{SenderView}
+use Rattle.cal_run.proofs.Common.{◌≡◌, ℕ, List, [], ◌∷◌, ◌++◌, length, map, refl, sym, ap, subst, ◌∙◌, append_assoc, slice_get, length-map, map-append, SenderView, IsTeam, Place, place_of, KernelView, Table, Policy, threads_of_table, HaveSeenNothing, HaveSentNothing, SchedulerView, WatchView, new_watch, ObserverView, Arrivals, figures_of, AreParts, HasMade, HaveMade, HaveMadeNoTurn, MadeNoTurn, Seat, seat_of, seats_of, Parts, Worker, slice_get_seam}
 use Rattle.cal_kthread.specs.Team.Opening.{AreOpened}
-use Rattle.cal_kthread.specs.Team.{IsTeam, Place, place_of}
-use Rattle.cal_kthread.specs.Turn.Thread.{KernelView}
-use Rattle.cal_machine.specs.Table.{Table}
-use Rattle.cal_policy.specs.declared.policy.Policy.{Policy}
-use Rattle.cal_machine.specs.TableTasks.{threads_of_table}
-use Rattle.cal_sched.specs.Scheduler.{HaveSeenNothing, HaveSentNothing, SchedulerView}
-use Rattle.cal_sched.specs.Watching.{WatchView, new_watch}
-use Rattle.cal_signal.specs.Ends.{ObserverView}
-use Rattle.cal_trace.specs.declared.arrivals.Arrivals.{Arrivals}
-use Rattle.cal_run.specs.Outcome.{figures_of}
-use Rattle.cal_run.specs.Parts.{AreParts}
-use Rattle.cal_run.specs.Workers.{HasMade, HaveMade, HaveMadeNoTurn, MadeNoTurn, Seat, seat_of, seats_of}
-use Rattle.cal_run.specs.declared.parts.Parts.{Parts}
-use Rattle.cal_run.specs.declared.workers.worker.Worker.{Worker}
-use Rattle.cal_machine.proofs.Places.{slice_get_seam}
 use Rattle.cal_run.proofs.Members.{both_get}
 use Rattle.cal_run.proofs.WorkersLemmas.Turns.{one_more}
 

@@ -1,14 +1,5 @@
 -- The first passes of a run.
-use Rattle.std.proofs.Common.{◌≡◌, ℕ, List, length, map, take, sym, ap, subst, ◌∙◌}
-use Rattle.std.specs.Prelude.{min}
-use Rattle.std.proofs.lemmas.List.{length-map, length-take, take_min}
-use Rattle.cal_machine.specs.Table.{Table}
-use Rattle.cal_policy.specs.Policies.{IsLegalBy}
-use Rattle.cal_policy.specs.declared.history.entry.PassEntry.{PassEntry}
-use Rattle.cal_policy.specs.declared.policy.Policy.{Policy}
-use Rattle.cal_trace.specs.declared.arrivals.Arrivals.{Arrivals}
-use Rattle.cal_run.specs.Outcome.{figures_of}
-use Rattle.cal_run.specs.Parts.{AreFirstPasses}
+use Rattle.cal_run.proofs.Common.{◌≡◌, ℕ, List, length, map, take, sym, ap, subst, ◌∙◌, min, length-map, length-take, take_min, Table, IsLegalBy, PassEntry, Policy, Arrivals, figures_of, AreFirstPasses}
 
 -- a history of the policy, where that and the table are the same
 pub legal_alike : (policy by : Policy) (table other : Table) (history : List PassEntry) → policy ≡ by → table ≡ other → IsLegalBy policy table history → IsLegalBy by other history

@@ -1,12 +1,6 @@
 -- The passes of a run, one after the other.
-use Rattle.std.proofs.Common.{◌≡◌, ℕ, map, ◌∙◌, arith}
-use Rattle.std.proofs.lemmas.Option.{slice_get_within}
-use Rattle.cal_command.specs.Rings.{SenderView}
+use Rattle.cal_run.proofs.Common.{◌≡◌, ℕ, map, ◌∙◌, arith, slice_get_within, SenderView, IsKept, SchedulerView, ObserverView, scheduler_seat_of, slice_get_at}
 use Rattle.cal_sched.specs.Passing.{IsPassed}
-use Rattle.cal_sched.specs.Scheduler.{IsKept, SchedulerView}
-use Rattle.cal_signal.specs.Ends.{ObserverView}
-use Rattle.cal_run.specs.Parts.{scheduler_seat_of}
-use Rattle.cal_machine.proofs.Places.{slice_get_at}
 use Rattle.cal_run.proofs.Members.{same_of_each}
 
 -- a pass keeps the pages

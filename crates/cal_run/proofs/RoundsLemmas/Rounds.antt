@@ -1,13 +1,6 @@
 -- The rounds of a run on one thread, one after the other.
-use Rattle.std.proofs.Common.{◌≡◌, ℕ, ◌+◌, ◌≤◌, List, length, refl, sym, ap, subst, arith}
-use Rattle.std.specs.Prelude.{max, min}
-use Rattle.cal_machine.specs.Table.{Table}
-use Rattle.cal_trace.specs.declared.arrivals.Arrivals.{Arrivals}
-use Rattle.cal_run.specs.Parts.{MayBeEnded, AreOfOneTeam, AreParts, HasPassed, SchedulerSeat, WatchSeat, rounds_of, scheduler_seat_of, watch_seat_of}
+use Rattle.cal_run.proofs.Common.{◌≡◌, ℕ, ◌+◌, ◌≤◌, List, length, refl, sym, ap, subst, arith, max, min, Table, Arrivals, MayBeEnded, AreOfOneTeam, AreParts, HasPassed, SchedulerSeat, WatchSeat, rounds_of, scheduler_seat_of, watch_seat_of, HaveMade, Seat, seats_of, Parts, Worker}
 use Rattle.cal_run.specs.Rounds.{AreAfterRounds}
-use Rattle.cal_run.specs.Workers.{HaveMade, Seat, seats_of}
-use Rattle.cal_run.specs.declared.parts.Parts.{Parts}
-use Rattle.cal_run.specs.declared.workers.worker.Worker.{Worker}
 
 -- the same counts, written in another way
 with_counts : (table : Table) (arrivals : Arrivals) (parts : Parts) (p q j k r s : ℕ) → p ≡ q → j ≡ k → r ≡ s → AreParts table arrivals p j r parts →

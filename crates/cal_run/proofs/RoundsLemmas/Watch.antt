@@ -1,12 +1,5 @@
 -- The rounds of a watch, one after the other.
-use Rattle.std.proofs.Common.{◌≡◌, ◌+◌, ◌<◌, ◌≤◌, ⊎_elim, List, [], ◌∷◌, length, Bool, true, false, refl, ap, ◌∙◌, arith, length-append}
-use Rattle.std.specs.Prelude.{◌↔◌, IsTrue, MatchBool, min}
-use Rattle.std.proofs.lemmas.Bool.{cases_lt}
-use Rattle.std.proofs.lemmas.Option.{slice_get_within}
-use Rattle.cal_sched.specs.Watching.{IsRoundMore, WatchView}
-use Rattle.cal_signal.specs.Ends.{ObserverView}
-use Rattle.cal_run.specs.Parts.{watch_seat_of}
-use Rattle.cal_machine.proofs.Places.{slice_get_at}
+use Rattle.cal_run.proofs.Common.{◌≡◌, ◌+◌, ◌<◌, ◌≤◌, ⊎_elim, List, [], ◌∷◌, length, Bool, true, false, refl, ap, ◌∙◌, arith, length-append, min, ◌↔◌, IsTrue, MatchBool, cases_lt, slice_get_within, IsRoundMore, WatchView, ObserverView, watch_seat_of, slice_get_at}
 use Rattle.cal_run.proofs.Members.{same_of_each}
 
 -- one round more, where one was left to make

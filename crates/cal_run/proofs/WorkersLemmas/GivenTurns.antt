@@ -1,8 +1,5 @@
 -- What is given to a thread, turn by turn.
-use Rattle.std.proofs.Common.{◌≡◌, ℕ, ◌+◌, zero, suc, List, [], ◌∷◌, Some, ap, ◌∙◌, arith}
-use Rattle.std.specs.List.{slice_get}
-use Rattle.cal_trace.specs.declared.arrivals.Arrival.{Arrival}
-use Rattle.cal_run.specs.Workers.GivenTurns.{request_at, turns_from}
+use Rattle.cal_run.proofs.Common.{◌≡◌, ℕ, ◌+◌, zero, suc, List, [], ◌∷◌, Some, ap, ◌∙◌, arith, slice_get, Arrival, request_at, turns_from}
 
 -- the clock of a turn, and the request that comes before it
 pub given_at : (requests : List Arrival) (k i j now : ℕ) (clocks : List ℕ) → slice_get clocks j ≡ Some now →

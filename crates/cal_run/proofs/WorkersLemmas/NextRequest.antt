@@ -1,15 +1,6 @@
 -- Which request comes next to a thread.
-use Rattle.std.proofs.Common.{◌≡◌, ℕ, ◌<◌, ◌≤◌, ◌⊎◌, inl, inr, ◌+◌, zero, suc, Bool, true, false, List, [], ◌∷◌, length, Some, None, Option, refl, sym, ap, ◌∙◌, arith, subst, ⊎_elim, ◌&&◌, get_or, nat_lt}
-use Rattle.std.specs.Prelude.{◌==◌, if◌then◌else◌}
-use Rattle.std.specs.List.{slice_get, filter_map, cons_option}
-use Rattle.std.proofs.lemmas.Bool.Decides.{nat_tests}
-use Rattle.std.proofs.lemmas.Bool.{cases_lt, eqb-true, ltb-true}
-use Rattle.std.proofs.lemmas.Option.{slice_get_within, slice_get-get_or, get_or_from_slice_get}
+use Rattle.cal_run.proofs.Common.{◌≡◌, ℕ, ◌<◌, ◌≤◌, ◌⊎◌, inl, inr, ◌+◌, zero, suc, Bool, true, false, List, [], ◌∷◌, length, Some, None, Option, refl, sym, ap, ◌∙◌, arith, subst, ⊎_elim, ◌&&◌, get_or, nat_lt, if◌then◌else◌, ◌==◌, slice_get, filter_map, cons_option, nat_tests, cases_lt, eqb-true, ltb-true, slice_get_within, slice_get-get_or, get_or_from_slice_get, EachLater, ComesBefore, Arrival, coming_to, request_at, IsBefore, IsFrom, IsNext}
 use Rattle.std.specs.List.Sorted.{IsNonDecreasingBy, IsPartitionPoint}
-use Rattle.cal_trace.specs.Arrivals.FitsTable.{EachLater, ComesBefore}
-use Rattle.cal_trace.specs.declared.arrivals.Arrival.{Arrival}
-use Rattle.cal_run.specs.Workers.GivenTurns.{coming_to, request_at}
-use Rattle.cal_run.specs.Workers.{IsBefore, IsFrom, IsNext}
 
 -- what h gives first is what it gives of the member at place n, where it gives nothing of those before
 first_given : {X Y : Type 0} (h : X → Option Y) (xs : List X) (n : ℕ) (x : X) (y : Y) →

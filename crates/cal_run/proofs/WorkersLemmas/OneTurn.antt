@@ -1,18 +1,7 @@
 -- A turn of a thread, of those that it is given.
-use Rattle.std.proofs.Common.{◌≡◌, ℕ, ◌+◌, ◌*◌, ◌<◌, ◌≤◌, List, [], take, length, Some, sym, ap, subst, ◌∙◌, arith}
-use Rattle.std.specs.Prelude.{Option}
-use Rattle.std.specs.List.{slice_get}
-use Rattle.cal_machine.proofs.Last.{take_next}
-use Rattle.cal_machine.specs.declared.request.Request.{Request}
-use Rattle.cal_signal.specs.Pages.{last_published}
-use Rattle.cal_kthread.specs.Journal.{record_in, records_of}
-use Rattle.cal_kthread.specs.Turn.Turns.{AreTurns, Given, IsOneTurn, OneTurnMore, TurnsAddUp}
+use Rattle.cal_run.proofs.Common.{◌≡◌, ℕ, ◌+◌, ◌*◌, ◌<◌, ◌≤◌, List, [], take, length, Some, sym, ap, subst, ◌∙◌, arith, Option, slice_get, take_next, Request, last_published, record_in, records_of, AreTurns, Given, IsOneTurn, OneTurnMore, TurnsAddUp, Arrivals, request_at, turns_given, FitSomeTable, HasMade, IsNext, Worker}
 use Rattle.cal_kthread.proofs.JournalLemmas.OneEntryMore.{length-filter_map}
-use Rattle.cal_trace.specs.declared.arrivals.Arrivals.{Arrivals}
 use Rattle.cal_trace.specs.declared.arrivals.reading.TheConstants.{MOST_TURNS}
-use Rattle.cal_run.specs.Workers.GivenTurns.{request_at, turns_given}
-use Rattle.cal_run.specs.Workers.{FitSomeTable, HasMade, IsNext}
-use Rattle.cal_run.specs.declared.workers.worker.Worker.{Worker}
 use Rattle.cal_run.proofs.CollectorLemmas.Few.{few_entries}
 use Rattle.cal_run.proofs.WorkersLemmas.GivenTurns.{given_at}
 

@@ -1,27 +1,19 @@
 -- The comings of a file are of the arrivals that it is for.
-use Rattle.std.proofs.Common.{◌≡◌, ◌==◌, ◌&&◌, ◌⊎◌, inl, inr, ◌++◌, ◌∷◌, [], ◌∙◌, ℕ, true, false, codes, List, length, map, append_assoc, Option, Some, None, Result, Ok, Err, refl, sym, ap, subst}
+use Rattle.cal_tables.proofs.Common.{◌≡◌, ◌==◌, ◌&&◌, ◌⊎◌, inl, inr, ◌++◌, ◌∷◌, [], ◌∙◌, ℕ, true, false, codes, List, length, map, append_assoc, Option, Some, None, Result, Ok, Err, refl, sym, ap, subst, cases_Bool, append-nil, map-append, some_same, Table, Arrival, Arrivals, Coming, arrivals_in, own_coming}
 use Rattle.std.specs.Prelude.{nat_le}
-use Rattle.std.proofs.lemmas.Bool.{cases_Bool}
-use Rattle.std.proofs.lemmas.List.{append-nil, map-append}
 use Rattle.cal_came.specs.Asked.{comings_asked, some_comings}
 use Rattle.cal_came.specs.declared.asked.CameFile.{CameFile}
-use Rattle.cal_machine.proofs.Last.{some_same}
-use Rattle.cal_machine.specs.Table.{Table}
 use Rattle.cal_trace.proofs.RowLemmas.Checks.{check_three}
 use Rattle.cal_trace.proofs.RowLemmas.Readings.{kept_under}
 use Rattle.cal_trace.specs.Arrivals.{last_in}
 use Rattle.cal_trace.specs.Comings.{add_coming, add_left_out, at_start, below_header, coming_row, comings_of, left_out_row, SoFar, take_coming, take_left_out, take_row, whole, whole_if}
 use Rattle.cal_trace.specs.Rows.RowFields.{is_number_at, is_row, number_at}
 use Rattle.cal_trace.specs.Rows.{Fields, rows_of}
-use Rattle.cal_trace.specs.declared.arrivals.Arrival.{Arrival}
-use Rattle.cal_trace.specs.declared.arrivals.Arrivals.{Arrivals}
-use Rattle.cal_trace.specs.declared.comings.Coming.{Coming}
 use Rattle.cal_trace.specs.declared.comings.Comings.{Comings}
 use Rattle.cal_trace.specs.declared.comings.LeftOut.{LeftOut}
 use Rattle.cal_trace.specs.declared.fault.FaultKind.{FaultKind}
 use Rattle.cal_trace.specs.declared.fault.FaultKind.TheVariants as kind
 use Rattle.cal_trace.specs.declared.fault.TraceFault.{TraceFault}
-use Rattle.cal_tables.specs.Moved.{arrivals_in, own_coming}
 use Rattle.cal_tables.specs.Moving.{AreComingsTold, comings_by}
 
 -- the row of a request is of that one

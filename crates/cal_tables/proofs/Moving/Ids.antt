@@ -1,13 +1,6 @@
 -- Things that differ by a number of theirs, as requests do by their ids, in whichever order they are.
-use Rattle.std.proofs.Common.{◌≡◌, ◌==◌, ◌<◌, ◌≤◌, ◌∙◌, ◌⊎◌, inl, inr, ℕ, zero, suc, Bool, cond, List, [], ◌∷◌, Some, slice_get, get_or, refl, sym, ap, arith}
-use Rattle.std.specs.List.{sum_by}
-use Rattle.std.specs.List.Sorted.{IsPermutation}
-use Rattle.std.proofs.lemmas.Bool.{cases_eq, eq-eqb, ne_eqb}
-use Rattle.std.proofs.lemmas.List.Sorted.{sum_by-IsPermutation}
+use Rattle.cal_tables.proofs.Common.{◌≡◌, ◌==◌, ◌<◌, ◌≤◌, ◌∙◌, ◌⊎◌, inl, inr, ℕ, zero, suc, Bool, cond, List, [], ◌∷◌, Some, slice_get, get_or, refl, sym, ap, arith, sum_by, IsPermutation, cases_eq, eq-eqb, ne_eqb, sum_by-IsPermutation, slice_get_within, get_or_from_slice_get, some_same, EachLater}
 use Rattle.std.proofs.lemmas.List.Sums.{get_or-le-sum_by, sum_by-cons}
-use Rattle.std.proofs.lemmas.Option.{slice_get_within, get_or_from_slice_get}
-use Rattle.cal_machine.proofs.Last.{some_same}
-use Rattle.cal_trace.specs.Arrivals.FitsTable.{EachLater}
 
 -- two things differ by this number
 abbrev pub Differ : {X : Type 0} → (X → ℕ) → X → X → Type 0

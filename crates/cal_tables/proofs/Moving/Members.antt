@@ -1,10 +1,5 @@
 -- Members of lists, by their places.
-use Rattle.std.proofs.Common.{◌≡◌, ◌<◌, ◌∙◌, ℕ, zero, suc, List, [], ◌∷◌, map, take, Some, slice_get, refl, ap, arith, subst}
-use Rattle.std.specs.List.{Contains}
-use Rattle.std.proofs.lemmas.Option.{slice_get_within, slice_get-get_or, get_or_from_slice_get}
-use Rattle.cal_machine.proofs.Last.{some_same}
-use Rattle.cal_trace.specs.Arrivals.FitsTable.{EachLater}
-use Rattle.cal_trace.specs.History.Ranges.{Each}
+use Rattle.cal_tables.proofs.Common.{◌≡◌, ◌<◌, ◌∙◌, ℕ, zero, suc, List, [], ◌∷◌, map, take, Some, slice_get, refl, ap, arith, subst, Contains, slice_get_within, slice_get-get_or, get_or_from_slice_get, some_same, EachLater, Each}
 
 -- a list has this member
 abbrev pub In : {X : Type 0} → List X → X → Type 0

@@ -1,13 +1,5 @@
 -- Requests in their order.
-use Rattle.std.proofs.Common.{◌≡◌, ◌<◌, ◌≤◌, ◌^◌, ◌∙◌, ◌⊎◌, inl, inr, ℕ, List, Some, slice_get, get_or, refl, arith, subst}
-use Rattle.std.specs.List.Sorted.{IsNonDecreasingBy}
-use Rattle.std.proofs.lemmas.Bool.{cases_lt}
-use Rattle.std.proofs.lemmas.Option.{slice_get_within, get_or_from_slice_get}
-use Rattle.cal_trace.specs.Arrivals.FitsTable.{ComesBefore, EachLater}
-use Rattle.cal_trace.specs.History.Ranges.{Each}
-use Rattle.cal_trace.specs.declared.arrivals.Arrival.{Arrival}
-use Rattle.cal_trace.specs.declared.comings.Coming.{Coming}
-use Rattle.cal_tables.specs.Moved.{order_of}
+use Rattle.cal_tables.proofs.Common.{◌≡◌, ◌<◌, ◌≤◌, ◌^◌, ◌∙◌, ◌⊎◌, inl, inr, ℕ, List, Some, slice_get, get_or, refl, arith, subst, IsNonDecreasingBy, cases_lt, slice_get_within, get_or_from_slice_get, ComesBefore, EachLater, Each, Arrival, Coming, order_of}
 use Rattle.cal_tables.proofs.Moving.Ids.{Differ}
 
 pub before_before : (a b c : Arrival) → ComesBefore a b → ComesBefore b c → ComesBefore a c

@@ -1,23 +1,12 @@
 -- Requests that move fit where they come to.
-use Rattle.std.proofs.Common.{◌≡◌, ◌<◌, ◌≤◌, ◌%◌, ◌^◌, ℕ, List, [], ◌∷◌, All, length, map, get_or, refl, sym, ap, arith, subst}
+use Rattle.cal_tables.proofs.Common.{◌≡◌, ◌<◌, ◌≤◌, ◌%◌, ◌^◌, ℕ, List, [], ◌∷◌, All, length, map, get_or, refl, sym, ap, arith, subst, IsPermutation, All-permutation, slice_get_within, slice_get-get_or, get_or_from_slice_get, IsTable, IsTask, Table, ComesBefore, EachLater, FitsTable, HaveTwoIds, IsArrival, Each, Arrivals, Coming, AreMoved, arrivals_in, coming_moved_to, each_moved, HasItsTask, moved_to, place_of, standing, thread_for, MovedArrivals, Placed}
 use Rattle.std.proofs.Math.Nat.{mod-lt}
-use Rattle.std.specs.List.Sorted.{IsPermutation}
 use Rattle.std.proofs.lemmas.List.Elements.{All-get_or}
-use Rattle.std.proofs.lemmas.List.Sorted.{All-permutation}
-use Rattle.std.proofs.lemmas.Option.{slice_get_within, slice_get-get_or, get_or_from_slice_get}
 use Rattle.cal_machine.proofs.ThreadNumbers.{next_le}
-use Rattle.cal_machine.specs.Table.{IsTable, IsTask, Table}
 use Rattle.cal_machine.specs.Tasks.{no_task, task_at, task_of, threads_in}
 use Rattle.cal_machine.specs.declared.task.Task.{Task}
-use Rattle.cal_trace.specs.Arrivals.FitsTable.{ComesBefore, EachLater, FitsTable, HaveTwoIds, IsArrival}
 use Rattle.cal_policy.specs.declared.history.entry.TheConstants.{MOST_PASSES}
-use Rattle.cal_trace.specs.History.Ranges.{Each}
 use Rattle.cal_trace.specs.declared.arrivals.reading.TheConstants.{MOST_TURNS}
-use Rattle.cal_trace.specs.declared.arrivals.Arrivals.{Arrivals}
-use Rattle.cal_trace.specs.declared.comings.Coming.{Coming}
-use Rattle.cal_tables.specs.Moved.{AreMoved, arrivals_in, coming_moved_to, each_moved, HasItsTask, moved_to, place_of, standing, thread_for}
-use Rattle.cal_tables.specs.declared.moved.arrivals.MovedArrivals.{MovedArrivals}
-use Rattle.cal_tables.specs.declared.moved.placing.Placed.{Placed}
 use Rattle.cal_tables.proofs.Moving.Ids.{Differ, differ_reordered}
 use Rattle.cal_tables.proofs.Moving.Members.{each_mapped, each_unmapped, later_mapped, later_unmapped}
 use Rattle.cal_tables.proofs.Moving.Order.{AreBelow}

@@ -1,17 +1,7 @@
 -- Requests that are placed one after the other.
-use Rattle.std.proofs.Common.{◌≡◌, ◌==◌, ◌<◌, ◌≤◌, ◌+◌, ◌-◌, ◌^◌, ◌∙◌, ◌++◌, ◌∷◌, [], ◌⊎◌, inl, inr, ℕ, zero, suc, Bool, cond, ltb, List, length, take, Option, Some, None, slice_get, get_or, length-append, refl, sym, ap, arith, subst}
-use Rattle.std.proofs.lemmas.List.{map-append}
-use Rattle.std.specs.List.Sorted.{IsNonDecreasingBy}
-use Rattle.std.proofs.lemmas.Bool.{and_from, and_left, and_right, cases_eq, cases_lt, eq-eqb, le-ltb, lt-ltb, ne_eqb}
-use Rattle.std.proofs.lemmas.Option.{slice_get-get_or, slice_get_within}
-use Rattle.cal_machine.proofs.Last.{last_or_before, slice_get-last, slice_get-other, some_same, take_next}
-use Rattle.cal_trace.specs.History.Ranges.{Each}
-use Rattle.cal_trace.specs.declared.arrivals.Arrival.{Arrival}
-use Rattle.cal_trace.specs.declared.comings.Coming.{Coming}
-use Rattle.cal_tables.specs.Moved.{ArePlaced, AreTaken, IsTaken, IsTurnOf, order_of}
+use Rattle.cal_tables.proofs.Common.{◌≡◌, ◌==◌, ◌<◌, ◌≤◌, ◌+◌, ◌-◌, ◌^◌, ◌∙◌, ◌++◌, ◌∷◌, [], ◌⊎◌, inl, inr, ℕ, zero, suc, Bool, cond, ltb, List, length, take, Option, Some, None, slice_get, get_or, length-append, refl, sym, ap, arith, subst, map-append, IsNonDecreasingBy, and_from, and_left, and_right, cases_eq, cases_lt, eq-eqb, le-ltb, lt-ltb, ne_eqb, slice_get-get_or, slice_get_within, last_or_before, slice_get-last, slice_get-other, some_same, take_next, Each, Arrival, Coming, ArePlaced, AreTaken, IsTaken, IsTurnOf, order_of, Placed}
 use Rattle.cal_tables.specs.Placing.{free_after, HasLast, IsAllFree, IsFreeAfter, turn_after, turn_from, turn_in}
 use Rattle.cal_tables.specs.declared.moved.placing.Free.{Free}
-use Rattle.cal_tables.specs.declared.moved.placing.Placed.{Placed}
 use Rattle.cal_tables.proofs.Moving.Members.{contains_in, in_front}
 use Rattle.cal_tables.proofs.Moving.Order.{AreBelow, rise, threads_up, turns_up}
 use Rattle.cal_tables.proofs.Moving.Taken.{all_taken, at_taken, coming_at, first_free}

@@ -1,25 +1,12 @@
 -- A table with the same limits gets what was given.
-use Rattle.std.proofs.Common.{◌≡◌, ◌<◌, ◌≤◌, ◌+◌, ◌-◌, ◌%◌, ◌^◌, ◌∙◌, ℕ, zero, suc, List, [], ◌∷◌, length, map, take, Some, slice_get, get_or, refl, sym, ap, arith, subst}
+use Rattle.cal_tables.proofs.Common.{◌≡◌, ◌<◌, ◌≤◌, ◌+◌, ◌-◌, ◌%◌, ◌^◌, ◌∙◌, ℕ, zero, suc, List, [], ◌∷◌, length, map, take, Some, slice_get, get_or, refl, sym, ap, arith, subst, Contains-permutation, IsPermutation-map, IsPermutation-sym, sum, take-map, IsPermutation, some_same, Table, each_first, each_other, ComesBefore, EachLater, FitsTable, IsArrival, Each, Arrival, Arrivals, Coming, AreMoved, arrivals_in, each_moved, moved_to, order_of, thread_for, MovedArrivals}
 use Rattle.std.proofs.Math.ListN.{get_or-map}
 use Rattle.std.proofs.Math.Nat.{mod-eq_of_lt}
-use Rattle.std.proofs.lemmas.List.Sorted.{Contains-permutation, IsPermutation-map, IsPermutation-sym}
 use Rattle.std.proofs.lemmas.List.Sums.{sum-map}
-use Rattle.std.specs.List.{sum, take-map}
-use Rattle.std.specs.List.Sorted.{IsPermutation}
-use Rattle.cal_machine.proofs.Last.{some_same}
 use Rattle.cal_machine.proofs.ThreadNumbers.{task_in}
-use Rattle.cal_machine.specs.Table.{Table}
 use Rattle.cal_machine.specs.Tasks.{first_thread, no_task, task_at, task_of, threads_in}
 use Rattle.cal_machine.specs.declared.task.Task.{Task}
-use Rattle.cal_trace.proofs.ListLemmas.EachOne.{each_first, each_other}
-use Rattle.cal_trace.specs.Arrivals.FitsTable.{ComesBefore, EachLater, FitsTable, IsArrival}
-use Rattle.cal_trace.specs.History.Ranges.{Each}
-use Rattle.cal_trace.specs.declared.arrivals.Arrival.{Arrival}
-use Rattle.cal_trace.specs.declared.arrivals.Arrivals.{Arrivals}
-use Rattle.cal_trace.specs.declared.comings.Coming.{Coming}
 use Rattle.cal_tables.specs.Laws.{AreNotAtOnce, NoneWaitsWhereNoneMeet, SameLimitsMoveNothing, limits_of}
-use Rattle.cal_tables.specs.Moved.{AreMoved, arrivals_in, each_moved, moved_to, order_of, thread_for}
-use Rattle.cal_tables.specs.declared.moved.arrivals.MovedArrivals.{MovedArrivals}
 use Rattle.cal_tables.proofs.Moving.Ids.{Differ, differ_reordered}
 use Rattle.cal_tables.proofs.Moving.Members.{contains_in, In, in_contains, later_mapped, later_unmapped}
 use Rattle.cal_tables.proofs.Moving.Order.{AreBelow, before_before, ComesFirst, never_itself, rising, rising_apart}

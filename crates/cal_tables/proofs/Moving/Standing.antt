@@ -1,16 +1,6 @@
 -- The requests that are not left out.
-use Rattle.std.proofs.Common.{◌≡◌, ◌<◌, ◌≤◌, ◌∙◌, ◌++◌, ◌⊎◌, inl, inr, ℕ, zero, suc, List, [], ◌∷◌, map, take, Option, Some, None, slice_get, refl, ap, subst, arith}
-use Rattle.std.proofs.lemmas.Bool.{cases_lt}
-use Rattle.cal_machine.proofs.Last.{some_same}
+use Rattle.cal_tables.proofs.Common.{◌≡◌, ◌<◌, ◌≤◌, ◌∙◌, ◌++◌, ◌⊎◌, inl, inr, ℕ, zero, suc, List, [], ◌∷◌, map, take, Option, Some, None, slice_get, refl, ap, subst, arith, cases_lt, some_same, each_cons, each_none, ComesBefore, EachLater, Each, Arrival, Coming, IsNonDecreasingBy, ArePlaced, before_turn, IsTaken, order_of, standing, Placed}
 use Rattle.cal_trace.proofs.ListLemmas.EachLater.{later_none}
-use Rattle.cal_trace.proofs.ListLemmas.EachOne.{each_cons, each_none}
-use Rattle.cal_trace.specs.Arrivals.FitsTable.{ComesBefore, EachLater}
-use Rattle.cal_trace.specs.History.Ranges.{Each}
-use Rattle.cal_trace.specs.declared.arrivals.Arrival.{Arrival}
-use Rattle.cal_trace.specs.declared.comings.Coming.{Coming}
-use Rattle.std.specs.List.Sorted.{IsNonDecreasingBy}
-use Rattle.cal_tables.specs.Moved.{ArePlaced, before_turn, IsTaken, order_of, standing}
-use Rattle.cal_tables.specs.declared.moved.placing.Placed.{Placed}
 use Rattle.cal_tables.proofs.Moving.Order.{AreBelow, rise, threads_up, turns_up}
 use Rattle.cal_tables.proofs.Moving.Taken.{below_taken, coming_at, first_free, more_taken}
 

@@ -1,12 +1,5 @@
 -- Requests that rise are placed before their own turns.
-use Rattle.std.proofs.Common.{◌≡◌, ◌<◌, ◌≤◌, ◌∙◌, ◌⊎◌, inl, inr, ℕ, zero, suc, List, [], ◌∷◌, map, take, Option, Some, None, slice_get, refl, sym, ap, arith}
-use Rattle.std.proofs.lemmas.Bool.{cases_lt}
-use Rattle.cal_machine.proofs.Last.{some_same}
-use Rattle.cal_trace.specs.Arrivals.FitsTable.{EachLater}
-use Rattle.cal_trace.specs.History.Ranges.{Each}
-use Rattle.cal_trace.specs.declared.comings.Coming.{Coming}
-use Rattle.cal_tables.specs.Moved.{ArePlaced, arrivals_in, IsTaken, IsTurnOf, standing}
-use Rattle.cal_tables.specs.declared.moved.placing.Placed.{Placed}
+use Rattle.cal_tables.proofs.Common.{◌≡◌, ◌<◌, ◌≤◌, ◌∙◌, ◌⊎◌, inl, inr, ℕ, zero, suc, List, [], ◌∷◌, map, take, Option, Some, None, slice_get, refl, sym, ap, arith, cases_lt, some_same, EachLater, Each, Coming, ArePlaced, arrivals_in, IsTaken, IsTurnOf, standing, Placed}
 use Rattle.cal_tables.proofs.Moving.Order.{ComesFirst, never_at_once}
 use Rattle.cal_tables.proofs.Moving.Standing.{all_standing}
 use Rattle.cal_tables.proofs.Moving.Taken.{coming_at, taken_below}

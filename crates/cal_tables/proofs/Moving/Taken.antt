@@ -1,8 +1,5 @@
 -- Turns that are taken, by the places of the requests that take them.
-use Rattle.std.proofs.Common.{◌≡◌, ◌<◌, ◌≤◌, ℕ, List, take, Some, slice_get, subst, arith}
-use Rattle.cal_trace.specs.declared.comings.Coming.{Coming}
-use Rattle.cal_tables.specs.Moved.{ArePlaced, IsFirstFree, IsTaken, IsTurnOf}
-use Rattle.cal_tables.specs.declared.moved.placing.Placed.{Placed}
+use Rattle.cal_tables.proofs.Common.{◌≡◌, ◌<◌, ◌≤◌, ℕ, List, take, Some, slice_get, subst, arith, Coming, ArePlaced, IsFirstFree, IsTaken, IsTurnOf, Placed}
 use Rattle.cal_tables.proofs.Moving.Members.{at_front, contains_in, in_contains, in_front, mapped}
 
 -- the request at a place below this one takes it

@@ -1,10 +1,5 @@
 -- Arrivals that fit have no more requests than there are places for them, so that a field can spell how many rows there are.
-use Rattle.std.proofs.Common.{◌<◌, ◌≤◌, ◌+◌, ◌*◌, inl, inr, ℕ, List, [], ◌∷◌, length, arith}
-use Rattle.cal_trace.specs.Arrivals.FitsTable.{EachLater, IsArrival, ComesBefore, Fits}
-use Rattle.cal_trace.specs.Arrivals.Text.{row_count}
-use Rattle.cal_trace.specs.History.Ranges.{Each, IsWord}
-use Rattle.cal_trace.specs.declared.arrivals.Arrival.{Arrival}
-use Rattle.cal_trace.specs.declared.arrivals.Arrivals.{Arrivals}
+use Rattle.cal_trace.proofs.Common.{◌<◌, ◌≤◌, ◌+◌, ◌*◌, inl, inr, ℕ, List, [], ◌∷◌, length, arith, EachLater, IsArrival, ComesBefore, Fits, row_count, Each, IsWord, Arrival, Arrivals}
 use Rattle.cal_trace.proofs.ListLemmas.EachLater.{later_first, later_other}
 use Rattle.cal_trace.proofs.ListLemmas.EachOne.{each_first, each_other}
 

@@ -1,13 +1,5 @@
 -- The lines of arrivals, as they are written one after another.
-use Rattle.std.proofs.Common.{ℕ, List, [], ◌∷◌, ◌++◌, Option, map, sym, subst}
-use Rattle.std.specs.Io.KnownBytes.{Appends}
-use Rattle.std.proofs.KnownBytes.{Appends-trans}
-use Rattle.std.proofs.lemmas.Grind.{flat_map-append}
-use Rattle.cal_trace.specs.Arrivals.Text.{header_row, pass_fields, turn_fields, request_fields, row_count, arrivals_text}
-use Rattle.cal_trace.specs.History.Text.{end_fields, lines_of}
-use Rattle.cal_trace.specs.Rows.{Fields}
-use Rattle.cal_trace.specs.Rows.Text.{line_of}
-use Rattle.cal_trace.specs.declared.arrivals.Arrivals.{Arrivals}
+use Rattle.cal_trace.proofs.Common.{ℕ, List, [], ◌∷◌, ◌++◌, Option, map, sym, subst, Appends, Appends-trans, flat_map-append, header_row, pass_fields, turn_fields, request_fields, row_count, arrivals_text, end_fields, lines_of, Fields, line_of, Arrivals}
 use Rattle.cal_trace.proofs.ListLemmas.Numbered.{flat_map-one}
 
 -- the lines of some rows, and then the lines of others

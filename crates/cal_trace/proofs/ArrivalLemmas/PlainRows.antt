@@ -1,14 +1,5 @@
 -- The rows of arrivals have plain fields, so that their text is read as these rows.
-use Rattle.std.proofs.Common.{◌≡◌, ◌<◌, ◌≤◌, ℕ, List, [], ◌∷◌, length, map, codes, refl, arith}
-use Rattle.csv.specs.Reading.{strip_bom}
-use Rattle.cal_trace.specs.Arrivals.FitsTable.{IsArrival, Fits}
-use Rattle.cal_trace.specs.Arrivals.Text.{pass_fields, turn_fields, request_fields, row_count, arrivals_rows, arrivals_text, HasPassWords, AreSpelled}
-use Rattle.cal_trace.specs.History.Ranges.{Each, IsWord}
-use Rattle.cal_trace.specs.History.Text.{end_fields}
-use Rattle.cal_trace.specs.Rows.{rows_of}
-use Rattle.cal_trace.specs.declared.arrivals.Arrival.{Arrival}
-use Rattle.cal_trace.specs.declared.arrivals.Arrivals.{Arrivals}
-use Rattle.cal_trace.specs.declared.arrivals.GivenPass.{GivenPass}
+use Rattle.cal_trace.proofs.Common.{◌≡◌, ◌<◌, ◌≤◌, ℕ, List, [], ◌∷◌, length, map, codes, refl, arith, strip_bom, IsArrival, Fits, pass_fields, turn_fields, request_fields, row_count, arrivals_rows, arrivals_text, HasPassWords, AreSpelled, Each, IsWord, end_fields, rows_of, Arrival, Arrivals, GivenPass}
 use Rattle.cal_trace.proofs.ArrivalLemmas.FewRequests.{count_word}
 use Rattle.cal_trace.proofs.HistoryLemmas.PlainRows.{number, word}
 use Rattle.cal_trace.proofs.ListLemmas.EachOne.{each_first, each_other}

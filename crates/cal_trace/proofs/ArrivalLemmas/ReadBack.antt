@@ -1,21 +1,8 @@
 -- The text of arrivals that fit is read as these arrivals.
-use Rattle.std.proofs.Common.{◌≡◌, ◌<◌, ◌≤◌, ◌+◌, ◌-◌, ◌==◌, ◌||◌, inl, inr, ◌∙◌, ℕ, List, [], ◌∷◌, ◌++◌, length, map, codes, Bool, true, false, Option, Some, None, Ok, nat_lt, slice_get, unwrap_or, refl, sym, ap, subst, arith, append_assoc, append-nil, length-append}
-use Rattle.std.proofs.lemmas.Bool.{lt-ltb, eq-eqb, ne_eqb}
-use Rattle.csv.specs.Records.{field_at}
-use Rattle.cal_trace.specs.Arrivals.{SoFar, at_start, take_row, whole, last_in, comes_after, is_given, arrivals_of}
-use Rattle.cal_trace.specs.Arrivals.FitsTable.{EachLater, IsArrival, ComesBefore, HaveTwoIds, Fits}
-use Rattle.cal_trace.specs.Arrivals.Text.{header_row, pass_fields, turn_fields, request_fields, row_count, arrivals_text, HasPassWords, AreSpelled}
-use Rattle.cal_trace.specs.History.Ranges.{Each, IsWord}
-use Rattle.cal_trace.specs.History.Text.{end_fields}
-use Rattle.cal_trace.specs.Rows.{Fields, rows_of}
-use Rattle.cal_trace.specs.Rows.Header.{header_of, in_version_one}
-use Rattle.cal_trace.specs.Rows.Reading.{read_from, read_under}
-use Rattle.cal_trace.specs.declared.arrivals.Arrival.{Arrival}
-use Rattle.cal_trace.specs.declared.arrivals.Arrivals.{Arrivals}
-use Rattle.cal_trace.specs.declared.arrivals.GivenPass.{GivenPass}
-use Rattle.cal_trace.specs.declared.arrivals.reading.TheConstants.{MOST_TURNS}
+use Rattle.cal_trace.proofs.Common.{◌≡◌, ◌<◌, ◌≤◌, ◌+◌, ◌-◌, ◌==◌, ◌||◌, inl, inr, ◌∙◌, ℕ, List, [], ◌∷◌, ◌++◌, length, map, codes, Bool, true, false, Option, Some, None, Ok, nat_lt, slice_get, unwrap_or, refl, sym, ap, subst, arith, append_assoc, length-append, lt-ltb, eq-eqb, ne_eqb, field_at, take_row, last_in, comes_after, is_given, arrivals_of, EachLater, IsArrival, ComesBefore, HaveTwoIds, Fits, header_row, pass_fields, turn_fields, request_fields, row_count, arrivals_text, HasPassWords, AreSpelled, Each, IsWord, end_fields, Fields, rows_of, header_of, in_version_one, read_from, read_under, Arrival, Arrivals, GivenPass, MOST_TURNS, MOST_PASSES}
+use Rattle.std.proofs.Common.{append-nil}
+use Rattle.cal_trace.specs.Arrivals.{SoFar, at_start, whole}
 use Rattle.cal_trace.specs.declared.rows.version.Version.TheVariants as version
-use Rattle.cal_policy.specs.declared.history.entry.TheConstants.{MOST_PASSES}
 use Rattle.cal_trace.proofs.ArrivalLemmas.FewRequests.{count_word}
 use Rattle.cal_trace.proofs.ArrivalLemmas.PlainRows.{HasId, rows_back}
 use Rattle.cal_trace.proofs.ArrivalLemmas.RowsTaken.{given, all_given, pass_taken, turn_taken, request_taken, end_taken}

@@ -1,17 +1,7 @@
 -- The rows of the text of arrivals, each taken for what it was written of.
-use Rattle.std.proofs.Common.{◌≡◌, ◌<◌, ◌≤◌, ◌==◌, ◌∙◌, ℕ, List, [], ◌∷◌, ◌++◌, length, codes, true, false, Option, Some, Ok, nat_lt, nat_le, unwrap_or, refl, ap}
-use Rattle.std.proofs.lemmas.Bool.{lt-ltb, le-leb, eq-eqb}
-use Rattle.csv.specs.Records.{field_at}
-use Rattle.cal_trace.specs.Arrivals.{SoFar, form_of, take_form, take_row, last_in, turn_row, comes_after, is_given, arrival_row, add_turn, add_arrival, rows_in}
-use Rattle.cal_trace.specs.Arrivals.FitsTable.{IsArrival}
-use Rattle.cal_trace.specs.Arrivals.Text.{pass_fields, turn_fields, request_fields, HasPassWords}
-use Rattle.cal_trace.specs.History.Ranges.{IsWord}
-use Rattle.cal_trace.specs.History.Text.{end_fields}
-use Rattle.cal_trace.specs.declared.arrivals.Arrival.{Arrival}
-use Rattle.cal_trace.specs.declared.arrivals.GivenPass.{GivenPass}
+use Rattle.cal_trace.proofs.Common.{◌≡◌, ◌<◌, ◌≤◌, ◌==◌, ◌∙◌, ℕ, List, [], ◌∷◌, ◌++◌, length, codes, true, false, Option, Some, Ok, nat_lt, nat_le, unwrap_or, refl, ap, lt-ltb, le-leb, eq-eqb, field_at, form_of, take_form, take_row, last_in, turn_row, comes_after, is_given, arrival_row, add_turn, add_arrival, rows_in, IsArrival, pass_fields, turn_fields, request_fields, HasPassWords, IsWord, end_fields, Arrival, GivenPass, MOST_TURNS, MOST_WORK, MOST_REQUEST_MISSES, MOST_PASSES}
+use Rattle.cal_trace.specs.Arrivals.{SoFar}
 use Rattle.cal_trace.specs.declared.arrivals.reading.Form.TheVariants as form
-use Rattle.cal_trace.specs.declared.arrivals.reading.TheConstants.{MOST_TURNS, MOST_WORK, MOST_REQUEST_MISSES}
-use Rattle.cal_policy.specs.declared.history.entry.TheConstants.{MOST_PASSES}
 use Rattle.cal_trace.proofs.ArrivalLemmas.PlainRows.{request_words}
 use Rattle.cal_trace.proofs.RowLemmas.Spelled.{IsSpelled, spelled}
 

@@ -1,21 +1,9 @@
 -- Fields can spell the numbers of arrivals that were read.
-use Rattle.std.proofs.Common.{◌≡◌, ◌&&◌, not, nat_lt, nat_le, ℕ, Bool, true, false, List, [], ◌∷◌, ◌++◌, length, Option, Some, None, Result, Ok, Err, codes, subst, refl, unwrap_or, if◌then◌else◌}
-use Rattle.cal_trace.specs.Arrivals.{SoFar, at_start, form_of, take_row, take_form, whole, last_in, turn_row, comes_after, is_given, is_size, arrival_row, add_pass, add_turn, add_arrival, add_end, is_none_yet, rows_in, arrivals_of}
-use Rattle.cal_trace.specs.Arrivals.Text.{HasPassWords, AreSpelled}
-use Rattle.cal_trace.specs.History.Ranges.{IsWord}
-use Rattle.cal_trace.specs.Rows.{Fields}
-use Rattle.cal_trace.specs.Rows.Header.{header_of, in_version_one}
-use Rattle.cal_trace.specs.Rows.LookRows.{pass_row, end_row}
-use Rattle.cal_trace.specs.Rows.RowFields.{has_numbers, number_at}
-use Rattle.cal_trace.specs.declared.arrivals.Arrival.{Arrival}
-use Rattle.cal_trace.specs.declared.arrivals.Arrivals.{Arrivals}
-use Rattle.cal_trace.specs.declared.arrivals.GivenPass.{GivenPass}
+use Rattle.cal_trace.proofs.Common.{◌≡◌, ◌&&◌, not, nat_lt, nat_le, ℕ, Bool, true, false, List, [], ◌∷◌, ◌++◌, length, Option, Some, None, Result, Ok, Err, codes, subst, refl, unwrap_or, if◌then◌else◌, form_of, take_row, take_form, last_in, turn_row, comes_after, is_given, is_size, arrival_row, add_turn, add_arrival, is_none_yet, rows_in, arrivals_of, HasPassWords, AreSpelled, IsWord, Fields, header_of, in_version_one, pass_row, end_row, has_numbers, number_at, Arrival, Arrivals, GivenPass, MOST_TURNS, FaultKind, MOST_PASSES}
+use Rattle.cal_trace.specs.Arrivals.{SoFar, at_start, whole, add_pass, add_end}
 use Rattle.cal_trace.specs.declared.arrivals.reading.Form.{Form}
 use Rattle.cal_trace.specs.declared.arrivals.reading.Form.TheVariants as form
-use Rattle.cal_trace.specs.declared.arrivals.reading.TheConstants.{MOST_TURNS}
-use Rattle.cal_trace.specs.declared.fault.FaultKind.{FaultKind}
 use Rattle.cal_trace.specs.declared.fault.FaultKind.TheVariants as kind
-use Rattle.cal_policy.specs.declared.history.entry.TheConstants.{MOST_PASSES}
 use Rattle.cal_trace.proofs.ArrivalLemmas.PlainRows.{HasId}
 use Rattle.cal_trace.proofs.HistoryLemmas.ReadInRange.{word_at}
 use Rattle.cal_trace.proofs.ListLemmas.EachOne.{each_none, each_push}

@@ -1,10 +1,6 @@
 -- The lines of comings, as they are written one after another.
-use Rattle.std.proofs.Common.{ℕ, List, Option, map}
-use Rattle.std.specs.Io.KnownBytes.{Appends}
-use Rattle.std.proofs.KnownBytes.{Appends-trans}
-use Rattle.cal_trace.specs.Comings.Text.{coming_fields, comings_text, header_row, left_out_fields}
-use Rattle.cal_trace.specs.History.Text.{lines_of}
-use Rattle.cal_trace.specs.Rows.Text.{line_of}
+use Rattle.cal_trace.proofs.Common.{ℕ, List, Option, map, Appends, Appends-trans, coming_fields, comings_text, left_out_fields, lines_of, line_of}
+use Rattle.cal_trace.specs.Comings.Text.{header_row}
 use Rattle.cal_trace.specs.declared.comings.Comings.{Comings}
 use Rattle.cal_trace.proofs.ArrivalLemmas.Lines.{two}
 

@@ -1,9 +1,6 @@
 -- What an accepted table has of cores, threads and tasks fits a byte.
-use Rattle.std.proofs.Common.{ℕ, ◌<◌, arith}
+use Rattle.cal_trace.proofs.Common.{ℕ, ◌<◌, arith, extent_of, IsWord, Extent}
 use Rattle.cal_machine.specs.Table.{Table, IsTable}
-use Rattle.cal_trace.specs.History.Reading.{extent_of}
-use Rattle.cal_trace.specs.History.Ranges.{IsWord}
-use Rattle.cal_trace.specs.declared.history.action_rows.Extent.{Extent}
 
 -- what a table has of each fits a byte
 pub record IsExtent (extent : Extent) : Type 0 where

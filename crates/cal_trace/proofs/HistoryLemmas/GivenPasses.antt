@@ -1,16 +1,8 @@
 -- Histories that are given pass by pass.
-use Rattle.std.proofs.Common.{◌≡◌, ◌≤◌, ℕ, List, [], length, Ok, ap, sym, codes}
-use Rattle.cal_policy.specs.declared.history.entry.PassEntry.{PassEntry}
-use Rattle.cal_trace.specs.Rows.SoFar.{at_start, whole}
+use Rattle.cal_trace.proofs.Common.{◌≡◌, ◌≤◌, ℕ, List, [], length, Ok, ap, sym, codes, PassEntry, at_start, whole, entry_at_hand, file_of, HasGiven, KeepsHistory, header_of, MOST_PASSES, read_under, Fields, rest_of, rows_of, Extent, Version}
 use Rattle.cal_trace.specs.History.{take_row}
-use Rattle.cal_trace.specs.History.Reading.{entry_at_hand, file_of, so_far, HasGiven, KeepsHistory}
-use Rattle.cal_trace.specs.Rows.Header.{header_of}
-use Rattle.cal_policy.specs.declared.history.entry.TheConstants.{MOST_PASSES}
-use Rattle.cal_trace.specs.Rows.Reading.{read_under}
-use Rattle.cal_trace.specs.Rows.{Fields, rest_of, rows_of}
-use Rattle.cal_trace.specs.declared.history.action_rows.Extent.{Extent}
+use Rattle.cal_trace.specs.History.Reading.{so_far}
 use Rattle.cal_trace.specs.declared.history.file.HistoryRows.{HistoryRows}
-use Rattle.cal_trace.specs.declared.rows.version.Version.{Version}
 use Rattle.cal_trace.proofs.RowLemmas.Passes.{few_counted}
 
 -- nothing was given yet

@@ -1,28 +1,18 @@
 -- A history of a policy that a file can hold is in range.
-use Rattle.std.proofs.Common.{◌≡◌, ◌≤◌, ◌==◌, not, ℕ, List, ◌++◌, length, take, true, Some, nat_lt, nat_le, slice_get, refl, ap, ◌∙◌, arith}
-use Rattle.std.proofs.lemmas.Bool.{and_parts, ltb-true, leb-true}
+use Rattle.cal_trace.proofs.Common.{◌≡◌, ◌≤◌, ◌==◌, not, ℕ, List, ◌++◌, length, take, true, Some, nat_lt, nat_le, slice_get, refl, ap, ◌∙◌, arith, and_parts, ltb-true, leb-true, no_task, Seen, Shown, Action, Free, Unban, Ban, Revoke, Cap, Grant, Cause, PassEntry, extent_of, IsLookInRange, IsCauseInRange, IsActionInRange, IsEntryInRange, IsInRange, HasWords, IsSized}
 use Rattle.cal_machine.specs.Machine.{sibling_of}
 use Rattle.cal_machine.specs.Table.{Table, IsTable}
-use Rattle.cal_machine.specs.Tasks.{no_task}
 use Rattle.cal_machine.specs.TableTasks.{limit_of, threads_of_table}
 use Rattle.cal_policy.specs.Board.Counts.{is_free, is_held, cores_of_thread}
 use Rattle.cal_policy.specs.History.{actions_of, holder_of, is_banned}
 use Rattle.cal_policy.specs.Judgement.Judging.{IsFitLook}
 use Rattle.cal_policy.specs.Judgement.Orderly.{fits_state, names_table}
 use Rattle.cal_policy.specs.Policies.{IsLegalBy}
-use Rattle.cal_policy.specs.declared.history.look.Seen.{Seen}
 use Rattle.cal_policy.specs.declared.history.look.Seen.TheVariants as seen
-use Rattle.cal_signal.specs.declared.shown.Shown.{Shown}
-use Rattle.cal_policy.specs.declared.history.action.Action.{Action}
-use Rattle.cal_policy.specs.declared.history.action.Action.TheVariants.{Free, Unban, Ban, Revoke, Cap, Grant}
-use Rattle.cal_policy.specs.declared.history.action.Cause.{Cause}
 use Rattle.cal_policy.specs.declared.history.action.Cause.TheVariants as causes
-use Rattle.cal_policy.specs.declared.history.entry.PassEntry.{PassEntry}
 use Rattle.cal_policy.specs.declared.policy.Policy.{Policy}
 use Rattle.cal_policy.proofs.PolicyLemmas.{orderly_by, short_by, class_by}
-use Rattle.cal_trace.specs.History.Reading.{extent_of}
 use Rattle.cal_trace.proofs.RowLemmas.Conjunctions.{and_three, and_four}
-use Rattle.cal_trace.specs.History.Ranges.{IsLookInRange, IsCauseInRange, IsActionInRange, IsEntryInRange, IsInRange, HasWords, IsSized}
 
 -- a look that fits
 look_ranges : (last : Shown) (look : Seen) → IsFitLook last look → IsLookInRange look

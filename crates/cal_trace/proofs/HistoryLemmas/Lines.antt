@@ -1,15 +1,7 @@
 -- The lines of a history, as they are written one after another.
-use Rattle.std.proofs.Common.{◌≡◌, ◌<◌, ◌+◌, ◌∙◌, ℕ, List, [], ◌∷◌, ◌++◌, append_assoc, Option, Bool, false, length, take, get_or, codes, slice_index_or, sym, ap, subst, zero-add}
-use Rattle.std.specs.Io.KnownBytes.{Appends}
-use Rattle.std.specs.List.{flat_map}
-use Rattle.std.proofs.KnownBytes.{Appends-trans}
-use Rattle.std.proofs.lemmas.Grind.{flat_map-append}
-use Rattle.cal_policy.specs.declared.history.look.Seen.{Seen}
-use Rattle.cal_policy.specs.declared.history.entry.PassEntry.{PassEntry}
-use Rattle.cal_trace.specs.History.Text.{look_fields, look_rows, entry_rows, header_row, end_fields, lines_of, begun_text, history_text}
-use Rattle.cal_trace.specs.Rows.Text.{line_of}
+use Rattle.cal_trace.proofs.Common.{◌≡◌, ◌<◌, ◌+◌, ◌∙◌, ℕ, List, [], ◌∷◌, ◌++◌, append_assoc, Option, Bool, false, length, take, get_or, codes, slice_index_or, sym, ap, subst, zero-add, Appends, flat_map, Appends-trans, flat_map-append, Seen, PassEntry, look_fields, look_rows, entry_rows, end_fields, lines_of, begun_text, history_text, line_of, WRITTEN}
+use Rattle.cal_trace.specs.History.Text.{header_row}
 use Rattle.cal_trace.specs.Rows.Version.{version_word}
-use Rattle.cal_trace.specs.declared.rows.version.TheConstants.Version.{WRITTEN}
 use Rattle.cal_trace.proofs.ListLemmas.Numbered.{numbered-more, flat_map-one}
 
 along : (a b : Option (List ℕ)) (s t : List ℕ) → s ≡ t → Appends a b s → Appends a b t

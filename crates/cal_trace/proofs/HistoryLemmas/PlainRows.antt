@@ -1,24 +1,10 @@
 -- The rows of a history in range have plain fields, so that its text is read as these rows.
-use Rattle.std.proofs.Common.{◌≡◌, ◌<◌, ◌+◌, ℕ, List, [], ◌∷◌, length, map, codes, Bool, true, false, decimal, slice_index_or, refl, arith}
-use Rattle.std.specs.List.{flat_map, list_any}
-use Rattle.csv.specs.Reading.{strip_bom}
+use Rattle.cal_trace.proofs.Common.{◌≡◌, ◌<◌, ◌+◌, ℕ, List, [], ◌∷◌, length, map, codes, Bool, true, false, decimal, slice_index_or, refl, arith, flat_map, list_any, strip_bom, Record, Seen, Action, Free, Unban, Ban, Revoke, Cap, Grant, Cause, PassEntry, room_number, record_fields, look_fields, look_rows, revocation_fields, action_fields, entry_rows, end_fields, history_rows, history_text, Each, IsWord, AreWords, HasLookWords, HasActionWord, IsCauseInRange, IsActionInRange, IsEntryInRange, IsInRange, rows_of, numbered, WRITTEN, Extent}
 use Rattle.csv.specs.Writing.{default_writer, needs_byte}
 use Rattle.cal_signal.specs.Records.{words_of}
-use Rattle.cal_signal.specs.declared.record.Record.{Record}
-use Rattle.cal_policy.specs.declared.history.look.Seen.{Seen}
 use Rattle.cal_policy.specs.declared.history.look.Seen.TheVariants as seen
-use Rattle.cal_policy.specs.declared.history.action.Action.{Action}
-use Rattle.cal_policy.specs.declared.history.action.Action.TheVariants.{Free, Unban, Ban, Revoke, Cap, Grant}
-use Rattle.cal_policy.specs.declared.history.action.Cause.{Cause}
 use Rattle.cal_policy.specs.declared.history.action.Cause.TheVariants as causes
-use Rattle.cal_policy.specs.declared.history.entry.PassEntry.{PassEntry}
-use Rattle.cal_trace.specs.History.Text.{room_number, record_fields, look_fields, look_rows, revocation_fields, action_fields, entry_rows, end_fields, history_rows, history_text}
-use Rattle.cal_trace.specs.History.Ranges.{Each, IsWord, AreWords, HasLookWords, HasActionWord, IsCauseInRange, IsActionInRange, IsEntryInRange, IsInRange}
-use Rattle.cal_trace.specs.Rows.{rows_of}
-use Rattle.cal_trace.specs.Rows.Text.{numbered}
 use Rattle.cal_trace.specs.Rows.Version.{version_word}
-use Rattle.cal_trace.specs.declared.rows.version.TheConstants.Version.{WRITTEN}
-use Rattle.cal_trace.specs.declared.history.action_rows.Extent.{Extent}
 use Rattle.cal_trace.proofs.ListLemmas.EachOne.{each_first, each_other}
 use Rattle.cal_trace.proofs.HistoryLemmas.Extents.{IsExtent, byte_word}
 use Rattle.cal_trace.proofs.RowLemmas.LinesRead.{ArePlain, IsPlainRow, ArePlainRows, plain_rows-append, text_read}

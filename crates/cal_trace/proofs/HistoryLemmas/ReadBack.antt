@@ -1,22 +1,8 @@
 -- The text of a history in range is read as that history.
-use Rattle.std.proofs.Common.{◌≡◌, ◌<◌, ◌≤◌, ◌+◌, ◌∙◌, ℕ, List, [], ◌∷◌, ◌++◌, length, map, codes, Bool, true, false, Some, Ok, slice_index_or, flat_map, refl, sym, ap, ap₂, subst, arith, append_assoc, append-nil, length-append}
-use Rattle.std.proofs.lemmas.Bool.{lt-ltb, eq-eqb}
-use Rattle.csv.specs.Records.{field_at}
-use Rattle.cal_policy.specs.declared.history.look.Seen.{Seen}
-use Rattle.cal_policy.specs.declared.history.action.Action.{Action}
-use Rattle.cal_policy.specs.declared.history.entry.PassEntry.{PassEntry}
-use Rattle.cal_trace.specs.Rows.Header.{header_of}
-use Rattle.cal_trace.specs.Rows.SoFar.{SoFar, at_start, passes_of, whole, is_between, next_thread}
-use Rattle.cal_trace.specs.History.{take_row, with_action, history_of, looks_in}
-use Rattle.cal_policy.specs.declared.history.action_list.TheConstants.{MOST_ACTIONS}
-use Rattle.cal_trace.specs.History.Text.{look_fields, action_fields, look_rows, pass_fields, entry_rows, header_row, end_fields, history_text}
-use Rattle.cal_policy.specs.declared.history.entry.TheConstants.{MOST_PASSES}
-use Rattle.cal_trace.specs.History.Ranges.{Each, HasLookWords, HasActionWord, IsLookInRange, IsActionInRange, IsEntryInRange, IsInRange}
-use Rattle.cal_trace.specs.Rows.Reading.{read_from, read_under}
-use Rattle.cal_trace.specs.Rows.{Fields, rows_of}
-use Rattle.cal_trace.specs.Rows.Text.{numbered}
-use Rattle.cal_trace.specs.declared.history.action_rows.Extent.{Extent}
-use Rattle.cal_trace.specs.declared.rows.version.TheConstants.Version.{WRITTEN}
+use Rattle.cal_trace.proofs.Common.{◌≡◌, ◌<◌, ◌≤◌, ◌+◌, ◌∙◌, ℕ, List, [], ◌∷◌, ◌++◌, length, map, codes, Bool, true, false, Some, Ok, slice_index_or, refl, sym, ap, ap₂, subst, arith, append_assoc, length-append, lt-ltb, eq-eqb, field_at, Seen, Action, PassEntry, header_of, SoFar, at_start, passes_of, whole, is_between, next_thread, with_action, history_of, MOST_ACTIONS, look_fields, action_fields, look_rows, entry_rows, end_fields, history_text, MOST_PASSES, Each, HasLookWords, HasActionWord, IsLookInRange, IsActionInRange, IsEntryInRange, IsInRange, read_from, read_under, Fields, rows_of, numbered, Extent, WRITTEN}
+use Rattle.std.proofs.Common.{flat_map, append-nil}
+use Rattle.cal_trace.specs.History.{take_row, looks_in}
+use Rattle.cal_trace.specs.History.Text.{pass_fields, header_row}
 use Rattle.cal_trace.proofs.ListLemmas.EachOne.{each_first, each_other}
 use Rattle.cal_trace.proofs.RowLemmas.Readings.{one_row, ends}
 use Rattle.cal_trace.proofs.HistoryLemmas.Extents.{IsExtent, byte_word}

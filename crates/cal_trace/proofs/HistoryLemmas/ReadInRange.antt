@@ -1,40 +1,16 @@
 -- A history that was read is in range.
-use Rattle.std.proofs.Common.{◌≡◌, ◌<◌, ◌≤◌, ◌+◌, ◌-◌, ◌*◌, ◌^◌, ◌==◌, ◌&&◌, not, ℕ, zero, suc, List, [], ◌∷◌, ◌++◌, length, map, codes, Bool, true, false, Option, Some, None, Result, Ok, Err, nat_lt, nat_le, option_and_then, option_map, option_to_list, if◌then◌else◌, refl, sym, subst, arith, append-nil, length-append, unwrap_or}
+use Rattle.cal_trace.proofs.Common.{◌≡◌, ◌<◌, ◌≤◌, ◌+◌, ◌-◌, ◌*◌, ◌^◌, ◌==◌, ◌&&◌, not, ℕ, zero, suc, List, [], ◌∷◌, ◌++◌, length, map, codes, Bool, true, false, Option, Some, None, Result, Ok, Err, nat_lt, nat_le, option_and_then, option_to_list, if◌then◌else◌, refl, sym, subst, arith, length-append, unwrap_or, range_with_len, and_parts, ltb-true, leb-true, eqb-true, field_at, Seen, Action, Free, Unban, Ban, Revoke, Cap, Grant, PassEntry, number_in, number_at, is_number_at, has_numbers, header_of, SoFar, at_start, passes_of, add_pass, add_look, add_end, take_look, whole, is_full, is_between, next_thread, take_action, judged, add_action, begun, with_action, history_of, MOST_ACTIONS, is_possible, look_of, look_row, pass_row, end_row, MOST_PASSES, with_digit, digits_of, spelled_number, Each, IsWord, AreWords, HasLookWords, HasActionWord, HasWords, IsLookInRange, IsActionInRange, IsEntryInRange, IsInRange, Fields, record_of, Look, WORDS, shaped_holds, pair_holds, Extent, FaultKind, LookForm, FoundLook, GivenPass}
+use Rattle.std.proofs.Common.{option_map, append-nil}
 use Rattle.std.specs.Char.{is_ascii_digit}
-use Rattle.std.specs.List.{range_with_len}
-use Rattle.std.proofs.lemmas.Bool.{and_parts, ltb-true, leb-true, eqb-true}
-use Rattle.csv.specs.Records.{field_at}
-use Rattle.cal_policy.specs.declared.history.look.Seen.{Seen}
-use Rattle.cal_policy.specs.declared.history.action.Action.{Action}
-use Rattle.cal_policy.specs.declared.history.action.Action.TheVariants.{Free, Unban, Ban, Revoke, Cap, Grant}
 use Rattle.cal_policy.specs.declared.history.action.Cause.TheVariants as causes
-use Rattle.cal_policy.specs.declared.history.entry.PassEntry.{PassEntry}
 use Rattle.cal_trace.specs.History.ActionRows.{action_row, made, core_row, ban_row, revoke_row, revoke_for_bandwidth_row, cap_row, grant_row}
-use Rattle.cal_trace.specs.Rows.RowFields.{number_in, number_at, is_number_at, has_numbers}
-use Rattle.cal_trace.specs.Rows.Header.{header_of}
-use Rattle.cal_trace.specs.Rows.SoFar.{SoFar, at_start, passes_of, add_pass, add_look, add_end, take_look, whole, is_full, is_between, next_thread}
-use Rattle.cal_trace.specs.History.{form_of, take_row, take_form, take_action, judged, add_action, begun, with_look, with_action, history_of, looks_in}
-use Rattle.cal_policy.specs.declared.history.action_list.TheConstants.{MOST_ACTIONS}
-use Rattle.cal_trace.specs.Rows.LookRows.{is_possible, look_of, look_row, pass_row, end_row}
-use Rattle.cal_policy.specs.declared.history.entry.TheConstants.{MOST_PASSES}
-use Rattle.cal_trace.specs.Rows.Number.{with_digit, digits_of, spelled_number}
-use Rattle.cal_trace.specs.History.Ranges.{Each, IsWord, AreWords, HasLookWords, HasActionWord, HasWords, IsLookInRange, IsActionInRange, IsEntryInRange, IsInRange}
-use Rattle.cal_trace.specs.Rows.{Fields}
-use Rattle.cal_trace.specs.Rows.Shown.{record_of}
-use Rattle.cal_signal.specs.declared.look.Look.{Look}
-use Rattle.cal_signal.specs.declared.record.TheConstants.{WORDS}
-use Rattle.cal_signal.proofs.Testing.{shaped_holds, pair_holds}
+use Rattle.cal_trace.specs.History.{form_of, take_row, take_form, with_look, looks_in}
 use Rattle.cal_trace.specs.declared.history.action_rows.ActionForm.{ActionForm}
 use Rattle.cal_trace.specs.declared.history.action_rows.ActionForm.TheVariants as act
-use Rattle.cal_trace.specs.declared.history.action_rows.Extent.{Extent}
-use Rattle.cal_trace.specs.declared.fault.FaultKind.{FaultKind}
 use Rattle.cal_trace.specs.declared.fault.FaultKind.TheVariants as kind
 use Rattle.cal_trace.specs.declared.history.reading.Form.{Form}
 use Rattle.cal_trace.specs.declared.history.reading.Form.TheVariants as form
-use Rattle.cal_trace.specs.declared.rows.look_rows.LookForm.{LookForm}
 use Rattle.cal_trace.specs.declared.rows.look_rows.LookForm.TheVariants as looks
-use Rattle.cal_policy.specs.declared.judgement.open_input.FoundLook.{FoundLook}
-use Rattle.cal_trace.specs.declared.arrivals.GivenPass.{GivenPass}
 use Rattle.cal_trace.proofs.RowLemmas.Conjunctions.{and_four}
 use Rattle.cal_trace.proofs.RowLemmas.Checks.{same_ok, check_one, check_two, row_look}
 use Rattle.cal_trace.proofs.ListLemmas.EachOne.{each_none, each_cons, each_push}

@@ -1,28 +1,11 @@
 -- The row of a record: its words are read as they were written.
-use Rattle.std.proofs.Common.{◌≡◌, ◌<◌, ◌+◌, ◌==◌, ◌&&◌, ◌∙◌, ℕ, zero, suc, List, [], ◌∷◌, length, map, codes, Bool, true, false, Ok, Result, decimal, nat_lt, get_or, option_and_then, unwrap_or, refl, sym, ap, ap₂, arith}
-use Rattle.std.proofs.lemmas.Bool.{eq-eqb}
-use Rattle.std.proofs.lemmas.Grind.{same_number_lists}
+use Rattle.cal_trace.proofs.Common.{◌≡◌, ◌<◌, ◌+◌, ◌==◌, ◌&&◌, ◌∙◌, ℕ, zero, suc, List, [], ◌∷◌, length, map, codes, Bool, true, false, Ok, Result, decimal, nat_lt, get_or, option_and_then, unwrap_or, refl, sym, ap, ap₂, arith, eq-eqb, same_number_lists, field_at, is_shaped, is_busy_pair, Look, Record, WORDS, Each, IsWord, AreWords, room_number, record_fields, check, is_possible, look_of, look_row, spelled_number, number_at, has_numbers, all_numbers, shown_words, record_of, Fields, FaultKind, LookForm, FoundLook}
 use Rattle.std.proofs.lemmas.List.FromFn.{length-map-range_with_len, get_or-map-range_with_len}
-use Rattle.csv.specs.Records.{field_at}
 use Rattle.cal_signal.specs.Records as records
 use Rattle.cal_signal.specs.Records.{words_of, words-are}
-use Rattle.cal_signal.specs.Tests.{is_shaped, is_busy_pair}
-use Rattle.cal_signal.specs.declared.look.Look.{Look}
 use Rattle.cal_signal.specs.declared.look.Look.TheVariants as looks
-use Rattle.cal_signal.specs.declared.record.Record.{Record}
-use Rattle.cal_signal.specs.declared.record.TheConstants.{WORDS}
-use Rattle.cal_trace.specs.History.Ranges.{Each, IsWord, AreWords}
-use Rattle.cal_trace.specs.History.Text.{room_number, record_fields}
-use Rattle.cal_trace.specs.Rows.LookRows.{check, is_possible, look_of, look_row}
-use Rattle.cal_trace.specs.Rows.Number.{spelled_number}
-use Rattle.cal_trace.specs.Rows.RowFields.{number_at, has_numbers, all_numbers}
-use Rattle.cal_trace.specs.Rows.Shown.{shown_words, record_of}
-use Rattle.cal_trace.specs.Rows.{Fields}
-use Rattle.cal_trace.specs.declared.fault.FaultKind.{FaultKind}
 use Rattle.cal_trace.specs.declared.fault.FaultKind.TheVariants as kind
-use Rattle.cal_trace.specs.declared.rows.look_rows.LookForm.{LookForm}
 use Rattle.cal_trace.specs.declared.rows.look_rows.LookForm.TheVariants as form
-use Rattle.cal_policy.specs.declared.judgement.open_input.FoundLook.{FoundLook}
 use Rattle.cal_trace.proofs.HistoryLemmas.PlainRows.{room_word}
 use Rattle.cal_trace.proofs.ListLemmas.EachOne.{each_first, each_other}
 use Rattle.cal_trace.proofs.RowLemmas.Checks.{good}

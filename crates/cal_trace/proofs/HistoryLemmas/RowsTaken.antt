@@ -1,34 +1,15 @@
 -- The rows of a history's text, each taken for what it was written of.
-use Rattle.std.proofs.Common.{◌≡◌, ◌<◌, ◌==◌, ◌∙◌, ℕ, List, [], ◌∷◌, ◌++◌, length, codes, Bool, true, false, Some, None, Ok, decimal, nat_lt, nat_le, refl, ap, arith}
-use Rattle.std.proofs.lemmas.Bool.{lt-ltb, le-leb, eq-eqb}
-use Rattle.csv.specs.Records.{field_at}
-use Rattle.cal_signal.specs.declared.record.Record.{Record}
-use Rattle.cal_policy.specs.declared.history.look.Seen.{Seen}
+use Rattle.cal_trace.proofs.Common.{◌≡◌, ◌<◌, ◌==◌, ◌∙◌, ℕ, List, [], ◌∷◌, ◌++◌, length, codes, Bool, true, false, Some, None, Ok, decimal, nat_lt, nat_le, refl, ap, arith, lt-ltb, le-leb, eq-eqb, field_at, Record, Seen, Action, Free, Unban, Ban, Revoke, Cap, Grant, Cause, PassEntry, SoFar, passes_of, is_between, next_thread, add_look, take_look, add_action, begun, with_action, MOST_ACTIONS, room_number, record_fields, look_fields, revocation_fields, action_fields, end_fields, check, look_row, MOST_PASSES, IsWord, HasLookWords, HasActionWord, IsLookInRange, IsCauseInRange, IsActionInRange, Fields, shaped_test, pair_test, Extent, LookForm, FoundLook, WRITTEN}
 use Rattle.cal_policy.specs.declared.history.look.Seen.TheVariants as seen
-use Rattle.cal_policy.specs.declared.history.action.Action.{Action}
-use Rattle.cal_policy.specs.declared.history.action.Action.TheVariants.{Free, Unban, Ban, Revoke, Cap, Grant}
-use Rattle.cal_policy.specs.declared.history.action.Cause.{Cause}
 use Rattle.cal_policy.specs.declared.history.action.Cause.TheVariants as causes
-use Rattle.cal_policy.specs.declared.history.entry.PassEntry.{PassEntry}
 use Rattle.cal_trace.specs.History.ActionRows.{action_row, made, core_row, ban_row, revoke_row, revoke_for_bandwidth_row, cap_row, grant_row}
-use Rattle.cal_trace.specs.Rows.SoFar.{SoFar, passes_of, is_between, next_thread, add_look, take_look}
-use Rattle.cal_trace.specs.History.{form_of, take_row, take_form, add_action, begun, with_look, with_action, looks_in}
-use Rattle.cal_policy.specs.declared.history.action_list.TheConstants.{MOST_ACTIONS}
-use Rattle.cal_trace.specs.History.Text.{room_number, record_fields, look_fields, revocation_fields, action_fields, pass_fields, end_fields}
-use Rattle.cal_trace.specs.Rows.LookRows.{check, look_row}
-use Rattle.cal_policy.specs.declared.history.entry.TheConstants.{MOST_PASSES}
-use Rattle.cal_trace.specs.History.Ranges.{IsWord, HasLookWords, HasActionWord, IsLookInRange, IsCauseInRange, IsActionInRange}
-use Rattle.cal_trace.specs.Rows.{Fields}
-use Rattle.cal_signal.proofs.Testing.{shaped_test, pair_test}
+use Rattle.cal_trace.specs.History.{form_of, take_row, take_form, with_look, looks_in}
+use Rattle.cal_trace.specs.History.Text.{pass_fields}
 use Rattle.cal_trace.specs.declared.history.action_rows.ActionForm.{ActionForm}
 use Rattle.cal_trace.specs.declared.history.action_rows.ActionForm.TheVariants as act
-use Rattle.cal_trace.specs.declared.history.action_rows.Extent.{Extent}
 use Rattle.cal_trace.specs.declared.fault.FaultKind.TheVariants as kind
 use Rattle.cal_trace.specs.declared.history.reading.Form.TheVariants as form
-use Rattle.cal_trace.specs.declared.rows.look_rows.LookForm.{LookForm}
 use Rattle.cal_trace.specs.declared.rows.look_rows.LookForm.TheVariants as looks
-use Rattle.cal_policy.specs.declared.judgement.open_input.FoundLook.{FoundLook}
-use Rattle.cal_trace.specs.declared.rows.version.TheConstants.Version.{WRITTEN}
 use Rattle.cal_trace.proofs.HistoryLemmas.Extents.{IsExtent, byte_word}
 use Rattle.cal_trace.proofs.HistoryLemmas.RecordRows.{busy_read, record_read}
 use Rattle.cal_trace.proofs.RowLemmas.Spelled.{IsSpelled, spelled}

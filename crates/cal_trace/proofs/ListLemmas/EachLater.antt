@@ -1,10 +1,6 @@
 -- Lists each of whose members stands so to each later one.
-use Rattle.std.proofs.Common.{◌≡◌, ◌<◌, ◌≤◌, ◌-◌, ◌⊎◌, inl, inr, ℕ, zero, suc, List, [], ◌∷◌, ◌++◌, length, Some, slice_get, get_or, refl, arith, subst}
-use Rattle.std.proofs.lemmas.Bool.{cases_lt}
+use Rattle.cal_trace.proofs.Common.{◌≡◌, ◌<◌, ◌≤◌, ◌-◌, ◌⊎◌, inl, inr, ℕ, zero, suc, List, [], ◌∷◌, ◌++◌, length, Some, slice_get, get_or, refl, arith, subst, cases_lt, last_in, EachLater, Each}
 use Rattle.std.proofs.lemmas.Option.{slice_get_within, slice_get-get_or}
-use Rattle.cal_trace.specs.Arrivals.{last_in}
-use Rattle.cal_trace.specs.Arrivals.FitsTable.{EachLater}
-use Rattle.cal_trace.specs.History.Ranges.{Each}
 use Rattle.cal_trace.proofs.ListLemmas.EachOne.{each_none, each_first, each_other, each_push}
 
 pub later_none : {X : Type 0} (P : X → X → Type 0) → EachLater P []

@@ -1,6 +1,5 @@
 -- Lists each of whose members is so.
-use Rattle.std.proofs.Common.{◌≡◌, ℕ, zero, suc, List, [], ◌∷◌, ◌++◌, Some, slice_get, subst, refl}
-use Rattle.cal_trace.specs.History.Ranges.{Each}
+use Rattle.cal_trace.proofs.Common.{◌≡◌, ℕ, zero, suc, List, [], ◌∷◌, ◌++◌, Some, slice_get, subst, refl, Each}
 
 -- the first of a list, and the others
 pub each_first : {X : Type 0} (P : X → Type 0) (x : X) (xs : List X) → Each P (x ∷ xs) → P x

@@ -1,10 +1,5 @@
 -- What is made of each member of a list and its number, with one more member.
-use Rattle.std.proofs.Common.{◌≡◌, ◌<◌, ◌+◌, ◌∙◌, ℕ, zero, suc, List, [], ◌∷◌, ◌++◌, length, take, get_or, refl, sym, ap, arith, add-one, add-zero, append_assoc, zero-add, subst, Option}
-use Rattle.std.proofs.lemmas.List.{append-nil}
-use Rattle.std.specs.Io.KnownBytes.{Appends}
-use Rattle.std.specs.List.{concat, flat_map}
-use Rattle.std.proofs.KnownBytes.{Appends-trans}
-use Rattle.cal_trace.specs.Rows.Text.{numbered}
+use Rattle.cal_trace.proofs.Common.{◌≡◌, ◌<◌, ◌+◌, ◌∙◌, ℕ, zero, suc, List, [], ◌∷◌, ◌++◌, length, take, get_or, refl, sym, ap, arith, add-one, add-zero, append_assoc, zero-add, subst, Option, append-nil, Appends, concat, flat_map, Appends-trans, numbered}
 
 pub numbered-more : {X Y : Type 0} → (f : ℕ → X → Y) (n : ℕ) (xs : List X) (i : ℕ) (d : X) → i < length xs
     → numbered f n (take (i + 1) xs) ≡ numbered f n (take i xs) ++ f (n + i) (get_or xs i d) ∷ []

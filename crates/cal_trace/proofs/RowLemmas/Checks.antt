@@ -1,14 +1,6 @@
 -- What checks that passed say.
-use Rattle.std.proofs.Common.{◌≡◌, ◌==◌, ◌&&◌, nat_lt, ℕ, Bool, true, false, Result, Ok, refl, ap, subst}
-use Rattle.std.proofs.lemmas.Bool.{and_parts}
-use Rattle.cal_signal.specs.declared.look.Look.{Look}
-use Rattle.cal_policy.specs.declared.judgement.open_input.FoundLook.{FoundLook}
-use Rattle.cal_trace.specs.Rows.LookRows.{check, is_possible, look_of, look_row}
-use Rattle.cal_trace.specs.Rows.RowFields.{has_numbers, number_at}
-use Rattle.cal_trace.specs.Rows.{Fields}
-use Rattle.cal_trace.specs.declared.rows.look_rows.LookForm.{LookForm}
+use Rattle.cal_trace.proofs.Common.{◌≡◌, ◌==◌, ◌&&◌, nat_lt, ℕ, Bool, true, false, Result, Ok, refl, ap, subst, and_parts, Look, FoundLook, check, is_possible, look_of, look_row, has_numbers, number_at, Fields, LookForm, FaultKind}
 use Rattle.cal_trace.specs.declared.fault.FaultKind.TheVariants as kind
-use Rattle.cal_trace.specs.declared.fault.FaultKind.{FaultKind}
 
 abbrev pub good : {X : Type 0} → X → Result X FaultKind
 good x = Ok x

@@ -1,8 +1,6 @@
 -- Reading digits one after the other.
-use Rattle.std.proofs.Common.{◌≡◌, ◌<◌, ◌≤◌, ◌+◌, ◌*◌, ◌^◌, ℕ, suc, List, length, drop, get_or, Some, None, refl, ap, ◌∙◌, arith, pow-suc}
+use Rattle.cal_trace.proofs.Common.{◌≡◌, ◌<◌, ◌≤◌, ◌+◌, ◌*◌, ◌^◌, ℕ, suc, List, length, drop, get_or, Some, None, refl, ap, ◌∙◌, arith, pow-suc, drop_all, drop_more, digits_of, with_digit}
 use Rattle.std.proofs.Math.Nat.{pow-le-pow_right}
-use Rattle.std.proofs.lemmas.List.{drop_all, drop_more}
-use Rattle.cal_trace.specs.Rows.Number.{digits_of, with_digit}
 
 pub no_digit : (n : ℕ) (field : List ℕ) (i : ℕ) → i < length field → with_digit n (get_or field i 0) ≡ None → digits_of n (drop i field) ≡ None
 unfolding digits_of

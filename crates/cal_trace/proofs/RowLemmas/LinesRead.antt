@@ -1,13 +1,8 @@
 -- Lines of plain fields, as rows again.
-use Rattle.std.proofs.Common.{◌≡◌, ◌<◌, ◌≤◌, ◌+◌, ◌∙◌, ℕ, zero, suc, List, [], ◌∷◌, ◌++◌, length, Some, refl, ap, arith, append_assoc, length-append}
-use Rattle.std.proofs.lemmas.Bool.{ne_eqb}
+use Rattle.cal_trace.proofs.Common.{◌≡◌, ◌<◌, ◌≤◌, ◌+◌, ◌∙◌, ℕ, zero, suc, List, [], ◌∷◌, ◌++◌, length, Some, refl, ap, arith, append_assoc, length-append, ne_eqb, default_config, records_from, strip_bom, lines_of, Fields, rows_of, after_first, line_of}
 use Rattle.csv.specs.Machine.{next_record}
-use Rattle.csv.specs.Reading.{default_config, records_from, strip_bom}
 use Rattle.csv.specs.declared.parser.State.TheVariants as st
 use Rattle.csv.proofs.RoundTrip.{plain-run, start-same, record-same}
-use Rattle.cal_trace.specs.History.Text.{lines_of}
-use Rattle.cal_trace.specs.Rows.{Fields, rows_of}
-use Rattle.cal_trace.specs.Rows.Text.{after_first, line_of}
 use Rattle.cal_trace.proofs.RowLemmas.Spelled.{IsPlain}
 
 -- fields that are read as they stand

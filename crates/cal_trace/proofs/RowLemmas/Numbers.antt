@@ -1,9 +1,5 @@
 -- The numbers among a row's fields.
-use Rattle.std.proofs.Common.{◌≡◌, ◌<◌, ◌≤◌, ◌+◌, ℕ, zero, suc, true, false, List, [], ◌∷◌, length, drop, Some, refl, arith, add-one}
-use Rattle.std.proofs.lemmas.List.{drop_all}
-use Rattle.csv.specs.Records.{field_at}
-use Rattle.cal_trace.specs.Rows.{Fields}
-use Rattle.cal_trace.specs.Rows.RowFields.{is_number_at, all_numbers}
+use Rattle.cal_trace.proofs.Common.{◌≡◌, ◌<◌, ◌≤◌, ◌+◌, ℕ, zero, suc, true, false, List, [], ◌∷◌, length, drop, Some, refl, arith, add-one, drop_all, field_at, Fields, is_number_at, all_numbers}
 
 -- the field at a place, and those after it
 at_place : (fields : Fields) (i : ℕ) → i < length fields → (f : List ℕ) × (field_at fields i ≡ Some f) × (drop i fields ≡ f ∷ drop (i + 1) fields)

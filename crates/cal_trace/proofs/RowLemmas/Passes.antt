@@ -1,18 +1,10 @@
 -- Passes that are handed out one by one, and the pass at hand.
-use Rattle.std.proofs.Common.{◌≡◌, ◌∙◌, ◌+◌, ◌<◌, ◌≤◌, ℕ, List, [], ◌∷◌, ◌++◌, length, length-append, Option, Some, None, Result, Ok, Err, nat_lt, ap, sym, arith}
-use Rattle.std.proofs.lemmas.Bool.{ltb-true}
-use Rattle.std.specs.Option.{option_map, option_to_list}
+use Rattle.cal_trace.proofs.Common.{◌≡◌, ◌∙◌, ◌+◌, ◌<◌, ◌≤◌, ℕ, List, [], ◌∷◌, ◌++◌, length, length-append, Option, Some, None, Result, Ok, Err, nat_lt, ap, sym, arith, ltb-true, option_map, IsCounted, Fields, check, pass_row, has_numbers, number_at, FaultKind, TraceFault, GivenPass, MOST_PASSES}
+use Rattle.std.specs.Option.{option_to_list}
 use Rattle.cal_trace.specs.Rows.Passes.{with_closed, GivesNext}
-use Rattle.cal_trace.specs.Rows.SoFar.{so_far, IsCounted}
+use Rattle.cal_trace.specs.Rows.SoFar.{so_far}
 use Rattle.cal_trace.specs.declared.rows.so_far.PassesSoFar.{PassesSoFar}
-use Rattle.cal_trace.specs.Rows.{Fields}
-use Rattle.cal_trace.specs.Rows.LookRows.{check, pass_row}
-use Rattle.cal_trace.specs.Rows.RowFields.{has_numbers, number_at}
-use Rattle.cal_trace.specs.declared.fault.FaultKind.{FaultKind}
 use Rattle.cal_trace.specs.declared.fault.FaultKind.TheVariants as kinds
-use Rattle.cal_trace.specs.declared.fault.TraceFault.{TraceFault}
-use Rattle.cal_trace.specs.declared.arrivals.GivenPass.{GivenPass}
-use Rattle.cal_policy.specs.declared.history.entry.TheConstants.{MOST_PASSES}
 use Rattle.cal_trace.proofs.RowLemmas.Checks.{check_one}
 use Rattle.cal_trace.proofs.RowLemmas.Refusals.{decided}
 

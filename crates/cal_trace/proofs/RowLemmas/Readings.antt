@@ -1,11 +1,5 @@
 -- Files, row by row.
-use Rattle.std.proofs.Common.{◌≡◌, ◌+◌, ℕ, List, [], ◌∷◌, Ok, Err, Option, Some, None, Result, refl, ap, sym, ◌∙◌}
-use Rattle.cal_trace.specs.Rows.Answers.{ButMemory, Decided}
-use Rattle.cal_trace.specs.Rows.Reading.{and_then, ending, read_from, read_under}
-use Rattle.cal_trace.specs.Rows.{Fields}
-use Rattle.cal_trace.specs.declared.fault.FaultKind.{FaultKind}
-use Rattle.cal_trace.specs.declared.fault.TraceFault.{TraceFault}
-use Rattle.cal_trace.specs.declared.rows.version.Version.{Version}
+use Rattle.cal_trace.proofs.Common.{◌≡◌, ◌+◌, ℕ, List, [], ◌∷◌, Ok, Err, Option, Some, None, Result, refl, ap, sym, ◌∙◌, ButMemory, Decided, and_then, ending, read_from, read_under, Fields, FaultKind, TraceFault, Version}
 use Rattle.cal_trace.proofs.RowLemmas.Refusals.{decided, row_decided}
 
 module _ {So Value : Type 0} (take : So → Fields → Result So FaultKind) (value : So → Option Value) (so_far : So) (row : ℕ) where

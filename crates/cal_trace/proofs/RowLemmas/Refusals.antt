@@ -1,6 +1,5 @@
 -- What the rows decide, and what they do not.
-use Rattle.cal_trace.specs.Rows.Answers.{ButMemory, Decided, IsRefused}
-use Rattle.cal_trace.specs.declared.fault.FaultKind.{FaultKind}
+use Rattle.cal_trace.proofs.Common.{ButMemory, Decided, IsRefused, FaultKind}
 use Rattle.cal_trace.specs.declared.fault.FaultKind.TheVariants as kind
 
 -- a refusal meets any clause

@@ -1,7 +1,6 @@
 -- The rows that a reader has still to give, step by step.
-use Rattle.std.proofs.Common.{Bor, ◌≡◌, ◌<◌, ◌≤◌, ◌+◌, ◌-◌, ◌==◌, ◌&&◌, not, if◌then◌else◌, ℕ, zero, suc, Bool, true, false, List, [], ◌∷◌, ◌++◌, length, Option, Some, None, refl, sym, ap, ◌∙◌, arith, add-one, take, drop}
+use Rattle.cal_trace.proofs.Common.{Bor, ◌≡◌, ◌<◌, ◌≤◌, ◌+◌, ◌-◌, ◌==◌, ◌&&◌, not, if◌then◌else◌, ℕ, zero, suc, Bool, true, false, List, [], ◌∷◌, ◌++◌, length, Option, Some, None, refl, sym, ap, ◌∙◌, arith, add-one, take, drop, Reached, ReadRecord, default_config, records, records_from, records_next, source_of, strip_bom, has_failed, is_bom, Fields, rows_from}
 use Rattle.csv.specs.Machine.{Read, next_record, step, in_field, start_field, start_record, ends_with, is_end, ends_at_end, fields_after, field_after}
-use Rattle.csv.specs.Reading.{Reached, ReadRecord, default_config, records, records_from, records_next, source_of, strip_bom, has_failed, is_bom}
 use Rattle.csv.specs.declared.parser.Action.{Action}
 use Rattle.csv.specs.declared.parser.Action.TheVariants as act
 use Rattle.csv.specs.declared.parser.Terminator.TheVariants as term
@@ -9,7 +8,6 @@ use Rattle.csv.specs.declared.parser.State.{State}
 use Rattle.csv.specs.declared.parser.State.TheVariants as st
 use Rattle.csv.specs.declared.reader.Reader.{Reader}
 use Rattle.csv.proofs.ReadFacts.{rows-end, rows-more}
-use Rattle.cal_trace.specs.Rows.{Fields, rows_from}
 
 -- where a byte has ended a record, the end of the text ends no other
 Quiet : State × Action → Type 0

@@ -1,12 +1,8 @@
 -- Decimal text: what it spells, and that no byte of it is a mark of the rows.
-use Rattle.std.proofs.Common.{◌≡◌, ◌<◌, ◌≤◌, ◌+◌, ◌-◌, ◌*◌, ◌/◌, ◌%◌, ◌^◌, ◌||◌, ◌∙◌, ℕ, List, [], ◌∷◌, ◌++◌, Option, Some, None, Bool, true, false, decimal, option_and_then, refl, sym, ap, arith}
+use Rattle.cal_trace.proofs.Common.{◌≡◌, ◌<◌, ◌≤◌, ◌+◌, ◌-◌, ◌*◌, ◌/◌, ◌%◌, ◌^◌, ◌||◌, ◌∙◌, ℕ, List, [], ◌∷◌, ◌++◌, Option, Some, None, Bool, true, false, decimal, option_and_then, refl, sym, ap, arith, list_any, ne_eqb, lt-ltb, nat_tests, with_digit, digits_of, spelled_number}
 use Rattle.std.specs.Char.{is_ascii_digit}
-use Rattle.std.specs.List.{list_any}
-use Rattle.std.proofs.lemmas.Bool.{ne_eqb, lt-ltb}
-use Rattle.std.proofs.lemmas.Bool.Decides.{nat_tests}
 use Rattle.std.proofs.lemmas.Fmt.{decimal_by_steps}
 use Rattle.csv.specs.Writing.{default_writer, needs_byte}
-use Rattle.cal_trace.specs.Rows.Number.{with_digit, digits_of, spelled_number}
 
 -- a field that is read as it stands: no byte of it calls for quotes, and its first is no mark
 pub record IsPlain (field : List ℕ) : Type 0 where

@@ -1,12 +1,8 @@
 -- What an error of `csv` leaves of a reader of rows.
-use Rattle.std.proofs.Common.{◌≡◌, ℕ, List, Option, true, false, refl, sym, ◌∙◌}
-use Rattle.std.proofs.lemmas.Bool.{false≢true}
-use Rattle.csv.specs.Reading.{ExplainsRead, has_failed, is_flexible, stops_reader}
+use Rattle.cal_trace.proofs.Common.{◌≡◌, ℕ, List, Option, true, false, refl, sym, ◌∙◌, false≢true, ExplainsRead, has_failed, is_flexible, stops_reader, IsRefused, kind_of, IsReading}
 use Rattle.csv.specs.declared.error.ErrorKind.{ErrorKind}
 use Rattle.csv.specs.declared.error.ErrorKind.TheVariants as why
 use Rattle.csv.specs.declared.reader.Reader.{Reader}
-use Rattle.cal_trace.specs.Rows.Answers.{IsRefused, kind_of}
-use Rattle.cal_trace.specs.Rows.{IsReading}
 use Rattle.cal_trace.specs.declared.rows.Rows.{Rows}
 
 -- a reader that takes rows of any length, as bytes, stops at each error

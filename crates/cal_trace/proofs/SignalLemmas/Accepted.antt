@@ -1,31 +1,16 @@
 -- The signals of an accepted file fit: the checks of its rows say so.
-use Rattle.std.proofs.Common.{◌≡◌, ◌<◌, ◌≤◌, nat_lt, ℕ, Bool, true, false, not, List, [], ◌∷◌, ◌++◌, length, Option, Some, None, option_to_list, Result, Ok, Err, if◌then◌else◌, inl, inr, subst, refl, ◌∙◌, arith, length-append, codes}
-use Rattle.std.proofs.lemmas.List.{append-nil, take-append-le, take_all}
+use Rattle.cal_trace.proofs.Common.{◌≡◌, ◌<◌, ◌≤◌, nat_lt, ℕ, Bool, true, false, not, List, [], ◌∷◌, ◌++◌, length, Option, Some, None, option_to_list, Result, Ok, Err, if◌then◌else◌, inl, inr, subst, refl, ◌∙◌, arith, length-append, codes, append-nil, take-append-le, take_all, header_of, is_possible, look_row, Fields, is_shown_after, Look, shaped_holds, follows_holds, pair_holds, SoFar, at_start, passes_of, add_pass, add_look, add_end, take_look, whole, is_full, last_shown, shown_by, with_look, following, next_look, signals_of, looks_in, FaultKind, GivenPass, LookForm, Shown, FoundLook, SignalPass, and_parts}
 use Rattle.std.specs.Option.{unwrap_or}
-use Rattle.cal_trace.specs.Rows.Header.{header_of}
-use Rattle.cal_trace.specs.Rows.LookRows.{is_possible, look_row}
-use Rattle.cal_trace.specs.Rows.{Fields}
-use Rattle.cal_signal.specs.Tests.{is_shown_after}
-use Rattle.cal_signal.specs.declared.look.Look.{Look}
 use Rattle.cal_signal.specs.declared.look.Look.TheVariants as looks
-use Rattle.cal_signal.proofs.Testing.{shaped_holds, follows_holds, pair_holds}
 use Rattle.cal_machine.proofs.Last.{last_or_before, slice_get-last}
 use Rattle.cal_trace.proofs.SignalLemmas.LastShown.{last_shown-silent}
-use Rattle.cal_trace.specs.Rows.SoFar.{SoFar, at_start, passes_of, add_pass, add_look, add_end, take_look, whole, is_full}
-use Rattle.cal_trace.specs.Signals.{last_shown, shown_by, with_look, following, next_look, take_form, take_row, form_of, signals_of, looks_in, begun}
-use Rattle.cal_trace.specs.declared.fault.FaultKind.{FaultKind}
+use Rattle.cal_trace.specs.Signals.{take_form, take_row, form_of, begun}
 use Rattle.cal_trace.specs.declared.fault.FaultKind.TheVariants as kinds
-use Rattle.cal_trace.specs.declared.arrivals.GivenPass.{GivenPass}
-use Rattle.cal_trace.specs.declared.rows.look_rows.LookForm.{LookForm}
-use Rattle.cal_signal.specs.declared.shown.Shown.{Shown}
-use Rattle.cal_policy.specs.declared.judgement.open_input.FoundLook.{FoundLook}
-use Rattle.cal_trace.specs.declared.signals.SignalPass.{SignalPass}
 use Rattle.cal_trace.specs.declared.signals.reading.Form.{Form}
 use Rattle.cal_trace.specs.declared.signals.reading.Form.TheVariants as form
 use Rattle.cal_trace.proofs.RowLemmas.Checks.{check_one, row_look, same_ok}
 use Rattle.cal_trace.proofs.RowLemmas.Readings.{kept_under}
 use Rattle.cal_trace.specs.Signals.Fitting.{IsFitting, AreFitting, IsFittingPass, AreFittingPasses, IsHand, IsFittingSoFar}
-use Rattle.std.proofs.lemmas.Bool.{and_parts}
 
 -- one look more
 AreFitting-append : (before : List SignalPass) (looks : List FoundLook) (seen : FoundLook) → AreFitting before looks

@@ -1,18 +1,11 @@
 -- What threads showed last, with one more pass and with one more look.
-use Rattle.std.proofs.Common.{◌≡◌, ◌≢◌, ◌<◌, ◌≤◌, slice_get, ℕ, List, [], ◌∷◌, ◌++◌, length, Option, Some, None, Ok, Err, Bool, true, false, nat_lt, if◌then◌else◌, refl, sym, ap, ◌∙◌, arith}
+use Rattle.cal_trace.proofs.Common.{◌≡◌, ◌≢◌, ◌<◌, ◌≤◌, slice_get, ℕ, List, [], ◌∷◌, ◌++◌, length, Option, Some, None, Ok, Err, Bool, true, false, nat_lt, if◌then◌else◌, refl, sym, ap, ◌∙◌, arith, option_map, nothing_shown, Shown, ltb-true, SoFar, passes_of, with_more, next_thread, last_shown, shown_in, shown_by, with_look, looks_in, FoundLook, SignalPass}
 use Rattle.std.proofs.lemmas.Option.{slice_get_past}
-use Rattle.std.specs.Option.{option_map, option_to_list, option_and_then, unwrap_or}
-use Rattle.cal_signal.specs.Shown.{nothing_shown}
-use Rattle.cal_signal.specs.declared.shown.Shown.{Shown}
+use Rattle.std.specs.Option.{option_to_list, option_and_then, unwrap_or}
 use Rattle.cal_policy.specs.History.Lists.{last_of}
 use Rattle.cal_policy.proofs.ListLemmas.OneMore.{last_of_push, unwrap_or_or}
 use Rattle.cal_machine.proofs.Last.{slice_get-last, slice_get-other}
-use Rattle.std.proofs.lemmas.Bool.{ltb-true}
-use Rattle.cal_trace.specs.Rows.SoFar.{SoFar, passes_of, with_more, next_thread}
-use Rattle.cal_trace.specs.Signals.{last_shown, shown_in, shown_by, with_look, looks_in}
 use Rattle.cal_trace.specs.declared.fault.FaultKind.TheVariants as kind
-use Rattle.cal_policy.specs.declared.judgement.open_input.FoundLook.{FoundLook}
-use Rattle.cal_trace.specs.declared.signals.SignalPass.{SignalPass}
 
 -- what a pass showed of thread k, by the look at it
 abbrev shown_by_look : Option FoundLook → Option Shown

@@ -1,19 +1,7 @@
 -- One more look.
-use Rattle.std.proofs.Common.{◌≡◌, ◌<◌, ◌∙◌, ℕ, Ok, refl, sym, ap, get_or, slice_set, length, inl, inr, List}
-use Rattle.std.proofs.lemmas.Bool.Decides.{eqb_tells}
+use Rattle.cal_trace.proofs.Common.{◌≡◌, ◌<◌, ◌∙◌, ℕ, Ok, refl, sym, ap, get_or, slice_set, length, inl, inr, List, eqb_tells, get_or-set_other, get_or-set_same, Fields, nothing_shown, is_shown_after, check, look_row, SignalPass, SoFar, passes_of, with_more, add_look, take_look, next_thread, last_shown, next_look, shown_by, looks_in, with_look, LookForm, Shown, FoundLook}
 use Rattle.std.specs.Option.{unwrap_or}
-use Rattle.std.proofs.lemmas.List.{get_or-set_other, get_or-set_same}
-use Rattle.cal_trace.specs.Rows.{Fields}
-use Rattle.cal_signal.specs.Shown.{nothing_shown}
-use Rattle.cal_signal.specs.Tests.{is_shown_after}
-use Rattle.cal_trace.specs.Rows.LookRows.{check, look_row}
-use Rattle.cal_trace.specs.declared.signals.SignalPass.{SignalPass}
-use Rattle.cal_trace.specs.Rows.SoFar.{SoFar, passes_of, with_more, add_look, take_look, next_thread}
-use Rattle.cal_trace.specs.Signals.{last_shown, next_look, shown_by, looks_in, with_look}
 use Rattle.cal_trace.specs.declared.fault.FaultKind.TheVariants as kind
-use Rattle.cal_trace.specs.declared.rows.look_rows.LookForm.{LookForm}
-use Rattle.cal_signal.specs.declared.shown.Shown.{Shown}
-use Rattle.cal_policy.specs.declared.judgement.open_input.FoundLook.{FoundLook}
 use Rattle.cal_trace.proofs.SignalLemmas.LastShown.{kept-own, kept-other}
 
 -- what a look row says, by what its thread showed last

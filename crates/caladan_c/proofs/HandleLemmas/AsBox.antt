@@ -1,13 +1,7 @@
 -- The pointer, where it keeps something, and its parts own what a box at the same types owns.
-use mir.Syntax.{impl, tnil, dnil}
+use Rattle.caladan_c.proofs.Common.{impl, tnil, dnil, sym, ◌≡◌, true, Option, Some, None, refl, is_some, Slot, plain, Bx}
 use mathlib.Core.List.{[]}
-use mathlib.Core.Path.{sym}
 use mathlib.Core.Bool.{true≢false}
-use Rattle.std.specs.Prelude.{◌≡◌, true, Option, Some, None}
-use Rattle.std.specs.Option.{is_some}
-use mathlib.Core.Path.{refl}
-use denote.Signature.{Slot, plain}
-use Rattle.std.proofs.BoxSteps.Form.{Bx}
 use Rattle.std.specs.contracts.alloc.Global as Heap
 use Rattle.std.specs.contracts.impls.GlobalAllocator.TheImpl.{ghosts, dict}
 use Rattle.std.proofs.alloc.Global.TheLaws as heap

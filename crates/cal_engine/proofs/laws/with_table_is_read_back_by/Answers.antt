@@ -1,7 +1,6 @@
-use Rattle.std.proofs.Common.{refl}
+use Rattle.cal_engine.proofs.Common.{refl, history_text}
 use Rattle.cal_machine.proofs.Accepted.{accepted_text}
 use Rattle.cal_engine.proofs.FrontReadBack.{parts_read, table_read}
-use Rattle.cal_trace.specs.History.Text.{history_text}
 use Rattle.cal_engine.proofs.laws.with_table_is_read_back_by.Goals as goal
 
 pub returns : goal.returns

@@ -1,6 +1,4 @@
-use Rattle.std.proofs.Common.{◌≡◌, [], ◌∷◌, ◌++◌, Err, refl, arith, rules}
-use Rattle.std.proofs.lemmas.List.{length-append}
-use Rattle.cal_trace.specs.History.Reading.{extent_of}
+use Rattle.cal_facts.proofs.Common.{◌≡◌, [], ◌∷◌, ◌++◌, Err, refl, arith, rules, length-append, extent_of}
 use Rattle.cal_input.specs.Recorded.{recorded_run_of}
 use Rattle.cal_input.specs.declared.fault.RunFault.TheVariants as fault
 use Rattle.cal_facts.proofs.Counted.{all_counted, no_passes, one_more, refused_rows}

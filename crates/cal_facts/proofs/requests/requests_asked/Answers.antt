@@ -1,7 +1,4 @@
-use Rattle.std.proofs.Common.{Result, subst, sym}
-use Rattle.cal_input.specs.Parts.{RunInput}
-use Rattle.cal_input.specs.declared.fault.RunFault.{RunFault}
-use Rattle.cal_facts.specs.Telling.{IsAskedRun}
+use Rattle.cal_facts.proofs.Common.{Result, subst, sym, RunInput, RunFault, IsAskedRun}
 use Rattle.cal_facts.proofs.requests.requests_asked.Goals as goal
 
 pub returns-clause-run : goal.returns-clause-run

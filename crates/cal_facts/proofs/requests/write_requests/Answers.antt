@@ -1,9 +1,6 @@
-use Rattle.std.proofs.Common.{◌≡◌, Err, rules}
-use Rattle.cal_input.specs.Parts.{run_input_of}
+use Rattle.cal_facts.proofs.Common.{◌≡◌, Err, rules, run_input_of, asked_run, text_of_requests}
 use Rattle.cal_tables.proofs.Verdicts.{failed_for}
-use Rattle.cal_tables.specs.Asked.{asked_run}
 use Rattle.cal_facts.proofs.WrittenLemmas.{run_may, served_asked}
-use Rattle.cal_facts.specs.RequestRows.{text_of_requests}
 use Rattle.cal_facts.proofs.requests.write_requests.Goals as goal
 
 pub returns-in_err-run-clause-exact : goal.returns-in_err-run-clause-exact

@@ -1,9 +1,5 @@
-use Rattle.std.proofs.Common.{Result, subst, sym}
-use Rattle.cal_input.specs.declared.fault.RunFault.{RunFault}
-use Rattle.cal_tables.specs.Asked.{Subject}
+use Rattle.cal_facts.proofs.Common.{Result, subst, sym, RunFault, Subject, series_text, text_of_series, IsAskedText}
 use Rattle.cal_facts.proofs.WrittenLemmas.{series_of_history, series_of_run}
-use Rattle.cal_facts.specs.Series.{series_text, text_of_series}
-use Rattle.cal_facts.specs.Telling.{IsAskedText}
 use Rattle.cal_facts.proofs.series.series_asked.Goals as goal
 
 pub returns-in_ok-points-in-Run-clause-points : goal.returns-in_ok-points-in-Run-clause-points

@@ -1,11 +1,6 @@
-use Rattle.std.proofs.Common.{◌≡◌, Err, List, rules, subst}
-use Rattle.std.specs.Io.KnownBytes.{Appends}
+use Rattle.cal_facts.proofs.Common.{◌≡◌, Err, List, rules, subst, Appends, failed_by, asked_by, series_text, text_of_series, Point}
 use Rattle.std.specs.Option.{is_some}
-use Rattle.cal_tables.proofs.Planning.{failed_by}
-use Rattle.cal_tables.specs.Asked.{asked_by}
 use Rattle.cal_facts.proofs.WrittenLemmas.{text_may_run}
-use Rattle.cal_facts.specs.Series.{series_text, text_of_series}
-use Rattle.cal_facts.specs.declared.series.point.Point.{Point}
 use Rattle.cal_facts.proofs.series.write_series.Goals as goal
 
 pub returns-in_err-config-clause-exact : goal.returns-in_err-config-clause-exact

@@ -1,9 +1,5 @@
-use Rattle.std.proofs.Common.{Result, subst, sym}
-use Rattle.cal_input.specs.declared.fault.RunFault.{RunFault}
-use Rattle.cal_tables.specs.Asked.{Subject}
+use Rattle.cal_facts.proofs.Common.{Result, subst, sym, RunFault, Subject, spans_text, text_of_facts, IsAskedText}
 use Rattle.cal_facts.proofs.WrittenLemmas.{spans_of_history, spans_of_run}
-use Rattle.cal_facts.specs.Stretches.{spans_text, text_of_facts}
-use Rattle.cal_facts.specs.Telling.{IsAskedText}
 use Rattle.cal_facts.proofs.spans.spans_asked.Goals as goal
 
 pub returns-in_ok-facts-in-Run-clause-facts : goal.returns-in_ok-facts-in-Run-clause-facts

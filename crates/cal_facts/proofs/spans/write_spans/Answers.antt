@@ -1,9 +1,6 @@
-use Rattle.std.proofs.Common.{◌≡◌, Err, rules}
+use Rattle.cal_facts.proofs.Common.{◌≡◌, Err, rules, failed_by, asked_by, spans_text, text_of_facts}
 use Rattle.std.specs.Option.{is_some}
-use Rattle.cal_tables.proofs.Planning.{failed_by}
-use Rattle.cal_tables.specs.Asked.{asked_by}
 use Rattle.cal_facts.proofs.WrittenLemmas.{text_may_run}
-use Rattle.cal_facts.specs.Stretches.{spans_text, text_of_facts}
 use Rattle.cal_facts.proofs.spans.write_spans.Goals as goal
 
 pub returns-in_err-config-clause-exact : goal.returns-in_err-config-clause-exact

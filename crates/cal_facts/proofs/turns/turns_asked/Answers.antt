@@ -1,9 +1,5 @@
-use Rattle.std.proofs.Common.{Result, subst, sym}
-use Rattle.cal_input.specs.Parts.{RunInput}
-use Rattle.cal_input.specs.declared.fault.RunFault.{RunFault}
+use Rattle.cal_facts.proofs.Common.{Result, subst, sym, RunInput, RunFault, IsAskedTurns, text_of_turns}
 use Rattle.cal_facts.proofs.TurnLemmas.{turns_written}
-use Rattle.cal_facts.specs.Telling.{IsAskedTurns}
-use Rattle.cal_facts.specs.WorkTurns.{text_of_turns}
 use Rattle.cal_facts.proofs.turns.turns_asked.Goals as goal
 
 pub returns-clause-turns : goal.returns-clause-turns

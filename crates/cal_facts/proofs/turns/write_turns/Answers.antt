@@ -1,11 +1,5 @@
-use Rattle.std.proofs.Common.{◌≡◌, Err, List, rules, subst}
-use Rattle.std.specs.Io.KnownBytes.{Appends}
-use Rattle.cal_input.specs.Parts.{run_input_of}
-use Rattle.cal_tables.proofs.Planning.{failed_by}
-use Rattle.cal_tables.specs.Asked.{asked_run}
+use Rattle.cal_facts.proofs.Common.{◌≡◌, Err, List, rules, subst, Appends, run_input_of, failed_by, asked_run, text_of_turns, WorkTurn}
 use Rattle.cal_facts.proofs.TurnLemmas.{turns_may}
-use Rattle.cal_facts.specs.WorkTurns.{text_of_turns}
-use Rattle.cal_facts.specs.declared.turns.work.WorkTurn.{WorkTurn}
 use Rattle.cal_facts.proofs.turns.write_turns.Goals as goal
 
 pub returns-in_err-config-clause-exact : goal.returns-in_err-config-clause-exact

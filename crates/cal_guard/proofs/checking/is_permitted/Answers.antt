@@ -1,9 +1,4 @@
-use Rattle.std.proofs.Common.{◌≡◌, ℕ, ◌≤◌, List, length, take, sym, subst, ◌∙◌, arith, refl, true, false}
-use Rattle.std.proofs.lemmas.List.{take_all}
-use Rattle.std.proofs.lemmas.Option.{slice_get_read}
-use Rattle.cal_policy.specs.declared.history.entry.PassEntry.{PassEntry}
-use Rattle.cal_guard.specs.Permitted.{IsPermittedPass, IsPermittedHistory}
-use Rattle.cal_policy.proofs.ListLemmas.Each.{each_more_item}
+use Rattle.cal_guard.proofs.Common.{◌≡◌, ℕ, ◌≤◌, List, length, take, sym, subst, ◌∙◌, arith, refl, true, false, take_all, slice_get_read, PassEntry, IsPermittedPass, IsPermittedHistory, each_more_item}
 use Rattle.cal_guard.proofs.Upto.{permitted_upto}
 use Rattle.cal_guard.proofs.checking.is_permitted.Goals as goal
 

@@ -1,6 +1,5 @@
-use Rattle.std.proofs.Common.{◌≡◌, ℕ, ◌<◌, Some, slice_get, take}
-use Rattle.cal_policy.specs.declared.history.entry.PassEntry.{PassEntry}
-use Rattle.cal_guard.specs.Permitted.{IsPermittedPass}
+use Rattle.cal_guard.proofs.Common.{◌≡◌, ℕ, ◌<◌, Some, take, PassEntry, IsPermittedPass}
+use Rattle.std.proofs.Common.{slice_get}
 use Rattle.cal_guard.proofs.checking.is_permitted.Given as goal
 
 abbrev pub invariant-loop-p : goal.invariant-loop-p

@@ -1,8 +1,4 @@
-use Rattle.std.proofs.Common.{[], sym, subst, ◌∙◌, ◌↔◌}
-use Rattle.std.specs.Prelude.{IsOk}
-use Rattle.cal_guard.specs.Passing.{IsInside}
-use Rattle.cal_guard.specs.Refusals.{MayEndWith}
-use Rattle.cal_policy.specs.Setting.{Setting, Begun, setting}
+use Rattle.cal_guard.proofs.Common.{[], sym, subst, ◌∙◌, ◌↔◌, IsOk, IsInside, MayEndWith, Setting, Begun, setting}
 use Rattle.cal_guard.proofs.Taking.{whole, whole_back}
 use Rattle.cal_guard.proofs.checking.permits.Goals as goal
 

@@ -1,5 +1,4 @@
-use Rattle.cal_policy.specs.Setting.{setting}
-use Rattle.cal_policy.proofs.PassLemmas.FromParts.{Stands_end}
+use Rattle.cal_guard.proofs.Common.{setting, Stands_end}
 use Rattle.cal_guard.proofs.group_laws.passes_are_kept.Goals as goal
 
 pub returns : goal.returns

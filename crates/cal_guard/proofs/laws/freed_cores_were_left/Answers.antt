@@ -1,7 +1,6 @@
-use Rattle.cal_policy.specs.declared.history.action.Action.TheVariants.{Free}
-use Rattle.cal_laws.specs.Point.{setting_at, made_at}
+use Rattle.cal_guard.proofs.Common.{Free, made_at, safe_at}
+use Rattle.cal_laws.specs.Point.{setting_at}
 use Rattle.cal_laws.proofs.ExclusionLemmas.Left.{was_left}
-use Rattle.cal_laws.proofs.PointLemmas.EachAction.{safe_at}
 use Rattle.cal_guard.proofs.Steady.{safe_point}
 use Rattle.cal_guard.proofs.laws.freed_cores_were_left.Goals as goal
 

@@ -1,13 +1,4 @@
-use Rattle.std.proofs.Common.{ℕ, List, arith}
-use Rattle.cal_machine.specs.TableTasks.{owner_of}
-use Rattle.cal_policy.specs.declared.history.action.Action.{Action}
-use Rattle.cal_policy.specs.declared.history.action.Action.TheVariants.{Revoke}
-use Rattle.cal_policy.specs.declared.history.action.Cause.{Cause}
-use Rattle.cal_policy.specs.Setting.{Setting, so_far}
-use Rattle.cal_policy.specs.Laws.{ActionIsOneMore}
-use Rattle.cal_laws.specs.Limits.{LeavesGuarantee}
-use Rattle.cal_laws.proofs.CapLemmas.Held.{loses_one}
-use Rattle.cal_guard.specs.Permitted.{MayBeRevoked}
+use Rattle.cal_guard.proofs.Common.{ℕ, List, arith, owner_of, Action, Revoke, Cause, Setting, so_far, ActionIsOneMore, LeavesGuarantee, loses_one, MayBeRevoked}
 use Rattle.cal_guard.proofs.Steady.{permitted_at}
 use Rattle.cal_guard.proofs.laws.revocations_leave_guarantees.Goals as goal
 

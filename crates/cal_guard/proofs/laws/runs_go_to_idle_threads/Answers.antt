@@ -1,5 +1,4 @@
-use Rattle.cal_policy.specs.declared.history.action.Action.TheVariants.{Grant}
-use Rattle.cal_laws.specs.Point.{actions_at}
+use Rattle.cal_guard.proofs.Common.{Grant, actions_at}
 use Rattle.cal_laws.proofs.ChoiceLemmas.Idle.{goes_to_idle}
 use Rattle.cal_guard.proofs.Steady.{permitted_at}
 use Rattle.cal_guard.proofs.laws.runs_go_to_idle_threads.Goals as goal

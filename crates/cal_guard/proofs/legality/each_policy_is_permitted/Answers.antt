@@ -1,11 +1,7 @@
-use Rattle.std.proofs.Common.{List}
-use Rattle.cal_machine.specs.Table.{Table, IsTable}
-use Rattle.cal_policy.specs.declared.history.entry.PassEntry.{PassEntry}
+use Rattle.cal_guard.proofs.Common.{List, Table, IsTable, PassEntry, LegalIsPermitted, IsPermittedHistory}
 use Rattle.cal_policy.specs.declared.policy.Policy.{Policy}
 use Rattle.cal_policy.specs.declared.policy.Policy.TheVariants.{Caladan, Assured}
 use Rattle.cal_policy.specs.Policies.{IsLegalBy}
-use Rattle.cal_guard.specs.Histories.{LegalIsPermitted}
-use Rattle.cal_guard.specs.Permitted.{IsPermittedHistory}
 use Rattle.cal_guard.proofs.AssuredLemmas.Between.{passes_permitted}
 use Rattle.cal_guard.proofs.AssuredLemmas.Permitting.{Laws}
 use Rattle.cal_guard.proofs.legality.each_policy_is_permitted.Goals as goal

@@ -1,13 +1,6 @@
 -- The cores between the banned ones are not left held.
-use Rattle.std.proofs.Common.{◌≡◌, ℕ, ◌<◌, ◌≤◌, ◌&&◌, zero, suc, not, Bool, false, None, List, Option, refl, ap, sym, subst, ◌∙◌, arith, ⊎_elim}
-use Rattle.std.proofs.lemmas.Bool.{cases_lt}
+use Rattle.cal_guard.proofs.Common.{◌≡◌, ℕ, ◌<◌, ◌≤◌, ◌&&◌, zero, suc, not, Bool, false, None, List, Option, refl, ap, sym, subst, ◌∙◌, arith, ⊎_elim, cases_lt, Action, Board, Agrees, is_held, holder_of, lowest_below}
 use Rattle.cal_machine.specs.CoreSet.{has}
-use Rattle.cal_policy.specs.declared.history.action.Action.{Action}
-use Rattle.cal_policy.specs.declared.board.Board.{Board}
-use Rattle.cal_policy.specs.State.{Agrees}
-use Rattle.cal_policy.specs.Board.Counts.{is_held}
-use Rattle.cal_policy.specs.History.{holder_of}
-use Rattle.cal_policy.specs.Pass.Choice.{lowest_below}
 use Rattle.cal_policy.proofs.PassLemmas.Bandwidth.{lowest_none, lowest_found}
 use Rattle.cal_guard.specs.Refusals as refusals
 use Rattle.cal_guard.proofs.passing.lowest_left_held.Goals as goal

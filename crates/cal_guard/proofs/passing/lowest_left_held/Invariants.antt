@@ -1,7 +1,4 @@
-use Rattle.std.proofs.Common.{◌≡◌, ◌≤◌, ◌-◌, List, None}
-use Rattle.cal_policy.specs.declared.history.action.Action.{Action}
-use Rattle.cal_policy.specs.State.{Agrees}
-use Rattle.cal_policy.specs.Pass.Choice.{lowest_below}
+use Rattle.cal_guard.proofs.Common.{◌≡◌, ◌≤◌, ◌-◌, List, None, Action, Agrees, lowest_below}
 use Rattle.cal_guard.specs.Refusals as refusals
 use Rattle.cal_guard.proofs.passing.lowest_left_held.Given as goal
 

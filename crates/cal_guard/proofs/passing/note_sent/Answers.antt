@@ -1,10 +1,4 @@
-use Rattle.std.proofs.Common.{◌<◌, Some, None, refl, sym, ap, subst, ◌∙◌, arith, ltb, length}
-use Rattle.std.specs.Option.{option_map, IfSome}
-use Rattle.cal_machine.specs.TableTasks.{threads_of_table}
-use Rattle.cal_policy.specs.Board.{core_changed, granted_in, NamesTable}
-use Rattle.cal_policy.specs.History.{addressed_to}
-use Rattle.cal_policy.specs.Setting.{so_far}
-use Rattle.cal_guard.specs.Refusals.{is_core}
+use Rattle.cal_guard.proofs.Common.{◌<◌, Some, None, refl, sym, ap, subst, ◌∙◌, arith, ltb, length, option_map, IfSome, threads_of_table, core_changed, granted_in, NamesTable, addressed_to, so_far, is_core}
 use Rattle.cal_guard.proofs.Sent.{noted, to_addressed, granted_last, inserted, sent_below, thread_below}
 use Rattle.cal_guard.proofs.passing.note_sent.Goals as goal
 

@@ -1,12 +1,6 @@
 -- Its ring is full just where the set of full rings has it.
-use Rattle.std.proofs.Common.{◌≡◌, ◌+◌, not, sym, ap, ◌∙◌, arith}
-use Rattle.std.specs.Option.{option_or}
-use Rattle.cal_machine.specs.TableTasks.{threads_of_table}
-use Rattle.cal_machine.specs.ThreadSet.{has_thread}
-use Rattle.cal_policy.specs.Setting.{Setting, setting_at, has_room}
+use Rattle.cal_guard.proofs.Common.{◌≡◌, ◌+◌, not, sym, ap, ◌∙◌, arith, option_or, threads_of_table, has_thread, Setting, setting_at, has_room, NoRoom, SecondCommand, unless, was_sent}
 use Rattle.cal_policy.proofs.PassLemmas.Rooms.{room_at}
-use Rattle.cal_guard.specs.declared.refusal.Why.TheVariants.{NoRoom, SecondCommand}
-use Rattle.cal_guard.specs.Refusals.{unless, was_sent}
 use Rattle.cal_guard.proofs.passing.wrong_to_send.Goals as goal
 
 pub returns : goal.returns

@@ -1,6 +1,4 @@
-use Rattle.std.proofs.Common.{[], sym, ◌∙◌}
-use Rattle.cal_policy.specs.declared.history.input.Input.{Input}
-use Rattle.cal_guard.specs.Passing.{next_setting}
+use Rattle.cal_guard.proofs.Common.{[], sym, ◌∙◌, Input, next_setting}
 use Rattle.cal_guard.proofs.Twins.{some_looks}
 use Rattle.cal_guard.proofs.spare.begin_both.Goals as goal
 

@@ -1,6 +1,4 @@
-use Rattle.std.proofs.Common.{◌++◌, refl, arith}
-use Rattle.cal_policy.specs.Setting.{Setting, setting_at}
-use Rattle.cal_guard.specs.Spare.{AreTwins}
+use Rattle.cal_guard.proofs.Common.{◌++◌, refl, arith, Setting, setting_at, AreTwins}
 use Rattle.cal_guard.proofs.Twins.{twin_inside, twin_back, copy_is_spare}
 use Rattle.cal_guard.proofs.spare.offer_both.Goals as goal
 

@@ -1,9 +1,4 @@
-use Rattle.std.proofs.Common.{◌≡◌, [], ◌++◌, refl, sym, subst, arith, false, true}
-use Rattle.cal_policy.specs.declared.history.input.Input.{Input}
-use Rattle.cal_policy.specs.Setting.{Setting, Begun, setting, setting_at}
-use Rattle.cal_guard.specs.Refusals.{MayEndWith, IsFirstWrong}
-use Rattle.cal_guard.specs.Passing.{IsInside, next_setting}
-use Rattle.cal_guard.specs.Spare.{AreTwins}
+use Rattle.cal_guard.proofs.Common.{◌≡◌, [], ◌++◌, refl, sym, subst, arith, false, true, Input, Setting, Begun, setting, setting_at, MayEndWith, IsFirstWrong, IsInside, next_setting, AreTwins}
 use Rattle.cal_guard.proofs.Taking.{whole, whole_back}
 use Rattle.cal_guard.proofs.Twins.{some_looks, twin_inside, twin_state, twin_back, copy_is_spare}
 use Rattle.cal_guard.proofs.spare.step_both.Goals as goal

@@ -1,8 +1,5 @@
-use Rattle.std.proofs.Common.{◌<◌, All, List, length, take, take_all, refl, ap, sym, subst, arith}
-use Rattle.std.proofs.lemmas.List.{take_more}
-use Rattle.std.proofs.lemmas.List.Elements.{All-push}
+use Rattle.cal_load.proofs.Common.{◌<◌, All, List, length, take, take_all, refl, ap, sym, subst, arith, take_more, All-push, TaskLoad}
 use Rattle.cal_load.specs.declared.fault.Why.TheVariants.{NotATask}
-use Rattle.cal_load.specs.declared.making.TaskLoad.{TaskLoad}
 use Rattle.cal_load.proofs.asked.are_known.Goals as goal
 
 pub returns-then-load-tasks-clause-fault : goal.returns-then-load-tasks-clause-fault

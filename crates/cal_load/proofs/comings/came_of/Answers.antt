@@ -1,9 +1,4 @@
-use Rattle.std.proofs.Common.{◌≡◌, ◌∙◌, ◌≤◌, ◌++◌, ◌∷◌, [], ℕ, List, Some, length, length-append, map, slice_get, take, ap, sym, subst, ⊎_elim, arith}
-use Rattle.std.proofs.lemmas.List.{map-append}
-use Rattle.cal_came.specs.declared.came.Came.{Came}
-use Rattle.cal_load.specs.Clocks.{clock_to}
-use Rattle.cal_machine.proofs.Last.{last_or_before, some_same, take_next}
-use Rattle.cal_trace.specs.declared.arrivals.Arrival.{Arrival}
+use Rattle.cal_load.proofs.Common.{◌≡◌, ◌∙◌, ◌≤◌, ◌++◌, ◌∷◌, [], ℕ, List, Some, length, length-append, map, slice_get, take, ap, sym, subst, ⊎_elim, arith, map-append, Came, clock_to, last_or_before, some_same, take_next, Arrival}
 use Rattle.cal_load.proofs.comings.came_of.Goals as goal
 
 pub loop-place-preserved : goal.loop-place-preserved

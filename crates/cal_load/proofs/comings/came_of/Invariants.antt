@@ -1,7 +1,4 @@
-use Rattle.std.proofs.Common.{◌≡◌, ◌≤◌, ℕ, Some, length, map, slice_get, take}
-use Rattle.cal_came.specs.declared.came.Came.{Came}
-use Rattle.cal_load.specs.Clocks.{clock_to}
-use Rattle.cal_trace.specs.declared.arrivals.Arrival.{Arrival}
+use Rattle.cal_load.proofs.Common.{◌≡◌, ◌≤◌, ℕ, Some, length, map, slice_get, take, Came, clock_to, Arrival}
 use Rattle.cal_load.proofs.comings.came_of.Given as goal
 
 abbrev pub invariant-loop-place : goal.invariant-loop-place

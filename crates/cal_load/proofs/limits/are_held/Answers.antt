@@ -1,8 +1,5 @@
-use Rattle.std.proofs.Common.{◌<◌, ℕ, All, List, length, take, take_all, refl, sym, subst, arith}
-use Rattle.std.proofs.lemmas.List.{take_more}
-use Rattle.std.proofs.lemmas.List.Elements.{All-push}
+use Rattle.cal_load.proofs.Common.{◌<◌, ℕ, All, List, length, take, take_all, refl, sym, subst, arith, take_more, All-push, TaskLoad}
 use Rattle.cal_load.specs.Loads.{AreHeld, IsHeld, limit_of}
-use Rattle.cal_load.specs.declared.making.TaskLoad.{TaskLoad}
 use Rattle.cal_load.proofs.limits.are_held.Goals as goal
 
 pub returns-then-not-is_held-clause-fault : goal.returns-then-not-is_held-clause-fault

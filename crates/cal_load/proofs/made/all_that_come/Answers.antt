@@ -1,12 +1,4 @@
-use Rattle.std.proofs.Common.{◌≡◌, ◌<◌, ◌≤◌, ◌+◌, ℕ, length, refl, ap, sym, subst, arith}
-use Rattle.std.proofs.lemmas.List.Elements.{All-get_or}
-use Rattle.cal_load.specs.Comings.{IsComingTo}
-use Rattle.cal_load.specs.Counts.{came_in}
-use Rattle.cal_load.specs.declared.made.Gathered.{Gathered}
-use Rattle.cal_load.specs.declared.made.TheConstants.{MOST_REQUESTS}
-use Rattle.cal_load.specs.declared.making.Coming.{Coming}
-use Rattle.cal_machine.specs.Table.{IsTask}
-use Rattle.cal_machine.specs.Tasks.{no_task}
+use Rattle.cal_load.proofs.Common.{◌≡◌, ◌<◌, ◌≤◌, ◌+◌, ℕ, length, refl, ap, sym, subst, arith, All-get_or, IsComingTo, came_in, Gathered, MOST_REQUESTS, Coming, IsTask, no_task}
 use Rattle.cal_load.proofs.Counted.{gathered_more, gathered_skip}
 use Rattle.cal_load.proofs.made.all_that_come.Goals as goal
 

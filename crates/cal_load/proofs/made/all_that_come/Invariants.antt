@@ -1,6 +1,4 @@
-use Rattle.std.proofs.Common.{◌≡◌}
-use Rattle.cal_load.specs.Counts.{came_in}
-use Rattle.cal_load.specs.Made.{AreGathered}
+use Rattle.cal_load.proofs.Common.{◌≡◌, came_in, AreGathered}
 use Rattle.cal_load.proofs.made.all_that_come.Given as goal
 
 abbrev pub invariant-loop-task : goal.invariant-loop-task

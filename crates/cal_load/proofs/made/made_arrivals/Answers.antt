@@ -1,11 +1,4 @@
-use Rattle.std.proofs.Common.{◌≤◌, List, length, sym, subst}
-use Rattle.cal_load.specs.Counts.{came_in}
-use Rattle.cal_load.specs.Made.{AreCountedBy, AreCountsOf, AreGathered, IsLoadCount, IsTimedBy}
-use Rattle.cal_load.specs.declared.clocks.Timing.{Timing}
-use Rattle.cal_load.specs.declared.made.Count.{Count}
-use Rattle.cal_load.specs.declared.made.TheConstants.{MOST_REQUESTS}
-use Rattle.cal_machine.specs.Tasks.{first_thread}
-use Rattle.cal_trace.specs.declared.arrivals.Arrival.{Arrival}
+use Rattle.cal_load.proofs.Common.{◌≤◌, List, length, sym, subst, came_in, AreCountedBy, AreCountsOf, AreGathered, IsLoadCount, IsTimedBy, Timing, Count, MOST_REQUESTS, first_thread, Arrival}
 use Rattle.cal_load.proofs.made.made_arrivals.Goals as goal
 
 pub returns-clause-made : goal.returns-clause-made

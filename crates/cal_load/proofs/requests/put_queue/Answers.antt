@@ -1,10 +1,7 @@
-use Rattle.std.proofs.Common.{◌≡◌, ◌<◌, ◌≤◌, ◌+◌, ◌++◌, ◌∷◌, [], List, length, length-append, ap, sym, arith}
-use Rattle.std.proofs.lemmas.List.{append-nil}
+use Rattle.cal_load.proofs.Common.{◌≡◌, ◌<◌, ◌≤◌, ◌+◌, ◌++◌, ◌∷◌, [], List, length, length-append, ap, sym, arith, append-nil, Arrival, each_none}
 use Rattle.cal_load.specs.declared.making.Slot.{Slot}
-use Rattle.cal_trace.specs.declared.arrivals.Arrival.{Arrival}
 use Rattle.cal_load.proofs.Built.{put_more}
 use Rattle.cal_load.proofs.Counted.{more_push}
-use Rattle.cal_trace.proofs.ListLemmas.EachOne.{each_none}
 use Rattle.cal_load.proofs.requests.put_queue.Goals as goal
 
 pub loop-place-init : goal.loop-place-init

@@ -1,6 +1,4 @@
-use Rattle.std.proofs.Common.{◌≡◌, ◌<◌, ◌+◌, ℕ, length, take}
-use Rattle.cal_load.specs.Built.{AreBuilt, AreBuiltTo, HasMoreFor}
-use Rattle.cal_load.specs.Comings.{IsQueue}
+use Rattle.cal_load.proofs.Common.{◌≡◌, ◌<◌, ◌+◌, ℕ, length, take, AreBuilt, AreBuiltTo, HasMoreFor, IsQueue}
 use Rattle.cal_load.proofs.Built.{end_of}
 use Rattle.cal_load.proofs.requests.put_queue.Given as goal
 

@@ -1,9 +1,4 @@
-use Rattle.std.proofs.Common.{◌≡◌, ◌<◌, ◌+◌, ℕ, length, get_or, ap, sym, subst, arith}
-use Rattle.std.proofs.lemmas.List.Elements.{All-get_or}
-use Rattle.std.proofs.lemmas.List.Sums.{sum_by_more}
-use Rattle.cal_load.specs.Built.{AreBuilt, HasMoreFor}
-use Rattle.cal_load.specs.Comings.{IsQueue}
-use Rattle.cal_load.specs.declared.making.Queue.{Queue}
+use Rattle.cal_load.proofs.Common.{◌≡◌, ◌<◌, ◌+◌, ℕ, length, get_or, ap, sym, subst, arith, All-get_or, sum_by_more, AreBuilt, HasMoreFor, IsQueue, Queue}
 use Rattle.cal_load.proofs.Counted.{more_on}
 use Rattle.cal_load.proofs.requests.put_queues.Goals as goal
 

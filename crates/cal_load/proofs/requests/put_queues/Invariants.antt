@@ -1,6 +1,4 @@
-use Rattle.std.proofs.Common.{◌≡◌, ◌≤◌, ◌+◌, ℕ, All, length, take}
-use Rattle.cal_load.specs.Built.{AreBuilt, HasMoreFor}
-use Rattle.cal_load.specs.Comings.{IsQueue, slots_in}
+use Rattle.cal_load.proofs.Common.{◌≡◌, ◌≤◌, ◌+◌, ℕ, All, length, take, AreBuilt, HasMoreFor, IsQueue, slots_in}
 use Rattle.cal_load.proofs.requests.put_queues.Given as goal
 
 abbrev pub invariant-loop-place : goal.invariant-loop-place

@@ -1,9 +1,4 @@
-use Rattle.std.proofs.Common.{◌≡◌, ℕ, List, length, map, get_or, refl, sym, ap, subst, ◌∙◌, arith}
-use Rattle.std.specs.Prelude.{slice_index}
-use Rattle.std.proofs.lemmas.List.{get_or-map}
-use Rattle.cal_trace.specs.declared.arrivals.GivenPass.{GivenPass}
-use Rattle.cal_paced.specs.Figures.{HaveFigures}
-use Rattle.cal_paced.specs.Pace.{StandEvenly}
+use Rattle.cal_paced.proofs.Common.{◌≡◌, ℕ, List, length, map, get_or, refl, sym, ap, subst, ◌∙◌, arith, slice_index, get_or-map, GivenPass, HaveFigures, StandEvenly}
 use Rattle.cal_paced.proofs.Evenly.{clock-next, evenly, passes_upto, upto-more, with-figures}
 use Rattle.cal_paced.proofs.pacing.paced_passes.Goals as goal
 

@@ -1,6 +1,4 @@
-use Rattle.std.specs.Prelude.{◌≡◌, map}
-use Rattle.cal_trace.specs.declared.arrivals.GivenPass.{GivenPass}
-use Rattle.cal_paced.specs.Pace.{clock_before}
+use Rattle.cal_paced.proofs.Common.{◌≡◌, map, GivenPass, clock_before}
 use Rattle.cal_paced.proofs.Evenly.{passes_upto}
 use Rattle.cal_paced.proofs.pacing.paced_passes.Given as goal
 

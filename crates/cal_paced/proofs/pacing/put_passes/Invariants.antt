@@ -1,5 +1,4 @@
-use Rattle.std.specs.Prelude.{◌≡◌, ◌++◌}
-use Rattle.cal_paced.specs.Making.{passes_before}
+use Rattle.cal_paced.proofs.Common.{◌≡◌, ◌++◌, passes_before}
 use Rattle.cal_paced.proofs.pacing.put_passes.Given as goal
 
 -- the first passes were added

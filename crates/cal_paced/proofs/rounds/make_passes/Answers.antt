@@ -1,8 +1,4 @@
-use Rattle.std.proofs.Common.{◌≡◌, ◌+◌, ◌*◌, ℕ, List, ap, refl, subst, sym, ◌∙◌, arith}
-use Rattle.std.proofs.Math.Nat.{mul_comm}
-use Rattle.cal_run.specs.Order.{Made, then_passes}
-use Rattle.cal_run.specs.Parts.{HasPassed, SchedulerSeat}
-use Rattle.cal_run.proofs.CollectorLemmas.Order.{all-passes, no-passes, one-pass}
+use Rattle.cal_paced.proofs.Common.{◌≡◌, ◌+◌, ◌*◌, ℕ, refl, subst, sym, ◌∙◌, arith, mul_comm, then_passes, HasPassed, SchedulerSeat, all-passes, no-passes, one-pass}
 use Rattle.cal_paced.proofs.Rounding.{times-next}
 use Rattle.cal_paced.proofs.rounds.make_passes.Goals as goal
 

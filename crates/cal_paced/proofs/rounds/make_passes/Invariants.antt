@@ -1,7 +1,4 @@
-use Rattle.std.proofs.Common.{◌≡◌, ◌+◌, ◌*◌, ℕ, List}
-use Rattle.cal_run.specs.Order.{Made, then_passes}
-use Rattle.cal_kthread.specs.declared.journal.entry.Entry.{Entry}
-use Rattle.cal_run.specs.Parts.{HasPassed, scheduler_seat_of}
+use Rattle.cal_paced.proofs.Common.{◌≡◌, ◌+◌, ◌*◌, ℕ, List, Made, then_passes, Entry, HasPassed, scheduler_seat_of}
 use Rattle.cal_paced.proofs.rounds.make_passes.Given as goal
 
 -- the first passes were made, and the collector took them

@@ -1,16 +1,8 @@
-use Rattle.std.proofs.Common.{◌≡◌, ◌+◌, ◌-◌, ◌*◌, ◌<◌, ◌≤◌, ℕ, List, replicate, sym, ap, subst, ◌∙◌, length, arith}
+use Rattle.cal_paced.proofs.Common.{◌≡◌, ◌+◌, ◌-◌, ◌*◌, ◌<◌, ◌≤◌, ℕ, List, replicate, sym, ap, subst, ◌∙◌, length, arith, length-map, with_items_is, then_passes, then_turns, SchedulerSeat, WatchSeat, HaveMade, Seat, journals_of, seat_of, seats_of, Parts, Worker, AreAllCores, AreBelowWhole, misses_of, standings_of, IsRound}
 use Rattle.std.specs.Vec.{with_items}
 use Rattle.std.specs.declared.alloc.Global.{Global}
 use Rattle.std.specs.declared.vec.Vec.{Vec}
-use Rattle.std.proofs.lemmas.List.{length-map, with_items_is}
 use Rattle.cal_machine.specs.declared.core_set.CoreSet.{CoreSet}
-use Rattle.cal_run.specs.Order.{then_passes, then_turns}
-use Rattle.cal_run.specs.Parts.{SchedulerSeat, WatchSeat}
-use Rattle.cal_run.specs.Workers.{HaveMade, Seat, journals_of, seat_of, seats_of}
-use Rattle.cal_run.specs.declared.parts.Parts.{Parts}
-use Rattle.cal_run.specs.declared.workers.worker.Worker.{Worker}
-use Rattle.cal_paced.specs.Making.{AreAllCores, AreBelowWhole, misses_of, standings_of}
-use Rattle.cal_paced.specs.Rounds.{IsRound}
 use Rattle.cal_paced.proofs.Differing.{fit-still, made-still, passed-still}
 use Rattle.cal_paced.proofs.Rounding.{round-more, row}
 use Rattle.cal_paced.proofs.rounds.make_round.Goals as goal

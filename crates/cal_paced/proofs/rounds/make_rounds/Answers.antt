@@ -1,8 +1,4 @@
-use Rattle.std.proofs.Common.{◌≡◌, ◌+◌, ◌*◌, ℕ, List, length, refl, subst, sym, ap, ◌∙◌, arith}
-use Rattle.cal_machine.specs.Table.{Table}
-use Rattle.cal_run.specs.Order.{Made}
-use Rattle.cal_paced.specs.Making.{IsMadeUpTo}
-use Rattle.cal_paced.specs.Order.{then_round, then_rounds}
+use Rattle.cal_paced.proofs.Common.{◌≡◌, ◌+◌, ◌*◌, ℕ, List, length, refl, subst, sym, ap, ◌∙◌, arith, Table, Made, IsMadeUpTo, then_round, then_rounds}
 use Rattle.cal_paced.proofs.Differing.{differ-more, differ-none, fit-still}
 use Rattle.cal_paced.proofs.Ordering.{no-rounds, one-round}
 use Rattle.cal_paced.proofs.Rounding.{made-first}

@@ -1,9 +1,4 @@
-use Rattle.std.specs.Prelude.{◌≡◌, List, length}
-use Rattle.cal_run.specs.Order.{Made}
-use Rattle.cal_run.specs.Workers.{journals_of}
-use Rattle.cal_paced.specs.Making.{AreAllCores, DifferFrom, IsMadeUpTo}
-use Rattle.cal_paced.specs.Order.{then_rounds}
-use Rattle.cal_paced.specs.declared.plan.Figure.TheVariants.{Given}
+use Rattle.cal_paced.proofs.Common.{◌≡◌, List, length, Made, journals_of, AreAllCores, DifferFrom, IsMadeUpTo, then_rounds, Given}
 use Rattle.cal_paced.proofs.rounds.make_rounds.Given as goal
 
 -- these many rounds were made, and the collector holds what they handed out

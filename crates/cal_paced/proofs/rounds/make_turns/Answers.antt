@@ -1,5 +1,4 @@
-use Rattle.std.proofs.Common.{sym, ◌∙◌}
-use Rattle.std.proofs.lemmas.Bool.{false≢true}
+use Rattle.cal_paced.proofs.Common.{sym, ◌∙◌, false≢true}
 use Rattle.cal_paced.proofs.rounds.make_turns.Goals as goal
 
 pub whole_turns-requires-clause-nothing : goal.whole_turns-requires-clause-nothing

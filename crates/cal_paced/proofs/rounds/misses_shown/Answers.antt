@@ -1,10 +1,4 @@
-use Rattle.std.proofs.Common.{◌+◌, ℕ, take, sym, ap, ◌∙◌, arith}
-use Rattle.std.proofs.lemmas.List.{take_all}
-use Rattle.std.proofs.lemmas.List.Sums.{sum_by_more}
-use Rattle.cal_run.specs.declared.workers.worker.Worker.{Worker}
-use Rattle.cal_signal.specs.declared.record.Record.{Record}
-use Rattle.cal_paced.specs.Making.{misses_of}
-use Rattle.cal_paced.specs.Shares.{last_record}
+use Rattle.cal_paced.proofs.Common.{◌+◌, ℕ, take, sym, ap, ◌∙◌, arith, take_all, sum_by_more, Worker, Record, misses_of, last_record}
 use Rattle.cal_paced.proofs.rounds.misses_shown.Goals as goal
 
 pub loop-worker-preserved : goal.loop-worker-preserved

@@ -1,6 +1,5 @@
-use Rattle.std.proofs.Common.{◌≡◌, ◌≤◌, ◌*◌, take}
+use Rattle.cal_paced.proofs.Common.{◌≡◌, ◌≤◌, ◌*◌, take, misses_of}
 use Rattle.cal_signal.specs.declared.record.TheConstants.{MOST_MISSES}
-use Rattle.cal_paced.specs.Making.{misses_of}
 use Rattle.cal_paced.proofs.rounds.misses_shown.Given as goal
 
 -- what the first threads show

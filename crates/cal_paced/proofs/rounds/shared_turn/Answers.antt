@@ -1,9 +1,4 @@
-use Rattle.std.proofs.Common.{◌≡◌, ℕ, Bool, sym, ◌∙◌, arith}
-use Rattle.std.specs.Prelude.{slice_index}
-use Rattle.cal_machine.specs.CoreSet.{has}
-use Rattle.cal_run.specs.Workers.GivenTurns.{request_at}
-use Rattle.cal_paced.specs.Rounds.{comes_to_turn}
-use Rattle.cal_paced.specs.Shares.{AreShares, share, share_on}
+use Rattle.cal_paced.proofs.Common.{◌≡◌, ℕ, Bool, sym, ◌∙◌, arith, slice_index, has, request_at, comes_to_turn, AreShares, share, share_on}
 use Rattle.cal_paced.proofs.Turning.{comes-same, memory-within, turn-by}
 use Rattle.cal_paced.proofs.rounds.shared_turn.Goals as goal
 

@@ -1,11 +1,5 @@
-use Rattle.std.proofs.Common.{◌≡◌, List, length}
-use Rattle.cal_machine.specs.Table.{Table}
-use Rattle.cal_policy.specs.declared.history.entry.PassEntry.{PassEntry}
-use Rattle.cal_run.proofs.WorkersLemmas.Turns.{TurnedUpTo}
-use Rattle.cal_run.specs.Order.{Made, then_turns}
-use Rattle.cal_run.specs.Workers.{journals_of}
+use Rattle.cal_paced.proofs.Common.{◌≡◌, List, length, Table, PassEntry, TurnedUpTo, Made, then_turns, journals_of, AreAllCores, AreBelowWhole}
 use Rattle.cal_paced.proofs.Turning.{StoodUpTo}
-use Rattle.cal_paced.specs.Making.{AreAllCores, AreBelowWhole}
 use Rattle.cal_paced.proofs.rounds.shared_turns.Given as goal
 
 -- the first threads made the turn, and the collector holds what they did

@@ -1,5 +1,4 @@
-use Rattle.std.specs.Prelude.{◌≡◌, ◌+◌, length, min}
-use Rattle.cal_run.specs.Parts.{watch_seat_of}
+use Rattle.cal_paced.proofs.Common.{◌≡◌, ◌+◌, length, min, watch_seat_of}
 use Rattle.cal_paced.proofs.rounds.watch_passes.Given as goal
 
 -- so many rounds were made, where there were as many left

@@ -1,22 +1,8 @@
-use Rattle.std.proofs.Common.{◌≡◌, ◌<◌, ◌≤◌, ◌+◌, ◌*◌, ◌++◌, ℕ, List, Some, length, map, get_or, subst, arith}
-use Rattle.std.specs.Prelude.{slice_index}
-use Rattle.std.specs.List.{slice_get}
-use Rattle.std.proofs.Math.ListN.{set}
-use Rattle.std.proofs.lemmas.Option.{slice_get-get_or}
-use Rattle.cal_machine.specs.CoreSet.{has}
-use Rattle.cal_kthread.specs.Turn.Entries.{entries_of}
-use Rattle.cal_kthread.specs.declared.journal.entry.Entry.{Entry}
+use Rattle.cal_paced.proofs.Common.{◌≡◌, ◌<◌, ◌≤◌, ◌+◌, ◌*◌, ◌++◌, ℕ, List, Some, length, map, get_or, subst, arith, slice_index, slice_get, set, slice_get-get_or, has, entries_of, Entry, then_turns, request_at, turns_given, Worker, all-turns, no-turns, one-turn, all_turned, may_turn, none_turned, one_turned, IsTurnBy, share}
 use Rattle.cal_kthread.specs.declared.kernel_thread.TheConstants.{MOST_ENTRIES}
 use Rattle.cal_trace.specs.declared.arrivals.reading.TheConstants.{MOST_TURNS}
-use Rattle.cal_run.specs.Order.{then_turns}
-use Rattle.cal_run.specs.Workers.GivenTurns.{request_at, turns_given}
-use Rattle.cal_run.specs.declared.workers.worker.Worker.{Worker}
 use Rattle.cal_run.proofs.CollectorLemmas.Few.{few_entries}
-use Rattle.cal_run.proofs.CollectorLemmas.Order.{all-turns, no-turns, one-turn}
 use Rattle.cal_run.proofs.CollectorLemmas.Journals.{journal_at_place, journals_after}
-use Rattle.cal_run.proofs.WorkersLemmas.Turns.{all_turned, may_turn, none_turned, one_turned}
-use Rattle.cal_paced.specs.Rounds.{IsTurnBy}
-use Rattle.cal_paced.specs.Shares.{share}
 use Rattle.cal_paced.proofs.Turning.{StoodUpTo, all-stood, none-stood, nothing-at, one-stood, set-same, turn-by-nobody}
 use Rattle.cal_paced.proofs.rounds.whole_turns.Goals as goal
 

@@ -1,15 +1,8 @@
-use Rattle.std.proofs.Common.{◌≡◌, ◌*◌, ℕ, List, length, refl, subst, sym, ap, ◌∙◌, arith}
-use Rattle.std.proofs.lemmas.List.{length-map}
-use Rattle.cal_policy.specs.declared.policy.Policy.{Policy}
-use Rattle.cal_run.specs.Outcome.{IsRunEndBy, outcome_of}
+use Rattle.cal_paced.proofs.Common.{◌≡◌, ◌*◌, ℕ, List, length, refl, subst, sym, ap, ◌∙◌, arith, length-map, Policy, IsRunEndBy, outcome_of, AreParts, filled, rounds_of, journals_of, seat_of, Worker, IsPacedEndOf}
 use Rattle.cal_run.proofs.OutcomeLemmas.Filled.{filled_whole}
-use Rattle.cal_run.specs.Parts.{AreParts, filled, rounds_of}
 use Rattle.cal_signal.specs.declared.look.Look.{Look}
-use Rattle.cal_run.specs.Workers.{journals_of, seat_of}
 use Rattle.cal_run.specs.declared.outcome.RunEnd.{RunEnd}
-use Rattle.cal_run.specs.declared.workers.worker.Worker.{Worker}
 use Rattle.cal_run.proofs.CollectorLemmas.Opened.{no_pass_yet, no_turn_yet, same_empty}
-use Rattle.cal_paced.specs.Paced.{IsPacedEndOf}
 use Rattle.cal_paced.proofs.Differing.{table-still}
 use Rattle.cal_paced.proofs.Ending.{all-made, ended, paced-run}
 use Rattle.cal_paced.proofs.run.paced_end_by.Goals as goal

@@ -1,5 +1,4 @@
-use Rattle.std.specs.Prelude.{◌≡◌, ℕ, nat_lt}
-use Rattle.cal_machine.specs.CoreSet.{has}
+use Rattle.cal_paced.proofs.Common.{◌≡◌, ℕ, nat_lt, has}
 use Rattle.cal_paced.proofs.shares.all_cores.Given as goal
 
 -- the cores so far

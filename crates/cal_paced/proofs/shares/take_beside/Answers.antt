@@ -1,6 +1,4 @@
-use Rattle.std.proofs.Common.{◌&&◌, not, ℕ, sym, ap, ◌∙◌}
-use Rattle.std.specs.Prelude.{◌==◌}
-use Rattle.cal_machine.specs.CoreSet.{has}
+use Rattle.cal_paced.proofs.Common.{◌&&◌, not, ℕ, sym, ap, ◌∙◌, ◌==◌, has}
 use Rattle.cal_paced.proofs.Beside.{none-beside, none-beyond, taken-away}
 use Rattle.cal_paced.proofs.shares.take_beside.Goals as goal
 

@@ -1,5 +1,4 @@
-use Rattle.std.proofs.Common.{sym, ◌∙◌}
-use Rattle.std.proofs.lemmas.Bool.{both_ways}
+use Rattle.cal_policy.proofs.Common.{sym, ◌∙◌, both_ways}
 use Rattle.cal_policy.proofs.PolicyLemmas.{pass_input, pass_actions, pass_from}
 use Rattle.cal_policy.proofs.auditor.is_next.Goals as goal
 

@@ -1,13 +1,4 @@
-use Rattle.std.proofs.Common.{◌≡◌, ℕ, ◌<◌, Option, List, Some, None, nat_lt}
-use Rattle.std.specs.Option.{MatchOption}
-use Rattle.std.proofs.lemmas.Bool.{ltb-true, ltb-false}
-use Rattle.std.proofs.lemmas.List.MinMax.{IsStrictWeakOrder-by_number, IsStrictWeakOrder-flip}
-use Rattle.cal_policy.specs.declared.pass.choice.Candidate.{Candidate}
-use Rattle.cal_policy.specs.declared.history.action.Action.{Action}
-use Rattle.cal_policy.specs.Setting.{Setting}
-use Rattle.cal_machine.specs.TableTasks.{limit_of, thread_of}
-use Rattle.cal_policy.specs.Pass.Grants.{thread_rank, thread_choice}
-use Rattle.cal_policy.specs.Laws.{HasWaitedLongest}
+use Rattle.cal_policy.proofs.Common.{◌≡◌, ℕ, ◌<◌, Option, List, Some, None, nat_lt, MatchOption, ltb-true, ltb-false, IsStrictWeakOrder-by_number, IsStrictWeakOrder-flip, Candidate, Action, Setting, limit_of, thread_of, thread_rank, thread_choice, HasWaitedLongest}
 use Rattle.cal_policy.proofs.PassLemmas.Best.{BestOrNone, best_is_best}
 use Rattle.cal_policy.proofs.laws.chosen_has_waited_longest.Goals as goal
 

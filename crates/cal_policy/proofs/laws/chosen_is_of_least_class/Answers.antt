@@ -1,14 +1,4 @@
-use Rattle.std.proofs.Common.{◌≡◌, ℕ, ◌<◌, Option, List, Some, None}
-use Rattle.std.specs.Option.{MatchOption}
-use Rattle.std.proofs.lemmas.Bool.{ltb-true, ltb-false}
-use Rattle.std.proofs.lemmas.List.MinMax.{IsStrictWeakOrder-by_number}
-use Rattle.cal_policy.specs.declared.pass.choice.Candidate.{Candidate}
-use Rattle.cal_policy.specs.declared.history.core_class.CoreClass.{CoreClass}
-use Rattle.cal_policy.specs.History.CoreClasses.{class_number, comes_before}
-use Rattle.cal_policy.specs.declared.history.action.Action.{Action}
-use Rattle.cal_policy.specs.Setting.{Setting}
-use Rattle.cal_policy.specs.Pass.Grants.{class_of, choice_of}
-use Rattle.cal_policy.specs.Laws.{IsOfLeastClass}
+use Rattle.cal_policy.proofs.Common.{◌≡◌, ℕ, ◌<◌, Option, List, Some, None, MatchOption, ltb-true, ltb-false, IsStrictWeakOrder-by_number, Candidate, CoreClass, class_number, comes_before, Action, Setting, class_of, choice_of, IsOfLeastClass}
 use Rattle.cal_policy.proofs.PassLemmas.Best.{BestOrNone, best_is_best}
 use Rattle.cal_policy.proofs.laws.chosen_is_of_least_class.Goals as goal
 

@@ -1,10 +1,4 @@
-use Rattle.std.proofs.Common.{List, take, sym, ap, ◌∙◌}
-use Rattle.std.proofs.lemmas.Grind.{flat_map-append}
-use Rattle.std.proofs.Math.Seq.{take-append_seam}
-use Rattle.cal_policy.specs.declared.history.action.Action.{Action}
-use Rattle.cal_policy.specs.declared.history.entry.PassEntry.{PassEntry}
-use Rattle.cal_policy.specs.History.{actions_of, commands_to, sent_to, sends}
-use Rattle.cal_policy.specs.History.Lists.{each_after}
+use Rattle.cal_policy.proofs.Common.{List, take, sym, ap, ◌∙◌, flat_map-append, take-append_seam, Action, PassEntry, actions_of, commands_to, sent_to, sends, each_after}
 use Rattle.cal_policy.proofs.ListLemmas.OneMore.{each_of_append}
 use Rattle.cal_policy.proofs.laws.commands_begin_alike.Goals as goal
 

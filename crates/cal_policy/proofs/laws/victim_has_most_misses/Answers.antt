@@ -1,12 +1,4 @@
-use Rattle.std.proofs.Common.{◌≡◌, ℕ, ◌<◌, Option, List, Some, None, nat_lt, length}
-use Rattle.std.specs.Option.{MatchOption}
-use Rattle.std.proofs.lemmas.Bool.{ltb-true, ltb-false}
-use Rattle.std.proofs.lemmas.List.MinMax.{IsStrictWeakOrder-by_number, IsStrictWeakOrder-flip}
-use Rattle.cal_policy.specs.declared.pass.choice.Candidate.{Candidate}
-use Rattle.cal_policy.specs.declared.history.action.Action.{Action}
-use Rattle.cal_policy.specs.Setting.{Setting}
-use Rattle.cal_policy.specs.Pass.Bandwidth.{victim_rank, victim_of}
-use Rattle.cal_policy.specs.Laws.{HasMostMisses}
+use Rattle.cal_policy.proofs.Common.{◌≡◌, ℕ, ◌<◌, Option, List, Some, None, nat_lt, length, MatchOption, ltb-true, ltb-false, IsStrictWeakOrder-by_number, IsStrictWeakOrder-flip, Candidate, Action, Setting, victim_rank, victim_of, HasMostMisses}
 use Rattle.cal_policy.proofs.PassLemmas.Best.{BestOrNone, best_is_best}
 use Rattle.cal_policy.proofs.laws.victim_has_most_misses.Goals as goal
 

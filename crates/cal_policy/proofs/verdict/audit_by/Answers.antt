@@ -1,10 +1,5 @@
 -- The passes before are the policy's own, and so orderly; a pass after them is one more.
-use Rattle.std.proofs.Common.{◌≡◌, ℕ, ◌≤◌, List, length, take, sym, subst, ◌∙◌, arith}
-use Rattle.std.proofs.lemmas.Bool.{both_ways}
-use Rattle.std.proofs.lemmas.List.{take_all}
-use Rattle.std.proofs.lemmas.Option.{get_or_from_slice_get}
-use Rattle.cal_policy.specs.declared.history.entry.PassEntry.{PassEntry}
-use Rattle.cal_policy.specs.Policies.{IsPassBy, IsLegalBy}
+use Rattle.cal_policy.proofs.Common.{◌≡◌, ℕ, ◌≤◌, List, length, take, sym, subst, ◌∙◌, arith, both_ways, take_all, get_or_from_slice_get, PassEntry, IsPassBy, IsLegalBy}
 use Rattle.cal_policy.proofs.ListLemmas.Each.{each_more_item}
 use Rattle.cal_policy.proofs.PolicyLemmas.{legal_upto_by, orderly_by, verdict_illegal, verdict_legal}
 use Rattle.cal_policy.proofs.verdict.audit_by.Goals as goal

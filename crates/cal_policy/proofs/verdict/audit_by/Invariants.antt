@@ -1,6 +1,4 @@
-use Rattle.std.proofs.Common.{◌≡◌, ℕ, ◌<◌, Some, slice_get, take}
-use Rattle.cal_policy.specs.declared.history.entry.PassEntry.{PassEntry}
-use Rattle.cal_policy.specs.Policies.{IsPassBy}
+use Rattle.cal_policy.proofs.Common.{◌≡◌, ℕ, ◌<◌, Some, slice_get, take, PassEntry, IsPassBy}
 use Rattle.cal_policy.proofs.verdict.audit_by.Given as goal
 
 abbrev pub invariant-loop-p : goal.invariant-loop-p

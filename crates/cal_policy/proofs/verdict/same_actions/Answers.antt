@@ -1,11 +1,7 @@
 -- Equal lists of actions: each variant is told by its own fields.
-use Rattle.std.proofs.Common.{◌≡◌, refl, arith}
+use Rattle.cal_policy.proofs.Common.{◌≡◌, refl, arith, Decides-eqb, Action, Free, Unban, Ban, Revoke, Cap, Grant, Cause}
 use Rattle.std.specs.Bool.{Decides}
 use Rattle.std.proofs.lemmas.Slice.Eq.{slice_eq-Decides}
-use Rattle.std.proofs.lemmas.Bool.Decides.{Decides-eqb}
-use Rattle.cal_policy.specs.declared.history.action.Action.{Action}
-use Rattle.cal_policy.specs.declared.history.action.Action.TheVariants.{Free, Unban, Ban, Revoke, Cap, Grant}
-use Rattle.cal_policy.specs.declared.history.action.Cause.{Cause}
 use Rattle.cal_policy.specs.declared.history.action.Cause.TheVariants as causes
 use Rattle.cal_policy.specs.contracts.history.action.ActionPartialEq.TheImpl.{eq-value}
 use Rattle.cal_policy.specs.contracts.history.action.CausePartialEq.TheImpl as cause_eq

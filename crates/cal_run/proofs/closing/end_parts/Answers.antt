@@ -1,6 +1,4 @@
-use Rattle.std.proofs.Common.{List, ap, length, ◌∙◌, arith}
-use Rattle.cal_signal.specs.declared.look.Look.{Look}
-use Rattle.cal_run.specs.Parts.{rounds_of}
+use Rattle.cal_run.proofs.Common.{List, ap, length, ◌∙◌, arith, Look, rounds_of}
 use Rattle.cal_run.proofs.OutcomeLemmas.Filled.{filled_whole}
 use Rattle.cal_run.proofs.RoundsLemmas.Rounds.{may_be_ended}
 use Rattle.cal_run.proofs.closing.end_parts.Goals as goal

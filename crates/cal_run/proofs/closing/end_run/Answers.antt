@@ -1,9 +1,6 @@
+use Rattle.cal_run.proofs.Common.{WatchView, HaveClosed, filled, journals_of}
 use Rattle.std.specs.Prelude.{refl}
-use Rattle.cal_sched.specs.Watching.{WatchView}
 use Rattle.cal_linear.specs.Linear.{linear}
-use Rattle.cal_run.specs.Closing.{HaveClosed}
-use Rattle.cal_run.specs.Parts.{filled}
-use Rattle.cal_run.specs.Workers.{journals_of}
 use Rattle.cal_run.proofs.OutcomeLemmas.Filled.{filled_watched, many_filled}
 use Rattle.cal_run.proofs.OutcomeLemmas.Runs.{are_of_one_run, are_watched, is_run, many_watchers}
 use Rattle.cal_run.proofs.closing.end_run.Goals as goal

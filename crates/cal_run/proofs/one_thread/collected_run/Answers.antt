@@ -1,8 +1,4 @@
-use Rattle.std.proofs.Common.{◌≡◌, length, sym, ◌∙◌, arith}
-use Rattle.std.proofs.lemmas.List.{length-map}
-use Rattle.cal_run.specs.Parts.{rounds_of}
-use Rattle.cal_run.specs.Workers.{journals_of}
-use Rattle.cal_run.specs.declared.workers.worker.Worker.{Worker}
+use Rattle.cal_run.proofs.Common.{◌≡◌, length, sym, ◌∙◌, arith, length-map, rounds_of, journals_of, Worker}
 use Rattle.cal_run.proofs.CollectorLemmas.Opened.{no_pass_yet, no_turn_yet, same_empty}
 use Rattle.cal_run.proofs.RoundsLemmas.Rounds.{after_all_rounds}
 use Rattle.cal_run.proofs.one_thread.collected_run.Goals as goal

@@ -1,16 +1,4 @@
-use Rattle.std.proofs.Common.{◌≡◌, ℕ, List, [], length, max, refl, replicate, subst, sym, ◌∙◌, arith}
-use Rattle.std.proofs.lemmas.List.{length-map}
-use Rattle.cal_kthread.specs.declared.journal.entry.Entry.{Entry}
-use Rattle.cal_machine.specs.Table.{Table}
-use Rattle.cal_machine.specs.TableTasks.{threads_of_table}
-use Rattle.cal_policy.specs.declared.history.entry.PassEntry.{PassEntry}
-use Rattle.cal_policy.specs.declared.policy.Policy.{Policy}
-use Rattle.cal_run.specs.Outcome.{IsRunEndBy, outcome_of}
-use Rattle.cal_run.specs.Order.{then_rounds}
-use Rattle.cal_run.specs.Parts.{filled}
-use Rattle.cal_run.specs.Workers.{journals_of, seat_of}
-use Rattle.cal_run.specs.declared.outcome.RunEnd.{RunEnd}
-use Rattle.cal_run.specs.declared.workers.worker.Worker.{Worker}
+use Rattle.cal_run.proofs.Common.{◌≡◌, ℕ, List, [], length, max, refl, replicate, subst, sym, ◌∙◌, arith, length-map, Entry, Table, threads_of_table, PassEntry, Policy, IsRunEndBy, outcome_of, then_rounds, filled, journals_of, seat_of, RunEnd, Worker}
 use Rattle.cal_run.proofs.CollectorLemmas.Opened.{all_empty, no_pass_yet, no_turn_yet}
 use Rattle.cal_run.proofs.RoundsLemmas.FirstPasses.{first_alike}
 use Rattle.cal_run.proofs.RoundsLemmas.Rounds.{unwatched_end}

@@ -1,10 +1,4 @@
-use Rattle.std.proofs.Common.{subst}
-use Rattle.std.specs.Prelude.{IfOk}
-use Rattle.std.proofs.lemmas.Result.{IfOk-weaker}
-use Rattle.cal_policy.specs.declared.policy.Policy.{Policy}
-use Rattle.cal_run.specs.Outcome.Headline.{HeadlineBy}
-use Rattle.cal_run.specs.Outcome.{IsRunEndBy, outcome_of}
-use Rattle.cal_run.specs.declared.outcome.RunEnd.{RunEnd}
+use Rattle.cal_run.proofs.Common.{subst, IfOk, IfOk-weaker, Policy, HeadlineBy, IsRunEndBy, outcome_of, RunEnd}
 use Rattle.cal_run.proofs.one_thread.lockstep_end_by.Goals as goal
 
 pub returns-clause-run : goal.returns-clause-run

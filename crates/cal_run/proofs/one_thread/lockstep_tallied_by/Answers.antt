@@ -1,13 +1,4 @@
-use Rattle.std.proofs.Common.{◌≡◌, length, refl, subst, ◌∙◌, arith}
-use Rattle.std.specs.List.{AllZip}
-use Rattle.std.proofs.lemmas.List.{length-map}
-use Rattle.cal_trace.specs.Report.Summary.{IsTallyOf}
-use Rattle.cal_policy.specs.declared.policy.Policy.{Policy}
-use Rattle.cal_run.specs.Outcome.{IsRunEndBy, outcome_of}
-use Rattle.cal_run.specs.Parts.{filled}
-use Rattle.cal_run.specs.Workers.{journals_of}
-use Rattle.cal_run.specs.declared.outcome.RunEnd.{RunEnd}
-use Rattle.cal_run.specs.declared.workers.worker.Worker.{Worker}
+use Rattle.cal_run.proofs.Common.{◌≡◌, length, refl, subst, ◌∙◌, arith, AllZip, length-map, IsTallyOf, Policy, IsRunEndBy, outcome_of, filled, journals_of, RunEnd, Worker}
 use Rattle.cal_run.proofs.CollectorLemmas.Opened.{no_turn_yet, none_counted}
 use Rattle.cal_run.proofs.RoundsLemmas.Rounds.{unwatched_end}
 use Rattle.cal_run.proofs.one_thread.lockstep_tallied_by.Goals as goal

@@ -1,11 +1,5 @@
-use Rattle.std.proofs.Common.{◌≡◌, ◌+◌, List, sym, ap, subst, ◌∙◌, length, min, arith}
+use Rattle.cal_run.proofs.Common.{◌≡◌, ◌+◌, List, sym, ap, subst, ◌∙◌, length, min, arith, length-map, with_items_is, then_round, SchedulerSeat, WatchSeat, HaveMade, Seat, journals_of, seat_of, seats_of, Parts, Worker}
 use Rattle.std.specs.Vec.{with_items}
-use Rattle.std.proofs.lemmas.List.{length-map, with_items_is}
-use Rattle.cal_run.specs.Order.{then_round}
-use Rattle.cal_run.specs.Parts.{SchedulerSeat, WatchSeat}
-use Rattle.cal_run.specs.Workers.{HaveMade, Seat, journals_of, seat_of, seats_of}
-use Rattle.cal_run.specs.declared.parts.Parts.{Parts}
-use Rattle.cal_run.specs.declared.workers.worker.Worker.{Worker}
 use Rattle.cal_run.proofs.RoundsLemmas.Rounds.{round_more}
 use Rattle.cal_run.proofs.rounds.make_round.Goals as goal
 

@@ -1,9 +1,4 @@
-use Rattle.std.proofs.Common.{ℕ, List, length, refl, subst, sym, ◌∙◌, arith}
-use Rattle.cal_machine.specs.Table.{Table}
-use Rattle.cal_policy.specs.Policies.{IsLegalBy}
-use Rattle.cal_policy.specs.declared.history.entry.PassEntry.{PassEntry}
-use Rattle.cal_policy.proofs.PolicyLemmas.{legal_none_by}
-use Rattle.cal_run.specs.Order.{Made, then_round, then_rounds}
+use Rattle.cal_run.proofs.Common.{ℕ, List, length, refl, subst, sym, ◌∙◌, arith, Table, IsLegalBy, PassEntry, legal_none_by, Made, then_round, then_rounds}
 use Rattle.cal_run.proofs.CollectorLemmas.Opened.{no_pass_yet}
 use Rattle.cal_run.proofs.CollectorLemmas.Order.{no-rounds, one-round}
 use Rattle.cal_run.proofs.RoundsLemmas.FirstPasses.{first_alike, first_passes}

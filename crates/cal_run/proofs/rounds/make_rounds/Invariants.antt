@@ -1,8 +1,5 @@
-use Rattle.std.specs.Prelude.{◌≡◌, List, length}
-use Rattle.cal_policy.specs.Policies.{IsLegalBy}
-use Rattle.cal_run.specs.Order.{Made, then_rounds}
+use Rattle.cal_run.proofs.Common.{◌≡◌, List, length, IsLegalBy, Made, then_rounds, journals_of}
 use Rattle.cal_run.specs.Rounds.{AreAfterRounds}
-use Rattle.cal_run.specs.Workers.{journals_of}
 use Rattle.cal_run.proofs.rounds.make_rounds.Given as goal
 
 -- these many rounds were made, and the collector holds what they handed out

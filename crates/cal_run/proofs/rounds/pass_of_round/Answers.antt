@@ -1,7 +1,4 @@
-use Rattle.std.proofs.Common.{◌≡◌, length, List, false, true, ap, arith}
-use Rattle.std.specs.Prelude.{nat_lt}
-use Rattle.std.proofs.lemmas.Bool.Decides.{nat_tests}
-use Rattle.cal_trace.specs.declared.arrivals.GivenPass.{GivenPass}
+use Rattle.cal_run.proofs.Common.{◌≡◌, length, List, false, true, ap, arith, nat_lt, nat_tests, GivenPass}
 use Rattle.cal_run.proofs.rounds.pass_of_round.Goals as goal
 
 pub returns-then-r-as_slice-clause-ordered : goal.returns-then-r-as_slice-clause-ordered

@@ -1,6 +1,4 @@
-use Rattle.std.proofs.Common.{◌≡◌, ℕ, ◌+◌, length, min, List, false, true, ap, arith}
-use Rattle.std.specs.Prelude.{nat_lt}
-use Rattle.std.proofs.lemmas.Bool.Decides.{nat_tests}
+use Rattle.cal_run.proofs.Common.{◌≡◌, ℕ, ◌+◌, length, min, List, false, true, ap, arith, nat_lt, nat_tests}
 use Rattle.cal_run.proofs.RoundsLemmas.Rounds.{turns_counted}
 use Rattle.cal_run.proofs.rounds.turns_of_round.Goals as goal
 

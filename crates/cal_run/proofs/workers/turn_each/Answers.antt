@@ -1,12 +1,7 @@
-use Rattle.std.proofs.Common.{◌≡◌, ◌<◌, ◌≤◌, ◌+◌, ◌*◌, ◌++◌, ℕ, List, Some, length, get_or, arith, subst}
-use Rattle.std.specs.List.{slice_get}
-use Rattle.std.proofs.lemmas.Option.{slice_get-get_or}
+use Rattle.cal_run.proofs.Common.{◌≡◌, ◌<◌, ◌≤◌, ◌+◌, ◌*◌, ◌++◌, ℕ, List, Some, length, get_or, arith, subst, slice_get, slice_get-get_or, Entry, then_turns, turns_given}
 use Rattle.cal_kthread.specs.Turn.Entries.{entries_of}
-use Rattle.cal_kthread.specs.declared.journal.entry.Entry.{Entry}
 use Rattle.cal_kthread.specs.declared.kernel_thread.TheConstants.{MOST_ENTRIES}
 use Rattle.cal_trace.specs.declared.arrivals.reading.TheConstants.{MOST_TURNS}
-use Rattle.cal_run.specs.Order.{then_turns}
-use Rattle.cal_run.specs.Workers.GivenTurns.{turns_given}
 use Rattle.cal_run.proofs.CollectorLemmas.Few.{few_entries}
 use Rattle.cal_run.proofs.CollectorLemmas.Order.{all-turns, no-turns, one-turn}
 use Rattle.cal_run.proofs.CollectorLemmas.Journals.{journal_at_place, journals_after}

@@ -1,8 +1,4 @@
-use Rattle.std.proofs.Common.{List}
-use Rattle.cal_machine.specs.Table.{Table}
-use Rattle.cal_policy.specs.declared.history.entry.PassEntry.{PassEntry}
-use Rattle.cal_run.specs.Order.{Made, then_turns}
-use Rattle.cal_run.specs.Workers.{journals_of}
+use Rattle.cal_run.proofs.Common.{List, Table, PassEntry, Made, then_turns, journals_of}
 use Rattle.cal_run.proofs.WorkersLemmas.Turns.{TurnedUpTo}
 use Rattle.cal_run.proofs.workers.turn_each.Given as goal
 

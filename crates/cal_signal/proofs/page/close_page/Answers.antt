@@ -1,5 +1,4 @@
-use Rattle.std.proofs.Common.{rules, ap, ◌∙◌}
-use Rattle.cal_signal.specs.Rule.{sees}
+use Rattle.cal_signal.proofs.Common.{rules, ap, ◌∙◌, sees}
 use Rattle.cal_signal.proofs.PageSteps.{M, joins, learns}
 use Rattle.cal_signal.proofs.page.close_page.Goals as goal
 

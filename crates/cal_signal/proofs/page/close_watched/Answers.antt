@@ -1,5 +1,4 @@
-use Rattle.std.proofs.Common.{rules, ap, ◌∙◌, false}
-use Rattle.cal_signal.specs.Rule.{sees, parts_of}
+use Rattle.cal_signal.proofs.Common.{rules, ap, ◌∙◌, false, sees, parts_of}
 use Rattle.cal_signal.proofs.PageSteps.{M, joins, learns, splits}
 use Rattle.cal_signal.proofs.page.close_watched.Goals as goal
 

@@ -1,6 +1,4 @@
-use Rattle.std.proofs.Common.{rules, length, ap, sym, ◌∙◌}
-use Rattle.cal_signal.specs.Pages.{floor_of, last_published}
-use Rattle.cal_signal.specs.Rule.{sees}
+use Rattle.cal_signal.proofs.Common.{rules, length, ap, sym, ◌∙◌, floor_of, last_published, sees}
 use Rattle.cal_signal.proofs.PageLists.{floor_snoc}
 use Rattle.cal_signal.proofs.PageSteps.{M, joins_reading, splits}
 use Rattle.cal_signal.proofs.page.read_back.Goals as goal

@@ -1,5 +1,4 @@
-use Rattle.std.proofs.Common.{◌≡◌, ℕ, ◌≤◌, List, [], ◌∷◌, ◌++◌, length, rules, sym, refl, ap, ◌∙◌, arith, length-set}
-use Rattle.std.proofs.lemmas.List.{take_more_set, take_all, length-take-le}
+use Rattle.cal_signal.proofs.Common.{◌≡◌, ℕ, ◌≤◌, List, [], ◌∷◌, ◌++◌, length, rules, sym, refl, ap, ◌∙◌, arith, length-set, take_more_set, take_all, length-take-le}
 use Rattle.cal_signal.proofs.PageSteps.{M, peeks}
 use Rattle.cal_signal.proofs.words.load_words.Goals as goal
 

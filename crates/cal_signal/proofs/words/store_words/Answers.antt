@@ -1,7 +1,4 @@
-use Rattle.std.proofs.Common.{◌≡◌, ℕ, ◌+◌, ◌%◌, ◌≤◌, List, [], ◌∷◌, ◌++◌, length, take, get_or, rules, sym, refl, ap, ◌∙◌, arith}
-use Rattle.std.proofs.lemmas.List.{take_more, take_all, length-take-le}
-use Rattle.cal_signal.specs.Records.{words_of}
-use Rattle.cal_signal.specs.Pages.{last_published}
+use Rattle.cal_signal.proofs.Common.{◌≡◌, ℕ, ◌+◌, ◌%◌, ◌≤◌, List, [], ◌∷◌, ◌++◌, length, take, get_or, rules, sym, refl, ap, ◌∙◌, arith, take_more, take_all, length-take-le, words_of, last_published}
 use Rattle.cal_signal.proofs.PageSteps.{M, writes, spares}
 use Rattle.cal_signal.proofs.words.store_words.Goals as goal
 use Rattle.cal_signal.proofs.words.store_words.Goals.{then-words-i, else-words-i}

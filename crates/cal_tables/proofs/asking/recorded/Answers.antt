@@ -1,9 +1,7 @@
-use Rattle.std.proofs.Common.{◌≡◌, Err, List, Result, ap, rules}
+use Rattle.cal_tables.proofs.Common.{◌≡◌, Err, List, Result, ap, rules, PassEntry, asked_history}
 use Rattle.cal_input.proofs.Refusals.{refused_history}
 use Rattle.cal_input.specs.Recorded.{recorded_on}
 use Rattle.cal_input.specs.declared.fault.RunFault.TheVariants as fault
-use Rattle.cal_policy.specs.declared.history.entry.PassEntry.{PassEntry}
-use Rattle.cal_tables.specs.Asked.{asked_history}
 use Rattle.cal_trace.proofs.HistoryLemmas.ReadInRange.{read_in_range}
 use Rattle.cal_trace.specs.History.Reading.{extent_of}
 use Rattle.cal_trace.specs.History.{history_of}

@@ -1,5 +1,4 @@
-use Rattle.std.proofs.Common.{◌≡◌, take}
-use Rattle.cal_tables.specs.Crowding.{far_of}
+use Rattle.cal_tables.proofs.Common.{◌≡◌, take, far_of}
 use Rattle.cal_tables.proofs.crowding.far_of.Given as goal
 
 abbrev pub invariant-loop-coming : goal.invariant-loop-coming

@@ -1,5 +1,4 @@
-use Rattle.std.proofs.Common.{option_map, ap, sym, ◌∙◌}
-use Rattle.cal_tables.specs.Crowding.{count_in}
+use Rattle.cal_tables.proofs.Common.{option_map, ap, sym, ◌∙◌, count_in}
 use Rattle.cal_tables.proofs.crowding.left_out_of.Goals as goal
 
 pub returns-in-Some : goal.returns-in-Some

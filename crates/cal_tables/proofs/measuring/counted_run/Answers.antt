@@ -1,9 +1,4 @@
-use Rattle.std.proofs.Common.{◌∙◌, subst, sym}
-use Rattle.cal_machine.specs.Table.{Table}
-use Rattle.cal_measure.specs.Walk.{IsOpenFor}
-use Rattle.cal_measure.specs.declared.walk.Walk.{Walk}
-use Rattle.cal_tables.specs.Measured.{AreRunNumbers}
-use Rattle.cal_trace.specs.Arrivals.FitsTable.{FitsTable}
+use Rattle.cal_tables.proofs.Common.{◌∙◌, subst, sym, Table, IsOpenFor, Walk, AreRunNumbers, FitsTable}
 use Rattle.cal_tables.proofs.measuring.counted_run.Goals as goal
 
 pub lockstep_collected_by-requires-clause-suits : goal.lockstep_collected_by-requires-clause-suits

@@ -1,7 +1,6 @@
-use Rattle.std.proofs.Common.{subst}
+use Rattle.cal_tables.proofs.Common.{subst, IsCountedRun}
 use Rattle.std.specs.Prelude.{IfOk}
 use Rattle.cal_came.specs.declared.counted.Counted.{Counted}
-use Rattle.cal_tables.specs.Measured.{IsCountedRun}
 use Rattle.cal_tables.proofs.measuring.measured_run.Goals as goal
 
 pub returns-clause-numbers : goal.returns-clause-numbers

@@ -1,5 +1,4 @@
-use Rattle.std.proofs.Common.{◌≡◌, ◌++◌, ◌∷◌, [], ℕ, List, Some, slice_get, length, length-append, ap, subst, sym, ⊎_elim, arith}
-use Rattle.cal_machine.proofs.Last.{last_or_before}
+use Rattle.cal_tables.proofs.Common.{◌≡◌, ◌++◌, ◌∷◌, [], ℕ, List, Some, slice_get, length, length-append, ap, subst, sym, ⊎_elim, arith, last_or_before}
 use Rattle.cal_machine.specs.declared.request.Request.{Request}
 use Rattle.cal_measure.specs.Requests.{AreRequestsOf}
 use Rattle.cal_measure.specs.declared.requests.TaskRequests.{TaskRequests}

@@ -1,8 +1,7 @@
-use Rattle.std.proofs.Common.{◌≡◌, ℕ, Some, slice_get, length}
+use Rattle.cal_tables.proofs.Common.{◌≡◌, ℕ, Some, slice_get, length, AreNumbersAtEnd}
 use Rattle.cal_measure.specs.Requests.{AreRequestsOf}
 use Rattle.cal_measure.specs.declared.requests.TaskRequests.{TaskRequests}
 use Rattle.cal_run.specs.declared.outcome.Outcome.{Outcome}
-use Rattle.cal_tables.specs.Measured.{AreNumbersAtEnd}
 use Rattle.cal_tables.proofs.measuring.numbers_of.Given as goal
 
 abbrev pub invariant-loop-task : goal.invariant-loop-task

@@ -1,7 +1,4 @@
-use Rattle.std.proofs.Common.{◌≡◌, ◌∙◌, List, refl, ap, subst}
-use Rattle.cal_tables.specs.Moved.{AreMoved, arrivals_in, comings_moved}
-use Rattle.cal_tables.specs.declared.moved.placing.Placed.{Placed}
-use Rattle.cal_trace.specs.declared.comings.Coming.{Coming}
+use Rattle.cal_tables.proofs.Common.{◌∙◌, List, refl, ap, subst, AreMoved, arrivals_in, comings_moved, Placed, Coming}
 use Rattle.cal_trace.specs.declared.comings.LeftOut.{LeftOut}
 use Rattle.cal_tables.proofs.Moving.ComingsTold.{comings_fit}
 use Rattle.cal_tables.proofs.moved.moved_on.Goals as goal

@@ -1,5 +1,4 @@
-use Rattle.std.proofs.Common.{◌≡◌, Err, rules}
-use Rattle.cal_tables.specs.Planned.{fault_of_plan}
+use Rattle.cal_tables.proofs.Common.{◌≡◌, Err, rules, fault_of_plan}
 use Rattle.cal_tables.proofs.Planning.{fault_of}
 use Rattle.cal_tables.proofs.planned.counted_paced.Goals as goal
 

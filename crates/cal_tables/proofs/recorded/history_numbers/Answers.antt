@@ -1,10 +1,6 @@
-use Rattle.std.proofs.Common.{◌∙◌, List, arith, sym}
+use Rattle.cal_tables.proofs.Common.{◌∙◌, List, arith, sym, Table, IsOpenFor, IsWalkOf, PassEntry, AreHistoryNumbers}
 use Rattle.std.proofs.lemmas.Result.{IfOk-weaker}
-use Rattle.cal_machine.specs.Table.{Table}
 use Rattle.cal_laws.specs.Point.{Point}
-use Rattle.cal_measure.specs.Walk.{IsOpenFor, IsWalkOf}
-use Rattle.cal_policy.specs.declared.history.entry.PassEntry.{PassEntry}
-use Rattle.cal_tables.specs.Measured.{AreHistoryNumbers}
 use Rattle.cal_tables.specs.declared.recorded.HistoryNumbers.{HistoryNumbers}
 use Rattle.cal_tables.proofs.recorded.history_numbers.Goals as goal
 

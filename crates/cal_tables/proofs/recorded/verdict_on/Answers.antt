@@ -1,7 +1,4 @@
-use Rattle.std.proofs.Common.{◌<◌, ◌≤◌, ◌^◌, ◌++◌, ◌∷◌, [], List, length, length-take-le, take, take_all, arith, subst}
-use Rattle.cal_measure.proofs.Steps.{grown}
-use Rattle.cal_policy.specs.Policies.{IsAuditBy, IsVerdictBy}
-use Rattle.cal_policy.specs.declared.history.entry.PassEntry.{PassEntry}
+use Rattle.cal_tables.proofs.Common.{◌<◌, ◌≤◌, ◌^◌, ◌++◌, ◌∷◌, [], List, length, length-take-le, take, take_all, arith, subst, grown, IsAuditBy, IsVerdictBy, PassEntry}
 use Rattle.cal_tables.proofs.recorded.verdict_on.Goals as goal
 
 pub loop-entry-preserved : goal.loop-entry-preserved

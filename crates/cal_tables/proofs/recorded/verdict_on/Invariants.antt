@@ -1,6 +1,5 @@
-use Rattle.std.proofs.Common.{take}
+use Rattle.cal_tables.proofs.Common.{take, IsAuditBy}
 use Rattle.cal_policy.specs.Auditor.{IsAuditorOf}
-use Rattle.cal_policy.specs.Policies.{IsAuditBy}
 use Rattle.cal_tables.proofs.recorded.verdict_on.Given as goal
 
 abbrev pub invariant-loop-entry : goal.invariant-loop-entry

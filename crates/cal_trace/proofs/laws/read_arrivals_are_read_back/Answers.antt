@@ -1,5 +1,4 @@
-use Rattle.cal_machine.specs.Tasks.{threads_in}
-use Rattle.cal_trace.specs.Rows.{rows_of}
+use Rattle.cal_trace.proofs.Common.{threads_in, rows_of}
 use Rattle.cal_trace.proofs.ArrivalLemmas.ReadBack.{arrivals_back}
 use Rattle.cal_trace.proofs.ArrivalLemmas.Spelled.{arrivals_spelled}
 use Rattle.cal_trace.proofs.ArrivalsFit.{arrivals_fit}

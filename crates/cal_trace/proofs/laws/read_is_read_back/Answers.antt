@@ -1,5 +1,4 @@
-use Rattle.cal_trace.specs.History.Reading.{extent_of}
-use Rattle.cal_trace.specs.Rows.{rows_of}
+use Rattle.cal_trace.proofs.Common.{extent_of, rows_of}
 use Rattle.cal_trace.proofs.HistoryLemmas.Extents.{table_extent}
 use Rattle.cal_trace.proofs.HistoryLemmas.ReadBack.{history_back}
 use Rattle.cal_trace.proofs.HistoryLemmas.ReadInRange.{read_in_range}

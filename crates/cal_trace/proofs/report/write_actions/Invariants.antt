@@ -1,7 +1,4 @@
-use Rattle.std.proofs.Common.{take}
-use Rattle.std.specs.Io.KnownBytes.{Appends}
-use Rattle.std.specs.List.{flat_map}
-use Rattle.cal_trace.specs.Report.{action_line}
+use Rattle.cal_trace.proofs.Common.{take, Appends, flat_map, action_line}
 use Rattle.cal_trace.proofs.report.write_actions.Given as goal
 
 abbrev pub invariant-loop-action : goal.invariant-loop-action

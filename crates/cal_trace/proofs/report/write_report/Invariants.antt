@@ -1,6 +1,4 @@
-use Rattle.std.proofs.Common.{take}
-use Rattle.std.specs.Io.KnownBytes.{Appends}
-use Rattle.cal_trace.specs.Report.{passes_text, IsReportOf}
+use Rattle.cal_trace.proofs.Common.{take, Appends, passes_text, IsReportOf}
 use Rattle.cal_trace.proofs.report.write_report.Given as goal
 
 abbrev pub invariant-loop-pass : goal.invariant-loop-pass

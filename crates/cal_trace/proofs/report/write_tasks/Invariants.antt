@@ -1,7 +1,4 @@
-use Rattle.std.proofs.Common.{List}
-use Rattle.std.specs.Io.KnownBytes.{Appends}
-use Rattle.cal_policy.specs.declared.history.action.Action.{Action}
-use Rattle.cal_trace.specs.Report.{task_lines}
+use Rattle.cal_trace.proofs.Common.{List, Appends, Action, task_lines}
 use Rattle.cal_policy.specs.State.{Agrees}
 use Rattle.cal_trace.proofs.report.write_tasks.Given as goal
 

@@ -1,8 +1,4 @@
-use Rattle.std.proofs.Common.{◌≡◌, ℕ, ◌<◌, List, Some, None, slice_get}
-use Rattle.cal_policy.specs.declared.history.entry.PassEntry.{PassEntry}
-use Rattle.caladan_c.specs.OneByOne.{is_unfit}
-use Rattle.cal_policy.specs.State.{IsStateAfter}
-use Rattle.caladan_c.specs.declared.found.Found.{Found}
+use Rattle.caladan_c.proofs.Common.{◌≡◌, ℕ, ◌<◌, List, Some, None, slice_get, PassEntry, is_unfit, IsStateAfter, Found}
 use Rattle.caladan_c.proofs.input.first_unfit.Given as goal
 
 abbrev pub invariant-loop-k : goal.invariant-loop-k

@@ -1,10 +1,4 @@
-use Rattle.std.proofs.Common.{◌≡◌, ℕ, ◌<◌, List, Some, length, slice_get}
-use Rattle.cal_policy.specs.State.{IsStateAfter}
-use Rattle.cal_policy.specs.Judgement.OneByOne.{fault_of}
-use Rattle.cal_policy.specs.declared.history.entry.PassEntry.{PassEntry}
-use Rattle.caladan_c.specs.Found.{look_of_found}
-use Rattle.caladan_c.specs.OneByOne.{said_of}
-use Rattle.caladan_c.specs.declared.found.Found.{Found}
+use Rattle.caladan_c.proofs.Common.{◌≡◌, ℕ, ◌<◌, List, Some, length, slice_get, IsStateAfter, fault_of, PassEntry, look_of_found, said_of, Found}
 use Rattle.caladan_c.proofs.judging.say_each.Given as goal
 
 abbrev pub invariant-loop-k : goal.invariant-loop-k

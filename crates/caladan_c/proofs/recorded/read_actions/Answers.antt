@@ -1,6 +1,4 @@
-use Rattle.std.proofs.Common.{rules, ◌≡◌, ◌++◌, ◌∷◌, [], refl}
-use Rattle.std.proofs.lemmas.Option.{slice_get-get_or}
-use Rattle.caladan_c.specs.Told.{told_of}
+use Rattle.caladan_c.proofs.Common.{rules, ◌≡◌, ◌++◌, ◌∷◌, [], refl, slice_get-get_or, told_of}
 use Rattle.caladan_c.proofs.NoneSuch.{none_such}
 use Rattle.caladan_c.proofs.OneMore.{taken_more}
 use Rattle.caladan_c.proofs.recorded.read_actions.Goals as goal

@@ -1,5 +1,4 @@
-use Rattle.std.proofs.Common.{◌≡◌, take, map}
-use Rattle.caladan_c.specs.Told.{told_of}
+use Rattle.caladan_c.proofs.Common.{◌≡◌, take, map, told_of}
 use Rattle.caladan_c.proofs.recorded.read_actions.Given as goal
 
 abbrev pub invariant-loop-one : goal.invariant-loop-one

@@ -1,9 +1,4 @@
-use Rattle.std.proofs.Common.{rules, ◌≡◌, ◌<◌, ◌++◌, ◌∷◌, [], length, arith, refl, ap, ◌∙◌}
-use Rattle.std.specs.Option.{option_map}
-use Rattle.std.proofs.lemmas.Option.{slice_get-get_or, slice_get-map}
-use Rattle.cal_policy.specs.History.Looks.{look_of}
-use Rattle.caladan_c.specs.Found.{look_of_found}
-use Rattle.caladan_c.specs.Told.{judgement_of}
+use Rattle.caladan_c.proofs.Common.{rules, ◌≡◌, ◌<◌, ◌++◌, ◌∷◌, [], length, arith, refl, ap, ◌∙◌, option_map, slice_get-get_or, slice_get-map, look_of, look_of_found, judgement_of}
 use Rattle.caladan_c.proofs.NoneSuch.{none_such_both}
 use Rattle.caladan_c.proofs.OneMore.{image_more, taken_more}
 use Rattle.caladan_c.proofs.recorded.seen_in.Goals as goal

@@ -1,7 +1,4 @@
-use Rattle.std.proofs.Common.{◌≡◌, take, map}
-use Rattle.cal_policy.specs.History.Looks.{look_of}
-use Rattle.caladan_c.specs.Found.{look_of_found}
-use Rattle.caladan_c.specs.Told.{judgement_of}
+use Rattle.caladan_c.proofs.Common.{◌≡◌, take, map, look_of, look_of_found, judgement_of}
 use Rattle.caladan_c.proofs.recorded.seen_in.Given as goal
 
 abbrev pub invariant-loop-k : goal.invariant-loop-k

@@ -1,6 +1,4 @@
-use Rattle.std.proofs.Common.{◌≡◌, length, ℕ, ◌<◌, Some, slice_get}
-use Rattle.cal_policy.specs.declared.history.action.Action.{Action}
-use Rattle.caladan_c.specs.Told.{told_of}
+use Rattle.caladan_c.proofs.Common.{◌≡◌, length, ℕ, ◌<◌, Some, slice_get, Action, told_of}
 use Rattle.caladan_c.proofs.told.tell_all.Given as goal
 
 abbrev pub invariant-loop-k : goal.invariant-loop-k

@@ -1,10 +1,6 @@
-use Rattle.std.proofs.Common.{◌≡◌, ◌<◌, map, None, refl, sym, ap, subst, ◌∙◌, arith, List}
-use Rattle.cal_policy.specs.declared.judgement.open_input.FoundLook.{FoundLook}
-use Rattle.cal_policy.specs.Judgement.OneByOne.{fault_of, taken_looks}
-use Rattle.cal_policy.specs.Judgement.OpenPass.{IsOpenAt}
+use Rattle.caladan_c.proofs.Common.{◌≡◌, ◌<◌, map, None, refl, sym, ap, subst, ◌∙◌, arith, List, FoundLook, fault_of, taken_looks, IsOpenAt, found_of, look_of_found}
 use Rattle.cal_policy.proofs.JudgementLemmas.OpenPass.{again_is_taken}
 use Rattle.cal_signal.specs.declared.look.Look.{Look}
-use Rattle.caladan_c.specs.Found.{found_of, look_of_found}
 use Rattle.caladan_c.proofs.Walked.{taken_grows}
 use Rattle.caladan_c.proofs.walk.take_by_itself.Goals as goal
 

@@ -1,7 +1,4 @@
-use Rattle.std.proofs.Common.{◌+◌, ◌<◌, [], List, length, ap, sym, refl, ◌∙◌, arith, rules}
-use Rattle.std.proofs.lemmas.Option.{slice_get_within}
-use Rattle.caladan_c.specs.OneByOne.{IsTakenAt}
-use Rattle.caladan_c.specs.declared.found.Found.{Found}
+use Rattle.caladan_c.proofs.Common.{◌+◌, ◌<◌, [], List, length, ap, sym, refl, ◌∙◌, arith, rules, slice_get_within, IsTakenAt, Found}
 use Rattle.caladan_c.proofs.OneByOne.{said_to}
 use Rattle.caladan_c.proofs.Walked.{grown_to, grown_all}
 use Rattle.caladan_c.proofs.walk.take_each.Goals as goal

@@ -1,11 +1,5 @@
-use Rattle.std.proofs.Common.{◌≡◌, ℕ, ◌<◌, List, Some, length, take, slice_get}
-use Rattle.cal_policy.specs.State.{IsStateAfter}
-use Rattle.cal_policy.specs.Judgement.OneByOne.{fault_of}
+use Rattle.caladan_c.proofs.Common.{◌≡◌, ℕ, ◌<◌, List, Some, length, take, slice_get, IsStateAfter, fault_of, PassEntry, look_of_found, IsTakenAt, said_of, Found}
 use Rattle.cal_policy.specs.Judgement.Settled.{SettledAreNoNews}
-use Rattle.cal_policy.specs.declared.history.entry.PassEntry.{PassEntry}
-use Rattle.caladan_c.specs.Found.{look_of_found}
-use Rattle.caladan_c.specs.OneByOne.{IsTakenAt, said_of}
-use Rattle.caladan_c.specs.declared.found.Found.{Found}
 use Rattle.caladan_c.proofs.walk.take_each.Given as goal
 
 abbrev pub invariant-loop-k : goal.invariant-loop-k

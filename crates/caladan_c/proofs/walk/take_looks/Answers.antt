@@ -1,12 +1,5 @@
+use Rattle.caladan_c.proofs.Common.{Result, Ok, Err, ℕ, ◌+◌, [], List, ap, sym, subst, ◌∙◌, map_more, IsOpenAt, FoundLook, PassEntry, IsStateAfter, IsInput, found_of, input_of_found}
 use Rattle.std.specs.Prelude.{IfErr}
-use Rattle.std.proofs.Common.{Result, Ok, Err, ℕ, ◌+◌, [], List, ap, sym, subst, ◌∙◌}
-use Rattle.std.proofs.lemmas.List.{map_more}
-use Rattle.cal_policy.specs.Judgement.OpenPass.{IsOpenAt}
-use Rattle.cal_policy.specs.declared.judgement.open_input.FoundLook.{FoundLook}
-use Rattle.cal_policy.specs.declared.history.entry.PassEntry.{PassEntry}
-use Rattle.cal_policy.specs.State.{IsStateAfter}
-use Rattle.cal_policy.specs.Judgement.Judging.{IsInput}
-use Rattle.caladan_c.specs.Found.{found_of, input_of_found}
 use Rattle.caladan_c.proofs.Walked.{unfit_is_no_input}
 use Rattle.caladan_c.proofs.walk.take_looks.Goals as goal
 

@@ -1,9 +1,5 @@
-use Rattle.std.proofs.Common.{◌≡◌, List, take, map}
-use Rattle.cal_policy.specs.State.{IsStateAfter}
-use Rattle.cal_policy.specs.Judgement.OpenPass.{IsOpenAt}
+use Rattle.caladan_c.proofs.Common.{◌≡◌, List, take, map, IsStateAfter, IsOpenAt, PassEntry, found_of}
 use Rattle.cal_policy.specs.Judgement.Settled.{SettledAreNoNews}
-use Rattle.cal_policy.specs.declared.history.entry.PassEntry.{PassEntry}
-use Rattle.caladan_c.specs.Found.{found_of}
 use Rattle.caladan_c.proofs.walk.take_looks.Given as goal
 
 abbrev pub invariant-loop-one : goal.invariant-loop-one

@@ -1,15 +1,7 @@
-use Rattle.std.proofs.Common.{◌≡◌, Option, map, sym, ap, subst, ◌∙◌, if◌then◌else◌, List}
-use Rattle.std.specs.Option.{is_some}
+use Rattle.caladan_c.proofs.Common.{◌≡◌, Option, map, sym, ap, subst, ◌∙◌, if◌then◌else◌, List, is_some, FoundLook, actions_of, looks_of, last_shown, judged, IsFitLook, fault_of, refused_look, taken_look, taken_looks, IsOpenAt, found_of, look_of_found}
 use Rattle.cal_policy.specs.declared.judgement.look_fault.LookFault.{LookFault}
-use Rattle.cal_policy.specs.declared.judgement.open_input.FoundLook.{FoundLook}
-use Rattle.cal_policy.specs.History.{actions_of, looks_of}
-use Rattle.cal_policy.specs.History.Looks.{last_shown}
-use Rattle.cal_policy.specs.Judgement.Judging.{judged, IsFitLook}
-use Rattle.cal_policy.specs.Judgement.OneByOne.{fault_of, refused_look, taken_look, taken_looks}
-use Rattle.cal_policy.specs.Judgement.OpenPass.{IsOpenAt}
 use Rattle.cal_policy.proofs.JudgementLemmas.OneByOne.{taken_fits}
 use Rattle.cal_signal.specs.declared.look.Look.{Look}
-use Rattle.caladan_c.specs.Found.{found_of, look_of_found}
 use Rattle.caladan_c.proofs.Walked.{taken_grows}
 use Rattle.caladan_c.proofs.walk.take_news_by_itself.Goals as goal
 

@@ -1,6 +1,4 @@
-use Rattle.std.proofs.Common.{◌∷◌, [], ◌++◌, subst}
-use Rattle.cal_policy.specs.declared.judgement.open_input.FoundLook.{FoundLook}
-use Rattle.cal_policy.specs.Judgement.OpenPass.{IsOpenAt}
+use Rattle.caladan_c.proofs.Common.{◌∷◌, [], ◌++◌, subst, FoundLook, IsOpenAt}
 use Rattle.caladan_c.proofs.walk.take_next.Goals as goal
 
 pub returns-then-pass_over-clause-taken : goal.returns-then-pass_over-clause-taken

@@ -1,10 +1,5 @@
-use Rattle.std.proofs.Common.{◌≡◌, List, Option, None, Some, map, inr, Err, sym, ap, subst, ◌∙◌, rules, Bor}
-use Rattle.std.specs.Prelude.{unwrap_or}
-use Rattle.clap.specs.Simple.{App, is_simple, subcommand_of}
+use Rattle.cal_engine.proofs.Common.{◌≡◌, List, Option, None, Some, map, inr, Err, sym, ap, subst, ◌∙◌, rules, Bor, unwrap_or, App, is_simple, subcommand_of, Row, Text, Caladan, Explains, Names, policy_asked}
 use Rattle.clap.specs.Takes.{takes}
-use Rattle.clap.specs.Walk.{Row, Text}
-use Rattle.cal_policy.specs.declared.policy.Policy.TheVariants.{Caladan}
-use Rattle.cal_engine.specs.CommandWords.{Explains, Names, policy_asked}
 use Rattle.cal_engine.proofs.CommandWords.{asked_is_by, asked_is_explained, asked_is_named, asked_is_taken, program_is_simple}
 use Rattle.cal_engine.proofs.command_words.command_line.asked_by.Goals as goal
 

@@ -1,6 +1,4 @@
-use Rattle.std.proofs.Common.{◌≡◌, None, Some, subst, ◌∙◌}
-use Rattle.cal_policy.specs.declared.policy.Policy.{Policy}
-use Rattle.cal_engine.specs.CommandWords.{IsAsked}
+use Rattle.cal_engine.proofs.Common.{◌≡◌, None, Some, subst, ◌∙◌, Policy, IsAsked}
 use Rattle.cal_engine.proofs.command_words.command_line.asked_of.Goals as goal
 
 pub returns-in-Some-clause-job : goal.returns-in-Some-clause-job

@@ -1,6 +1,4 @@
-use Rattle.std.proofs.Common.{true, ap, ◌∙◌}
-use Rattle.std.proofs.lemmas.Result.{IfOk-weaker}
-use Rattle.clap.specs.Simple.{app_of_fields, on_top}
+use Rattle.cal_engine.proofs.Common.{true, ap, ◌∙◌, IfOk-weaker, app_of_fields, on_top}
 use Rattle.clap.specs.declared.builder.command.Command.{Command}
 use Rattle.clap.specs.declared.builder.command.Command.TheOpen.{Command-F}
 use Rattle.cal_engine.proofs.command_words.command_line.bare_program.Goals as goal

@@ -1,5 +1,4 @@
-use Rattle.std.proofs.Common.{◌≡◌, Bool, codes, refl, ◌∙◌}
-use Rattle.cal_engine.specs.CommandWords.{answer_of}
+use Rattle.cal_engine.proofs.Common.{◌≡◌, Bool, codes, refl, ◌∙◌, answer_of}
 use Rattle.cal_engine.proofs.CommandWords.{flag_read}
 use Rattle.cal_engine.proofs.command_words.command_line.flags_ask.Goals as goal
 

@@ -1,7 +1,4 @@
-use Rattle.std.proofs.Common.{ap₂, ◌∙◌}
-use Rattle.std.proofs.lemmas.Result.{IfOk-weaker}
-use Rattle.clap.specs.Built.{AddsArg}
-use Rattle.clap.specs.Simple.{with_rule}
+use Rattle.cal_engine.proofs.Common.{ap₂, ◌∙◌, IfOk-weaker, AddsArg, with_rule}
 use Rattle.cal_engine.proofs.command_words.command_line.lone_word.Goals as goal
 
 pub returns : goal.returns

@@ -1,5 +1,4 @@
-use Rattle.std.proofs.Common.{Some, ap, codes, ◌∙◌}
-use Rattle.clap.specs.Walk.{Rule, rule_of}
+use Rattle.cal_engine.proofs.Common.{Some, ap, codes, ◌∙◌, Rule, rule_of}
 use Rattle.clap.specs.declared.builder.action.ArgAction.TheVariants.{Set}
 use Rattle.clap.specs.declared.builder.arg.Arg.{Arg}
 use Rattle.cal_engine.proofs.command_words.command_line.policy_word.Goals as goal

@@ -1,7 +1,4 @@
-use Rattle.std.proofs.Common.{ap, ◌∙◌}
-use Rattle.std.proofs.lemmas.Result.{IfOk-weaker}
-use Rattle.clap.specs.Built.{AddsSubcommand}
-use Rattle.clap.specs.Simple.{App, app_of, with_subcommand}
+use Rattle.cal_engine.proofs.Common.{ap, ◌∙◌, IfOk-weaker, AddsSubcommand, App, app_of, with_subcommand}
 use Rattle.cal_engine.proofs.command_words.command_line.with_run.Goals as goal
 
 pub returns : goal.returns

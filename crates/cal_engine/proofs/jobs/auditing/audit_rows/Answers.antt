@@ -1,7 +1,5 @@
-use Rattle.std.proofs.Common.{◌≡◌, ◌<◌, ◌+◌, ◌^◌, [], ◌∷◌, ◌++◌, Err, length, arith, rules}
+use Rattle.cal_engine.proofs.Common.{◌≡◌, ◌<◌, ◌+◌, ◌^◌, [], ◌∷◌, ◌++◌, Err, length, arith, rules, extent_of, rows_of}
 use Rattle.cal_trace.specs.History.{history_of}
-use Rattle.cal_trace.specs.History.Reading.{extent_of}
-use Rattle.cal_trace.specs.Rows.{rows_of}
 use Rattle.cal_trace.proofs.HistoryLemmas.GivenPasses.{few_given}
 use Rattle.cal_input.specs.declared.fault.RunFault.TheVariants as fault
 use Rattle.cal_input.proofs.Refusals.{refused_history}

@@ -1,6 +1,5 @@
+use Rattle.cal_engine.proofs.Common.{extent_of, rows_of}
 use Rattle.cal_trace.specs.History.{history_of}
-use Rattle.cal_trace.specs.History.Reading.{extent_of}
-use Rattle.cal_trace.specs.Rows.{rows_of}
 use Rattle.cal_engine.proofs.Audited.{answered}
 use Rattle.cal_engine.proofs.jobs.auditing.audited.Goals as goal
 

@@ -1,6 +1,4 @@
-use Rattle.std.proofs.Common.{◌≡◌, Err, rules}
-use Rattle.cal_input.specs.Recorded.{recorded_run_of}
-use Rattle.cal_input.proofs.WholeInput.{refused}
+use Rattle.cal_engine.proofs.Common.{◌≡◌, Err, rules, recorded_run_of, refused}
 use Rattle.cal_engine.proofs.jobs.auditing.run_audit_by.Goals as goal
 
 pub returns-in_err-verdict-clause-exact : goal.returns-in_err-verdict-clause-exact

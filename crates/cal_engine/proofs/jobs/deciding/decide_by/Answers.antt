@@ -1,9 +1,4 @@
-use Rattle.std.proofs.Common.{◌≡◌, ℕ, List, Err, Result, rules}
-use Rattle.cal_input.specs.Recorded.{Run}
-use Rattle.cal_input.specs.declared.fault.RunFault.{RunFault}
-use Rattle.cal_input.proofs.WholeInput.{answered, refused}
-use Rattle.cal_engine.specs.Outcome.{run_report, Reports}
-use Rattle.cal_engine.specs.Deciding.{decided_run_by}
+use Rattle.cal_engine.proofs.Common.{◌≡◌, ℕ, List, Err, Result, rules, Run, RunFault, answered, refused, run_report, Reports, decided_run_by}
 use Rattle.cal_engine.proofs.Reporting.{refused_text, reports}
 use Rattle.cal_engine.proofs.jobs.deciding.decide_by.Goals as goal
 

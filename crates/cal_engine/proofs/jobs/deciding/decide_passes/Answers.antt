@@ -1,15 +1,10 @@
-use Rattle.std.proofs.Common.{◌≡◌, ◌<◌, ◌+◌, ◌^◌, ◌++◌, ◌∷◌, [], Err, length, length-append, refl, sym, ap, ◌∙◌, arith, rules}
-use Rattle.cal_machine.specs.Tasks.{threads_in}
-use Rattle.cal_policy.specs.Judgement.Judging.{IsInput}
+use Rattle.cal_engine.proofs.Common.{◌≡◌, ◌<◌, ◌+◌, ◌^◌, ◌++◌, ◌∷◌, [], Err, length, length-append, refl, sym, ap, ◌∙◌, arith, rules, threads_in, IsInput, rows_of, HasGiven, decided_pass, input_of}
 use Rattle.cal_machine.specs.TableTasks.{threads_of_table}
 use Rattle.cal_trace.specs.Signals.Fitting.{IsFittingPass}
-use Rattle.cal_trace.specs.Rows.{rows_of}
-use Rattle.cal_trace.specs.Signals.Reading.{HasGiven}
 use Rattle.cal_trace.specs.Signals.{signals_of}
 use Rattle.cal_trace.proofs.SignalLemmas.Accepted.{last_fits}
 use Rattle.cal_trace.proofs.GivenSignals.{few_given}
 use Rattle.cal_input.specs.declared.fault.RunFault.TheVariants as fault
-use Rattle.cal_engine.specs.Deciding.{decided_pass, input_of}
 use Rattle.cal_engine.proofs.Decided.{IsDecided-none, IsDecided-append, judged_is_input}
 use Rattle.cal_engine.proofs.InTurn.{all_decided, refused_signals}
 use Rattle.cal_engine.proofs.jobs.deciding.decide_passes.Goals as goal

@@ -1,8 +1,7 @@
-use Rattle.std.proofs.Common.{◌≡◌, ℕ, List, []}
-use Rattle.cal_machine.specs.Tasks.{threads_in}
+use Rattle.cal_engine.proofs.Common.{◌≡◌, ℕ, List, [], threads_in, HasGiven}
 use Rattle.cal_policy.specs.Book.{board_in}
 use Rattle.cal_policy.specs.State.{IsReady}
-use Rattle.cal_trace.specs.Signals.Reading.{HasGiven, IsOpen, rows_left}
+use Rattle.cal_trace.specs.Signals.Reading.{IsOpen, rows_left}
 use Rattle.cal_engine.proofs.InTurn.{IsDeciding}
 use Rattle.cal_engine.proofs.jobs.deciding.decide_passes.Given as goal
 

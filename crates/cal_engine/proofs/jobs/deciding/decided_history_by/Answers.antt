@@ -1,8 +1,4 @@
-use Rattle.std.proofs.Common.{◌≡◌, List, Err, rules}
-use Rattle.cal_input.specs.Recorded.{Run}
-use Rattle.cal_policy.specs.declared.history.entry.PassEntry.{PassEntry}
-use Rattle.cal_trace.specs.History.Text.{history_text}
-use Rattle.cal_engine.specs.Deciding.{decided_run_by, HasRows}
+use Rattle.cal_engine.proofs.Common.{◌≡◌, List, Err, rules, Run, PassEntry, history_text, decided_run_by, HasRows}
 use Rattle.cal_engine.proofs.Reporting.{no_run, text_kept}
 use Rattle.cal_engine.proofs.jobs.deciding.decided_history_by.Goals as goal
 

@@ -1,9 +1,5 @@
-use Rattle.std.proofs.Common.{◌≡◌, List, Err, IfOk, sym, subst, rules}
-use Rattle.cal_machine.specs.Table.{Table}
-use Rattle.cal_policy.specs.declared.history.entry.PassEntry.{PassEntry}
+use Rattle.cal_engine.proofs.Common.{◌≡◌, List, Err, IfOk, sym, subst, rules, Table, PassEntry, decided_run_by, HasLines, run_report}
 use Rattle.cal_trace.specs.Report.{report_text}
-use Rattle.cal_engine.specs.Deciding.{decided_run_by, HasLines}
-use Rattle.cal_engine.specs.Outcome.{run_report}
 use Rattle.cal_engine.proofs.Reporting.{no_run, text_kept}
 use Rattle.cal_engine.proofs.jobs.deciding.decided_report.Goals as goal
 

@@ -1,7 +1,4 @@
-use Rattle.std.proofs.Common.{subst}
-use Rattle.cal_policy.specs.Policies.{IsLegalBy}
-use Rattle.cal_policy.specs.declared.policy.Policy.{Policy}
-use Rattle.cal_engine.specs.Deciding.{decided_run_by}
+use Rattle.cal_engine.proofs.Common.{subst, IsLegalBy, Policy, decided_run_by}
 use Rattle.cal_engine.proofs.InTurn.{history_kept}
 use Rattle.cal_engine.proofs.jobs.deciding.decided_run_by.Goals as goal
 

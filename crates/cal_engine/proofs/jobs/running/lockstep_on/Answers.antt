@@ -1,13 +1,7 @@
-use Rattle.std.proofs.Common.{◌≡◌, ℕ, List, length}
-use Rattle.std.proofs.lemmas.Result.{IfOk-weaker}
+use Rattle.cal_engine.proofs.Common.{◌≡◌, ℕ, List, length, IfOk-weaker, Policy, IsRunBy, RunInput, IsTextOfRun, RunAnswer}
 use Rattle.cal_machine.specs.declared.request.Request.{Request}
-use Rattle.cal_policy.specs.declared.policy.Policy.{Policy}
-use Rattle.cal_run.specs.Outcome.{IsRunBy}
 use Rattle.cal_run.specs.declared.outcome.Outcome.{Outcome}
 use Rattle.cal_trace.specs.Report.Summary.{summary_text}
-use Rattle.cal_input.specs.Parts.{RunInput}
-use Rattle.cal_engine.specs.Running.{IsTextOfRun}
-use Rattle.cal_engine.specs.declared.jobs.running.RunAnswer.{RunAnswer}
 use Rattle.cal_engine.specs.declared.jobs.running.RunAnswer.TheVariants.{Summary}
 use Rattle.cal_engine.proofs.jobs.running.lockstep_on.Goals as goal
 

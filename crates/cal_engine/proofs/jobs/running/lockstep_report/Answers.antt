@@ -1,14 +1,9 @@
-use Rattle.std.proofs.Common.{List, sym, subst, ◌∙◌}
-use Rattle.cal_machine.specs.Table.{Table}
-use Rattle.cal_policy.specs.declared.history.entry.PassEntry.{PassEntry}
-use Rattle.cal_policy.specs.declared.policy.Policy.{Policy}
-use Rattle.cal_run.specs.Outcome.{IsRunEndBy, outcome_of}
+use Rattle.cal_engine.proofs.Common.{List, sym, subst, ◌∙◌, Table, PassEntry, Policy, IsRunEndBy, outcome_of, HasLines}
 use Rattle.cal_run.specs.Parts.{AreParts, filled}
 use Rattle.cal_run.specs.Workers.{journals_of}
 use Rattle.cal_run.specs.declared.outcome.RunEnd.{RunEnd}
 use Rattle.cal_run.proofs.CollectorLemmas.Opened.{no_pass_yet}
 use Rattle.cal_run.proofs.RoundsLemmas.Rounds.{unwatched_end}
-use Rattle.cal_engine.specs.Deciding.{HasLines}
 use Rattle.cal_engine.proofs.jobs.running.lockstep_report.Goals as goal
 
 pub make_rounds-requires-clause-opened : goal.make_rounds-requires-clause-opened

@@ -1,11 +1,4 @@
-use Rattle.std.proofs.Common.{◌≡◌, ℕ, List, true, Err, Result, sym, ◌∙◌, rules}
-use Rattle.std.proofs.lemmas.Bool.{false≢true}
-use Rattle.std.proofs.lemmas.Result.{IfErr-weaker}
-use Rattle.cal_input.specs.Parts.{run_input_of, RunInput}
-use Rattle.cal_input.specs.declared.fault.RunFault.{RunFault}
-use Rattle.cal_input.proofs.WholeInput.{answered, refused}
-use Rattle.cal_engine.specs.Running.{is_told, run_front, Begins, Runs}
-use Rattle.cal_engine.specs.Front.{front_of}
+use Rattle.cal_engine.proofs.Common.{◌≡◌, ℕ, List, true, Err, Result, sym, ◌∙◌, rules, false≢true, IfErr-weaker, run_input_of, RunInput, RunFault, answered, refused, is_told, run_front, Begins, Runs, front_of}
 use Rattle.cal_engine.proofs.WrittenRuns.{runs, second, told_alone, told_runs}
 use Rattle.cal_engine.proofs.jobs.running.run_lockstep_by.Goals as goal
 

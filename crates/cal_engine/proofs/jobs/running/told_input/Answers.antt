@@ -1,7 +1,4 @@
-use Rattle.std.proofs.Common.{◌≡◌, Err, rules}
-use Rattle.std.proofs.lemmas.Result.{IfErr-weaker}
-use Rattle.cal_input.specs.Parts.{run_input_of, RunInput}
-use Rattle.cal_input.proofs.WholeInput.{failed}
+use Rattle.cal_engine.proofs.Common.{◌≡◌, Err, rules, IfErr-weaker, run_input_of, RunInput, failed}
 use Rattle.cal_engine.proofs.WrittenRuns.{told_fault}
 use Rattle.cal_engine.proofs.jobs.running.told_input.Goals as goal
 

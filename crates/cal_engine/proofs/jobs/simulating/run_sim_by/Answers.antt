@@ -1,8 +1,4 @@
-use Rattle.std.proofs.Common.{◌≡◌, ℕ, List, Err, Result, rules}
-use Rattle.cal_input.specs.Parts.{run_input_of, RunInput}
-use Rattle.cal_input.specs.declared.fault.RunFault.{RunFault}
-use Rattle.cal_input.proofs.WholeInput.{answered}
-use Rattle.cal_engine.specs.Running.{FailedInThreads, RunsInThreads}
+use Rattle.cal_engine.proofs.Common.{◌≡◌, ℕ, List, Err, Result, rules, run_input_of, RunInput, RunFault, answered, FailedInThreads, RunsInThreads}
 use Rattle.cal_engine.proofs.WrittenRuns.{runs_in_threads}
 use Rattle.cal_engine.proofs.jobs.simulating.run_sim_by.Goals as goal
 

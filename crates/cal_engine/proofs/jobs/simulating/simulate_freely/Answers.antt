@@ -1,7 +1,5 @@
-use Rattle.std.proofs.lemmas.Result.{IfOk-weaker}
-use Rattle.cal_policy.specs.Policies.{IsLegalBy}
+use Rattle.cal_engine.proofs.Common.{IfOk-weaker, IsLegalBy, outcome_of}
 use Rattle.cal_run.specs.Outcome.Headline.{HeadlineBy}
-use Rattle.cal_run.specs.Outcome.{outcome_of}
 use Rattle.cal_run.specs.declared.outcome.RunEnd.{RunEnd}
 use Rattle.cal_engine.proofs.jobs.simulating.simulate_freely.Goals as goal
 

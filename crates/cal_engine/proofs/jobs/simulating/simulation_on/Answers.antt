@@ -1,5 +1,4 @@
-use Rattle.std.proofs.lemmas.Result.{IfOk-weaker}
-use Rattle.cal_run.specs.Outcome.{outcome_of}
+use Rattle.cal_engine.proofs.Common.{IfOk-weaker, outcome_of}
 use Rattle.cal_engine.proofs.jobs.simulating.simulation_on.Goals as goal
 
 pub returns-clause-text : goal.returns-clause-text

@@ -1,12 +1,6 @@
-use Rattle.std.proofs.Common.{◌≡◌, OnOk, IfErr, ◌⊎◌, inr, length, sym, ap, subst, ◌∙◌, rules}
+use Rattle.cal_engine.proofs.Common.{◌≡◌, OnOk, IfErr, ◌⊎◌, inr, length, sym, ap, subst, ◌∙◌, rules, length-map, on_ok_weaker, IfErr-weaker, figures_of, RunInput, front_of, IsTold, IsBegunTold}
 use Rattle.std.proofs.KnownBytes.{Appends-nil}
-use Rattle.std.proofs.lemmas.List.{length-map}
-use Rattle.std.proofs.lemmas.Result.{on_ok_weaker, IfErr-weaker}
-use Rattle.cal_run.specs.Outcome.{figures_of}
-use Rattle.cal_input.specs.Parts.{RunInput}
 use Rattle.cal_input.specs.declared.fault.RunFault.TheVariants as fault
-use Rattle.cal_engine.specs.Front.{front_of}
-use Rattle.cal_engine.specs.Running.{IsTold, IsBegunTold}
 use Rattle.cal_engine.proofs.Telling.{at_ok, begun, ended, in_any_case}
 use Rattle.cal_engine.proofs.jobs.telling.tell_lockstep.Goals as goal
 

@@ -1,7 +1,4 @@
-use Rattle.std.proofs.Common.{ℕ, List, subst, sym}
-use Rattle.cal_measure.specs.Clocks.{run_end}
-use Rattle.cal_measure.specs.ThreadWork.{AreTotalsOfEach}
-use Rattle.cal_measure.specs.declared.thread_work.totals.ThreadTotals.{ThreadTotals}
+use Rattle.cal_facts.proofs.Common.{ℕ, List, subst, sym, run_end, AreTotalsOfEach, ThreadTotals}
 use Rattle.cal_facts.proofs.requests.collecting.served_of_run.Goals as goal
 
 pub returns : goal.returns

@@ -1,10 +1,5 @@
-use Rattle.std.proofs.Common.{List, Option, take}
-use Rattle.std.specs.Io.KnownBytes.{Appends}
-use Rattle.std.specs.List.{flat_map}
+use Rattle.cal_facts.proofs.Common.{List, Option, take, Appends, flat_map, AreClocksTold, request_line, AreServed, Served}
 use Rattle.cal_came.specs.declared.came.Came.{Came}
-use Rattle.cal_facts.specs.RequestRows.{AreClocksTold, request_line}
-use Rattle.cal_facts.specs.Served.{AreServed}
-use Rattle.cal_facts.specs.declared.requests.served.Served.{Served}
 use Rattle.cal_facts.proofs.requests.writing.write_each_request.Given as goal
 
 abbrev pub invariant-loop-arrival : goal.invariant-loop-arrival

@@ -1,11 +1,4 @@
-use Rattle.std.proofs.Common.{◌≡◌, ◌-◌, ◌∙◌, ℕ, List, Option, ap, subst}
-use Rattle.std.proofs.KnownBytes.{Appends-trans}
-use Rattle.std.proofs.lemmas.Result.{on_ok_weaker}
-use Rattle.std.specs.Io.KnownBytes.{Appends}
-use Rattle.cal_measure.specs.Clocks.{run_end}
-use Rattle.cal_facts.specs.RequestRows.{arrival_text, came_in, served_text}
-use Rattle.cal_facts.specs.Served.{service_of}
-use Rattle.cal_facts.specs.declared.requests.served.Served.{Served}
+use Rattle.cal_facts.proofs.Common.{◌≡◌, ◌-◌, ◌∙◌, ℕ, List, Option, ap, subst, Appends-trans, on_ok_weaker, Appends, run_end, arrival_text, came_in, served_text, service_of, Served}
 use Rattle.cal_facts.proofs.requests.writing.write_request.Goals as goal
 
 pub returns : goal.returns

@@ -1,10 +1,5 @@
-use Rattle.std.proofs.Common.{List, subst}
-use Rattle.std.proofs.KnownBytes.{Appends-trans}
-use Rattle.std.proofs.lemmas.Result.{on_ok_weaker}
-use Rattle.std.specs.Io.KnownBytes.{Appends}
-use Rattle.std.specs.List.{flat_map}
+use Rattle.cal_facts.proofs.Common.{List, subst, Appends-trans, on_ok_weaker, Appends, flat_map, request_line}
 use Rattle.cal_trace.specs.declared.arrivals.Arrival.{Arrival}
-use Rattle.cal_facts.specs.RequestRows.{request_line}
 use Rattle.cal_facts.proofs.requests.writing.write_request_rows.Goals as goal
 
 pub returns : goal.returns

@@ -1,6 +1,4 @@
-use Rattle.std.proofs.Common.{◌∙◌, ap}
-use Rattle.cal_machine.specs.Table.{Table}
-use Rattle.cal_facts.specs.Series.{series_of}
+use Rattle.cal_facts.proofs.Common.{◌∙◌, ap, Table, series_of}
 use Rattle.cal_facts.proofs.series.collecting.series_of_run.Goals as goal
 
 pub returns-clause-points : goal.returns-clause-points

@@ -1,6 +1,5 @@
-use Rattle.std.proofs.Common.{◌++◌, ◌∷◌, [], ap}
+use Rattle.cal_facts.proofs.Common.{◌++◌, ◌∷◌, [], ap, actions_of, looks_of}
 use Rattle.cal_machine.specs.declared.task.Task.{Task}
-use Rattle.cal_policy.specs.History.{actions_of, looks_of}
 use Rattle.cal_facts.proofs.PointLemmas.{delay_found, point_found}
 use Rattle.cal_facts.proofs.series.point.point_of.Goals as goal
 

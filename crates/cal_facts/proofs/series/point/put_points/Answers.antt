@@ -1,6 +1,4 @@
-use Rattle.std.proofs.Common.{◌≡◌, ◌∙◌, ◌++◌, ◌∷◌, [], ℕ, List, length, ap, refl, arith, add-one, append_assoc}
-use Rattle.cal_facts.specs.Series.{points_below, point_of}
-use Rattle.cal_facts.specs.declared.series.point.Point.{Point}
+use Rattle.cal_facts.proofs.Common.{◌≡◌, ◌∙◌, ◌++◌, ◌∷◌, [], ℕ, List, length, ap, refl, arith, add-one, append_assoc, points_below, point_of, Point}
 use Rattle.cal_facts.proofs.series.point.put_points.Goals as goal
 
 pub loop-task-preserved : goal.loop-task-preserved

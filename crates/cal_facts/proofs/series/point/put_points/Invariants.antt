@@ -1,7 +1,4 @@
-use Rattle.std.proofs.Common.{◌≡◌, ◌++◌, List}
-use Rattle.cal_policy.specs.declared.history.entry.PassEntry.{PassEntry}
-use Rattle.cal_facts.specs.PassAt.{IsPassAt}
-use Rattle.cal_facts.specs.Series.{points_below}
+use Rattle.cal_facts.proofs.Common.{◌≡◌, ◌++◌, List, PassEntry, IsPassAt, points_below}
 use Rattle.cal_facts.proofs.series.point.put_points.Given as goal
 
 abbrev pub invariant-loop-task : goal.invariant-loop-task

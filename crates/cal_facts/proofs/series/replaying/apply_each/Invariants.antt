@@ -1,6 +1,4 @@
-use Rattle.std.proofs.Common.{◌≡◌, ◌++◌, List, take}
-use Rattle.cal_policy.specs.State.{Agrees, IsReady}
-use Rattle.cal_policy.specs.declared.history.action.Action.{Action}
+use Rattle.cal_facts.proofs.Common.{◌≡◌, ◌++◌, List, take, Agrees, IsReady, Action}
 use Rattle.cal_facts.proofs.series.replaying.apply_each.Given as goal
 
 abbrev pub invariant-loop-action : goal.invariant-loop-action

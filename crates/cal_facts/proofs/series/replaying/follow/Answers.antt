@@ -1,9 +1,6 @@
-use Rattle.std.proofs.Common.{◌++◌, ◌∷◌, [], List, subst, sym}
+use Rattle.cal_facts.proofs.Common.{◌++◌, ◌∷◌, [], List, subst, sym, actions_of, looks_of, Agrees, KeepingAgrees, Action}
 use Rattle.cal_policy.proofs.BoardLemmas.Replayed.{actions_push, looks_push}
-use Rattle.cal_policy.specs.History.{actions_of, looks_of}
-use Rattle.cal_policy.specs.State.{Agrees, KeepingAgrees}
 use Rattle.cal_policy.specs.declared.board.records.Keeping.{Keeping}
-use Rattle.cal_policy.specs.declared.history.action.Action.{Action}
 use Rattle.cal_policy.specs.declared.history.look.Seen.{Seen}
 use Rattle.cal_facts.proofs.series.replaying.follow.Goals as goal
 

@@ -1,15 +1,6 @@
-use Rattle.std.proofs.Common.{◌≡◌, ◌++◌, ◌∷◌, ◌∙◌, [], ℕ, List, take, length, refl, ap, sym, subst, arith}
-use Rattle.std.proofs.Math.Seq.{take-length}
-use Rattle.std.proofs.lemmas.List.{length-take-le}
-use Rattle.std.proofs.lemmas.Option.{slice_get_read}
+use Rattle.cal_facts.proofs.Common.{◌≡◌, ◌++◌, ◌∷◌, ◌∙◌, [], ℕ, List, take, length, refl, ap, sym, subst, arith, take-length, length-take-le, slice_get_read, each_of_push, IsStateAfter, PassEntry, IsPassAt, points_of, series_of, Point}
 use Rattle.cal_policy.proofs.ListLemmas.Each.{take_item}
-use Rattle.cal_policy.proofs.ListLemmas.OneMore.{each_of_push}
-use Rattle.cal_policy.specs.State.{IsStateAfter}
-use Rattle.cal_policy.specs.declared.history.entry.PassEntry.{PassEntry}
 use Rattle.cal_facts.proofs.RangeLemmas.{names_of_range}
-use Rattle.cal_facts.specs.PassAt.{IsPassAt}
-use Rattle.cal_facts.specs.Series.{points_of, series_of}
-use Rattle.cal_facts.specs.declared.series.point.Point.{Point}
 use Rattle.cal_facts.proofs.series.replaying.series_of_history.Goals as goal
 
 pub follow-requires-clause-looks : goal.follow-requires-clause-looks

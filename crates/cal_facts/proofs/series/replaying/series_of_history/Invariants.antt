@@ -1,6 +1,4 @@
-use Rattle.std.proofs.Common.{◌≡◌, take}
-use Rattle.cal_policy.specs.State.{IsReady, IsStateAfter}
-use Rattle.cal_facts.specs.Series.{series_of}
+use Rattle.cal_facts.proofs.Common.{◌≡◌, take, IsReady, IsStateAfter, series_of}
 use Rattle.cal_facts.proofs.series.replaying.series_of_history.Given as goal
 
 abbrev pub invariant-loop-pass : goal.invariant-loop-pass

@@ -1,7 +1,4 @@
-use Rattle.std.proofs.Common.{take}
-use Rattle.std.specs.Io.KnownBytes.{Appends}
-use Rattle.std.specs.List.{flat_map}
-use Rattle.cal_facts.specs.Series.{point_line}
+use Rattle.cal_facts.proofs.Common.{take, Appends, flat_map, point_line}
 use Rattle.cal_facts.proofs.series.writing.write_each_point.Given as goal
 
 abbrev pub invariant-loop-point : goal.invariant-loop-point

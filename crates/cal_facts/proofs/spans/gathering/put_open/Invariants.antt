@@ -1,6 +1,5 @@
-use Rattle.std.proofs.Common.{◌≡◌, ◌++◌, List}
+use Rattle.cal_facts.proofs.Common.{◌≡◌, ◌++◌, List, Move, open_of}
 use Rattle.cal_measure.specs.Spans.Tracking.{Tracks}
-use Rattle.cal_measure.specs.Spans.{Move, open_of}
 use Rattle.cal_facts.proofs.spans.gathering.put_open.Given as goal
 
 abbrev pub invariant-loop-core : goal.invariant-loop-core

@@ -1,7 +1,5 @@
-use Rattle.std.proofs.Common.{◌≡◌, ◌++◌, List}
+use Rattle.cal_facts.proofs.Common.{◌≡◌, ◌++◌, List, Move, open_bans}
 use Rattle.cal_measure.specs.Spans.Bans.{TracksBans}
-use Rattle.cal_measure.specs.Spans.{Move}
-use Rattle.cal_facts.specs.Bans.{open_bans}
 use Rattle.cal_facts.proofs.spans.gathering.put_open_bans.Given as goal
 
 abbrev pub invariant-loop-core : goal.invariant-loop-core

@@ -1,7 +1,4 @@
-use Rattle.std.proofs.Common.{take}
-use Rattle.std.specs.Io.KnownBytes.{Appends}
-use Rattle.std.specs.List.{flat_map}
-use Rattle.cal_facts.specs.Stretches.{span_lines}
+use Rattle.cal_facts.proofs.Common.{take, Appends, flat_map, span_lines}
 use Rattle.cal_facts.proofs.spans.writing.write_each_span.Given as goal
 
 abbrev pub invariant-loop-span : goal.invariant-loop-span

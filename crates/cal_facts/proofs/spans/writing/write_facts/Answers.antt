@@ -1,11 +1,6 @@
-use Rattle.std.proofs.Common.{◌++◌, ℕ, List, subst}
-use Rattle.std.proofs.KnownBytes.{Appends-trans}
-use Rattle.std.proofs.lemmas.Result.{on_ok_weaker}
-use Rattle.std.specs.Io.KnownBytes.{Appends}
-use Rattle.std.specs.List.{flat_map}
+use Rattle.cal_facts.proofs.Common.{◌++◌, ℕ, List, subst, Appends-trans, on_ok_weaker, Appends, flat_map, ban_line, span_columns, span_lines}
 use Rattle.cal_measure.specs.declared.spans.bans.BanSpan.{BanSpan}
 use Rattle.cal_measure.specs.declared.spans.span.Span.{Span}
-use Rattle.cal_facts.specs.Stretches.{ban_line, span_columns, span_lines}
 use Rattle.cal_facts.proofs.spans.writing.write_facts.Goals as goal
 
 pub returns : goal.returns

@@ -1,9 +1,7 @@
-use Rattle.std.proofs.Common.{◌∙◌, ℕ, List, ap, sym}
+use Rattle.cal_facts.proofs.Common.{◌∙◌, ℕ, List, ap, sym, run_end, works_below}
 use Rattle.cal_kthread.specs.declared.journal.entry.Entry.{Entry}
 use Rattle.cal_machine.specs.TableTasks.{threads_of_table}
 use Rattle.cal_machine.specs.declared.request.Request.{Request}
-use Rattle.cal_measure.specs.Clocks.{run_end}
-use Rattle.cal_facts.specs.WorkTurns.{works_below}
 use Rattle.cal_facts.proofs.turns.collecting.turns_of_run.Goals as goal
 
 pub returns-clause-turns : goal.returns-clause-turns

@@ -1,6 +1,4 @@
-use Rattle.std.proofs.Common.{[]}
-use Rattle.cal_measure.proofs.Steps.{each_grown}
-use Rattle.cal_facts.specs.WorkTurns.{served_in}
+use Rattle.cal_facts.proofs.Common.{[], each_grown, served_in}
 use Rattle.cal_facts.proofs.turns.working.all_begun.Goals as goal
 
 pub loop-turn-preserved : goal.loop-turn-preserved

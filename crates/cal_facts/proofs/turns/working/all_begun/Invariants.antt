@@ -1,5 +1,4 @@
-use Rattle.std.proofs.Common.{◌≡◌, take}
-use Rattle.cal_facts.specs.WorkTurns.{all_served}
+use Rattle.cal_facts.proofs.Common.{◌≡◌, take, all_served}
 use Rattle.cal_facts.proofs.turns.working.all_begun.Given as goal
 
 abbrev pub invariant-loop-turn : goal.invariant-loop-turn

@@ -1,12 +1,7 @@
-use Rattle.std.proofs.Common.{◌≡◌, ◌≤◌, ◌<◌, ◌+◌, ◌^◌, ◌∙◌, ◌++◌, ℕ, List, Option, Some, None, length, take, slice_get, ap, sym, arith}
-use Rattle.std.proofs.lemmas.List.{length-take}
-use Rattle.cal_policy.proofs.ListLemmas.OneMore.{each_of_push}
+use Rattle.cal_facts.proofs.Common.{◌≡◌, ◌≤◌, ◌<◌, ◌+◌, ◌^◌, ◌∙◌, ◌++◌, ℕ, List, Option, Some, None, length, take, slice_get, ap, sym, arith, length-take, each_of_push, each_grown, grown, all_served, first_unserved, served_in, work_in, WorkTurn}
 use Rattle.cal_measure.proofs.AtMostOne.{each_few}
-use Rattle.cal_measure.proofs.Steps.{each_grown, grown}
 use Rattle.cal_measure.specs.Turns.{one_of}
 use Rattle.cal_measure.specs.declared.ends.TimedTurn.{TimedTurn}
-use Rattle.cal_facts.specs.WorkTurns.{all_served, first_unserved, served_in, work_in}
-use Rattle.cal_facts.specs.declared.turns.work.WorkTurn.{WorkTurn}
 use Rattle.cal_facts.proofs.turns.working.put_works.Goals as goal
 
 one_few : (o : Option ℕ) → length (one_of o) ≤ 1

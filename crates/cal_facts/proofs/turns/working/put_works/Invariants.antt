@@ -1,6 +1,5 @@
-use Rattle.std.proofs.Common.{◌≡◌, ◌++◌, length, take}
+use Rattle.cal_facts.proofs.Common.{◌≡◌, ◌++◌, length, take, all_served, work_in}
 use Rattle.cal_policy.specs.History.Lists.{each_of}
-use Rattle.cal_facts.specs.WorkTurns.{all_served, work_in}
 use Rattle.cal_facts.proofs.turns.working.put_works.Given as goal
 
 abbrev pub invariant-loop-turn : goal.invariant-loop-turn

@@ -1,10 +1,7 @@
-use Rattle.std.proofs.Common.{◌++◌, ◌∙◌, ℕ, List, Option, ap}
+use Rattle.cal_facts.proofs.Common.{◌++◌, ◌∙◌, ℕ, List, Option, ap, joined_more, works_by, works_of, WorkTurn}
 use Rattle.cal_measure.specs.Joined.{joined_below}
-use Rattle.cal_measure.proofs.Steps.{joined_more}
 use Rattle.cal_measure.specs.Work.{turns_at}
 use Rattle.cal_measure.specs.declared.ends.TimedTurn.{TimedTurn}
-use Rattle.cal_facts.specs.WorkTurns.{works_by, works_of}
-use Rattle.cal_facts.specs.declared.turns.work.WorkTurn.{WorkTurn}
 use Rattle.cal_facts.proofs.turns.working.works_below.Goals as goal
 
 pub loop-thread-preserved : goal.loop-thread-preserved

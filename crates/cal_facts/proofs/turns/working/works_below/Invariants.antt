@@ -1,6 +1,5 @@
-use Rattle.std.proofs.Common.{◌≡◌}
+use Rattle.cal_facts.proofs.Common.{◌≡◌, works_by}
 use Rattle.cal_measure.specs.Joined.{joined_below}
-use Rattle.cal_facts.specs.WorkTurns.{works_by}
 use Rattle.cal_facts.proofs.turns.working.works_below.Given as goal
 
 abbrev pub invariant-loop-thread : goal.invariant-loop-thread

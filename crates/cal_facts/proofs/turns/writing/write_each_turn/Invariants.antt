@@ -1,7 +1,4 @@
-use Rattle.std.proofs.Common.{take}
-use Rattle.std.specs.Io.KnownBytes.{Appends}
-use Rattle.std.specs.List.{flat_map}
-use Rattle.cal_facts.specs.WorkTurns.{turn_line}
+use Rattle.cal_facts.proofs.Common.{take, Appends, flat_map, turn_line}
 use Rattle.cal_facts.proofs.turns.writing.write_each_turn.Given as goal
 
 abbrev pub invariant-loop-work : goal.invariant-loop-work

@@ -1,7 +1,4 @@
-use Rattle.std.proofs.Common.{◌≡◌, sym, ap, subst, ◌∙◌}
-use Rattle.cal_policy.specs.State.{IsStateAfter}
-use Rattle.cal_guard.specs.declared.passing.Passing.{Passing}
-use Rattle.cal_guard.specs.Spare.{GuardState}
+use Rattle.cal_guard.proofs.Common.{◌≡◌, sym, ap, subst, ◌∙◌, IsStateAfter, Passing, GuardState}
 use Rattle.cal_guard.proofs.guard.Guard.begin.Goals as goal
 
 pub returns-clause-within : goal.returns-clause-within

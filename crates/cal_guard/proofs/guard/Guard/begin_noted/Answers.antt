@@ -1,8 +1,4 @@
-use Rattle.std.proofs.Common.{◌≡◌, refl, sym, ap, subst, ◌∙◌}
-use Rattle.cal_policy.specs.State.{IsStateAfter}
-use Rattle.cal_guard.specs.declared.passing.Passing.{Passing}
-use Rattle.cal_guard.specs.Spare.{GuardState}
-use Rattle.cal_policy.specs.Judgement.OpenInput.{judged_input}
+use Rattle.cal_guard.proofs.Common.{◌≡◌, refl, sym, ap, subst, ◌∙◌, IsStateAfter, Passing, GuardState, judged_input}
 use Rattle.cal_guard.proofs.guard.Guard.begin_noted.Goals as goal
 
 pub returns-clause-within : goal.returns-clause-within

@@ -1,10 +1,4 @@
-use Rattle.std.proofs.Common.{◌≡◌, ◌↔◌, ◌++◌, sym, ap, subst, ◌∙◌}
-use Rattle.std.specs.Prelude.{IsOk}
-use Rattle.cal_policy.specs.Setting.{Setting, Begun, setting_at}
-use Rattle.cal_guard.specs.declared.passing.Passing.{Passing}
-use Rattle.cal_guard.specs.Refusals.{MayEndWith, IsFirstWrong}
-use Rattle.cal_guard.specs.Passing.{IsInside}
-use Rattle.cal_guard.specs.Spare.{GuardState}
+use Rattle.cal_guard.proofs.Common.{◌≡◌, ◌↔◌, ◌++◌, sym, ap, subst, ◌∙◌, IsOk, Setting, Begun, setting_at, Passing, MayEndWith, IsFirstWrong, IsInside, GuardState}
 use Rattle.cal_guard.proofs.Results.{if_err}
 use Rattle.cal_guard.proofs.guard.Guard.offer.Goals as goal
 

@@ -1,8 +1,4 @@
-use Rattle.std.proofs.Common.{[], refl, sym, subst, ◌∙◌}
-use Rattle.cal_policy.specs.declared.history.input.Input.{Input}
-use Rattle.cal_policy.specs.Setting.{setting}
-use Rattle.cal_guard.specs.declared.passing.Passing.{Passing}
-use Rattle.cal_guard.specs.Spare.{IsSpareOf}
+use Rattle.cal_guard.proofs.Common.{[], refl, sym, subst, ◌∙◌, Input, setting, Passing, IsSpareOf}
 use Rattle.cal_guard.proofs.guard.Guard.open.Goals as goal
 
 pub invariant_of-result : goal.invariant_of-result

@@ -1,14 +1,4 @@
-use Rattle.std.proofs.Common.{◌≡◌, List, [], refl, sym, subst, ◌∙◌}
-use Rattle.cal_policy.specs.declared.history.action.Action.{Action}
-use Rattle.cal_policy.specs.declared.history.entry.PassEntry.{PassEntry}
-use Rattle.cal_policy.specs.declared.history.input.Input.{Input}
-use Rattle.cal_policy.specs.Setting.{setting}
-use Rattle.cal_policy.specs.Judgement.OpenInput.{judged_input}
-use Rattle.cal_guard.specs.declared.pass_looks.PassLooks.TheVariants.{Noted}
-use Rattle.cal_guard.specs.Permitted.{ArePermitted}
-use Rattle.cal_guard.specs.Guarded.{board_in, and_then}
-use Rattle.cal_policy.specs.State.{IsStateAfter}
-use Rattle.cal_guard.specs.Passing.{GoesBy}
+use Rattle.cal_guard.proofs.Common.{◌≡◌, List, [], refl, sym, subst, ◌∙◌, Action, PassEntry, Input, setting, judged_input, Noted, ArePermitted, board_in, and_then, IsStateAfter, GoesBy}
 use Rattle.cal_guard.proofs.Results.{if_err, none_chosen}
 use Rattle.cal_guard.proofs.guard.Guard.pass.Goals as goal
 

@@ -1,9 +1,4 @@
-use Rattle.std.proofs.Common.{◌≡◌, [], sym, ap, subst, ◌∙◌}
-use Rattle.cal_policy.specs.State.{IsStateAfter}
-use Rattle.cal_guard.specs.declared.passing.Passing.{Passing}
-use Rattle.cal_guard.specs.Spare.{GuardState}
-use Rattle.cal_policy.specs.Setting.{Setting, setting}
-use Rattle.cal_policy.proofs.PassLemmas.FromParts.{Stands_end}
+use Rattle.cal_guard.proofs.Common.{◌≡◌, [], sym, ap, subst, ◌∙◌, IsStateAfter, Passing, GuardState, Setting, setting, Stands_end}
 use Rattle.cal_guard.proofs.guard.Guard.step_idle.Goals as goal
 
 pub returns-clause-keeps : goal.returns-clause-keeps

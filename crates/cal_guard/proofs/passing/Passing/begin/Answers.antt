@@ -1,8 +1,4 @@
-use Rattle.std.proofs.Common.{arith, refl}
-use Rattle.cal_policy.specs.History.{actions_of, looks_of}
-use Rattle.cal_policy.specs.Setting.{Setting, setting}
-use Rattle.cal_policy.proofs.PassLemmas.FromParts.{Stands_begin}
-use Rattle.cal_guard.specs.Passing.{next_setting}
+use Rattle.cal_guard.proofs.Common.{arith, refl, actions_of, looks_of, Setting, setting, Stands_begin, next_setting}
 use Rattle.cal_guard.proofs.Low.{low_after}
 use Rattle.cal_guard.proofs.Sent.{none_sent}
 use Rattle.cal_guard.proofs.Standing.{stands_next}

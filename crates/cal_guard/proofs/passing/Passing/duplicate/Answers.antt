@@ -1,6 +1,4 @@
-use Rattle.std.proofs.Common.{ap}
-use Rattle.cal_policy.specs.declared.board.Board.{Board}
-use Rattle.cal_guard.specs.declared.passing.Passing.{Passing}
+use Rattle.cal_guard.proofs.Common.{ap, Board, Passing}
 use Rattle.cal_guard.proofs.passing.Passing.duplicate.Goals as goal
 
 pub returns : goal.returns

@@ -1,11 +1,4 @@
-use Rattle.std.proofs.Common.{ℕ, ◌+◌, ◌<◌, ◌++◌, take, sym, subst, arith}
-use Rattle.std.proofs.lemmas.List.{take_all, append-nil}
-use Rattle.cal_policy.specs.declared.history.action.Action.{Action}
-use Rattle.std.proofs.lemmas.Option.{slice_get-get_or}
-use Rattle.cal_policy.specs.declared.history.action.Action.TheVariants.{Free}
-use Rattle.cal_policy.specs.Board.{NamesTable}
-use Rattle.cal_policy.proofs.ListLemmas.Each.{each_at, after_more}
-use Rattle.cal_guard.specs.Passing.{IsAfter}
+use Rattle.cal_guard.proofs.Common.{ℕ, ◌+◌, ◌<◌, ◌++◌, take, sym, subst, arith, take_all, append-nil, Action, slice_get-get_or, Free, NamesTable, each_at, after_more, IsAfter}
 use Rattle.cal_guard.proofs.passing.Passing.follow.Goals as goal
 
 pub loop-permitted-init : goal.loop-permitted-init

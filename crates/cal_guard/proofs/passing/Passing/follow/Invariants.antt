@@ -1,8 +1,4 @@
-use Rattle.std.proofs.Common.{◌≡◌, ◌+◌, List, ◌++◌, take}
-use Rattle.cal_policy.specs.declared.history.action.Action.{Action}
-use Rattle.cal_policy.specs.Setting.{Setting}
-use Rattle.cal_policy.specs.State.{IsReady}
-use Rattle.cal_guard.specs.Passing.{IsAfter}
+use Rattle.cal_guard.proofs.Common.{◌≡◌, ◌+◌, List, ◌++◌, take, Action, Setting, IsReady, IsAfter}
 use Rattle.cal_guard.proofs.passing.Passing.follow.Given as goal
 
 abbrev pub invariant-loop-permitted : goal.invariant-loop-permitted

@@ -1,5 +1,4 @@
-use Rattle.std.proofs.Common.{[], refl}
-use Rattle.cal_policy.specs.Setting.{Setting, setting}
+use Rattle.cal_guard.proofs.Common.{[], refl, Setting, setting}
 use Rattle.cal_guard.proofs.Sent.{none_sent}
 use Rattle.cal_guard.proofs.Standing.{stands_first}
 use Rattle.cal_guard.proofs.passing.Passing.new.Goals as goal

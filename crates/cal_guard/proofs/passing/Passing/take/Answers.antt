@@ -1,8 +1,4 @@
-use Rattle.std.proofs.Common.{[], ◌∷◌, length-append, subst, append_assoc, arith}
-use Rattle.cal_policy.specs.declared.history.action.Action.{Action}
-use Rattle.cal_policy.specs.History.{actions_of}
-use Rattle.cal_policy.specs.Setting.{so_far}
-use Rattle.cal_guard.specs.Passing.{HeldAreLow}
+use Rattle.cal_guard.proofs.Common.{[], ◌∷◌, length-append, subst, append_assoc, arith, Action, actions_of, so_far, HeldAreLow}
 use Rattle.cal_guard.proofs.Low.{low_push}
 use Rattle.cal_guard.proofs.Standing.{stands_more}
 use Rattle.cal_guard.proofs.passing.Passing.take.Goals as goal

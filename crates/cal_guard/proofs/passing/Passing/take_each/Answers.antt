@@ -1,14 +1,4 @@
-use Rattle.std.proofs.Common.{◌≡◌, ℕ, ◌+◌, ◌<◌, ◌++◌, length, take, Some, None, true, false, refl, sym, ap, subst, ◌∙◌, arith, length-append}
-use Rattle.std.proofs.lemmas.List.{take_all, append-nil}
-use Rattle.std.proofs.lemmas.Option.{slice_get-get_or, slice_get_past}
-use Rattle.cal_policy.specs.declared.history.action.Action.{Action}
-use Rattle.cal_policy.specs.Setting.{Setting, setting_at, so_far}
-use Rattle.cal_policy.proofs.ListLemmas.Each.{each_more, each_all, each_at, after_more}
-use Rattle.cal_guard.specs.Permitted.{IsPermitted}
-use Rattle.cal_guard.specs.Passing.{IsInside, IsAfter}
-use Rattle.cal_policy.specs.Board.{NamesTable}
-use Rattle.cal_policy.specs.declared.history.action.Action.TheVariants.{Free}
-use Rattle.cal_guard.specs.Refusals.{wrong_next}
+use Rattle.cal_guard.proofs.Common.{◌≡◌, ℕ, ◌+◌, ◌<◌, ◌++◌, length, take, Some, None, true, false, refl, sym, ap, subst, ◌∙◌, arith, length-append, take_all, append-nil, slice_get-get_or, slice_get_past, Action, Setting, setting_at, so_far, each_more, each_all, each_at, after_more, IsPermitted, IsInside, IsAfter, NamesTable, Free, wrong_next}
 use Rattle.cal_guard.proofs.Sent.{not_some}
 use Rattle.cal_guard.proofs.Taking.{none_wrong}
 use Rattle.cal_guard.proofs.Wrong.{right, settles, settles_back}

@@ -1,9 +1,5 @@
-use Rattle.std.proofs.Common.{◌≡◌, ℕ, ◌+◌, ◌<◌, List, ◌++◌, take, Some, slice_get}
-use Rattle.cal_policy.specs.declared.history.action.Action.{Action}
-use Rattle.cal_policy.specs.Setting.{Setting, Begun, setting_at}
-use Rattle.cal_policy.specs.Board.{NamesTable}
-use Rattle.cal_policy.specs.State.{IsReady}
-use Rattle.cal_guard.specs.Passing.{IsInside, IsAfter}
+use Rattle.cal_guard.proofs.Common.{◌≡◌, ℕ, ◌+◌, ◌<◌, List, ◌++◌, take, Some, Action, Setting, Begun, setting_at, NamesTable, IsReady, IsInside, IsAfter}
+use Rattle.std.proofs.Common.{slice_get}
 use Rattle.cal_guard.proofs.Taking.{IsRun}
 use Rattle.cal_guard.proofs.passing.Passing.take_each.Given as goal
 

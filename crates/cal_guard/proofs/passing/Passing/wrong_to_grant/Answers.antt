@@ -1,12 +1,5 @@
 -- The core, the task and the thread are all as the actions say.
-use Rattle.std.proofs.Common.{◌≡◌, List, not, ap, ◌∙◌}
-use Rattle.std.specs.Option.{option_or}
-use Rattle.cal_machine.specs.TableTasks.{owner_of}
-use Rattle.cal_policy.specs.declared.history.action.Action.{Action}
-use Rattle.cal_policy.specs.History.{is_banned}
-use Rattle.cal_policy.specs.Setting.{Setting, setting_at, so_far}
-use Rattle.cal_guard.specs.declared.refusal.Why.TheVariants.{Banned}
-use Rattle.cal_guard.specs.Refusals.{unless, wrong_to_book, wrong_to_send}
+use Rattle.cal_guard.proofs.Common.{◌≡◌, List, not, ap, ◌∙◌, option_or, owner_of, Action, is_banned, Setting, setting_at, so_far, Banned, unless, wrong_to_book, wrong_to_send}
 use Rattle.cal_guard.proofs.passing.Passing.wrong_to_grant.Goals as goal
 
 pub returns : goal.returns

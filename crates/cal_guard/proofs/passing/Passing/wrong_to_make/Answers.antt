@@ -1,7 +1,4 @@
-use Rattle.std.proofs.Common.{sym, ap, ◌∙◌}
-use Rattle.cal_policy.specs.Setting.{Setting, setting_at}
-use Rattle.cal_guard.specs.declared.refusal.Why.TheVariants.{NotLeft}
-use Rattle.cal_guard.specs.Refusals.{unless, wrong_to_make}
+use Rattle.cal_guard.proofs.Common.{sym, ap, ◌∙◌, Setting, setting_at, NotLeft, unless, wrong_to_make}
 use Rattle.cal_guard.proofs.passing.Passing.wrong_to_make.Goals as goal
 
 pub returns-in-Free : goal.returns-in-Free

@@ -1,17 +1,7 @@
 -- The core is held, and of its thread and that thread's task all is as the actions say.
-use Rattle.std.proofs.Common.{◌≡◌, ◌<◌, List, ap, sym, subst, ◌∙◌, arith}
-use Rattle.std.specs.Option.{option_or, IfSome}
-use Rattle.cal_machine.specs.TableTasks.{owner_of, threads_of_table}
-use Rattle.cal_policy.specs.declared.history.action.Action.{Action}
+use Rattle.cal_guard.proofs.Common.{◌≡◌, ◌<◌, List, ap, sym, subst, ◌∙◌, arith, option_or, IfSome, owner_of, threads_of_table, Action, Holder, holder_of, Setting, setting_at, so_far, kept_holder, placement_of, is_over, AtGuarantee, unless, wrong_to_send, wrong_to_revoke}
 use Rattle.cal_policy.specs.declared.board.holders.Placement.{Placement}
-use Rattle.cal_policy.specs.declared.board.holders.Holder.{Holder}
 use Rattle.cal_policy.specs.declared.board.holders.Holder.TheVariants.{Free, Held, Leaving}
-use Rattle.cal_policy.specs.History.{holder_of}
-use Rattle.cal_policy.specs.Setting.{Setting, setting_at, so_far}
-use Rattle.cal_policy.specs.Board.{kept_holder, placement_of}
-use Rattle.cal_policy.specs.Board.Counts.{is_over}
-use Rattle.cal_guard.specs.declared.refusal.Why.TheVariants.{AtGuarantee}
-use Rattle.cal_guard.specs.Refusals.{unless, wrong_to_send, wrong_to_revoke}
 use Rattle.cal_guard.proofs.passing.Passing.wrong_to_revoke.Goals as goal
 
 of_held : (s : Setting) (acts : List Action) (h : Holder) (p : Placement) → Held p ≡ kept_holder h →

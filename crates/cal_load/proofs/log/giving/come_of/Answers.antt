@@ -1,7 +1,4 @@
-use Rattle.std.proofs.Common.{◌≡◌, ◌∙◌, ◌∷◌, [], List, length, length-append, take, take_all, refl, ap, sym, arith}
-use Rattle.cal_load.specs.Logs.{rows_for}
-use Rattle.cal_load.specs.declared.log.LogRow.{LogRow}
-use Rattle.cal_load.specs.declared.made.TheConstants.{MOST_REQUESTS}
+use Rattle.cal_load.proofs.Common.{◌≡◌, ◌∙◌, ◌∷◌, [], List, length, length-append, take, take_all, refl, ap, sym, arith, rows_for, LogRow, MOST_REQUESTS}
 use Rattle.cal_load.proofs.LogCounts.{row_more, row_other, rows_few}
 use Rattle.cal_load.proofs.log.giving.come_of.Goals as goal
 use Rattle.cal_load.proofs.log.giving.come_of.Goals.{then-row-task+in_ok-give, else-row-task}

@@ -1,6 +1,4 @@
-use Rattle.std.proofs.Common.{◌≡◌, length, take}
-use Rattle.cal_load.specs.Comings.{IsComing}
-use Rattle.cal_load.specs.Logs.{rows_for}
+use Rattle.cal_load.proofs.Common.{◌≡◌, length, take, IsComing, rows_for}
 use Rattle.cal_load.proofs.log.giving.come_of.Given as goal
 
 -- as many as the rows so far have

@@ -1,8 +1,4 @@
-use Rattle.std.proofs.Common.{◌≡◌, ◌<◌, [], ℕ, length, refl, subst, arith}
-use Rattle.std.proofs.lemmas.List.Elements.{All-get_or}
-use Rattle.cal_load.specs.Comings.{IsComingTo}
-use Rattle.cal_machine.specs.Table.{IsTask}
-use Rattle.cal_machine.specs.Tasks.{no_task}
+use Rattle.cal_load.proofs.Common.{◌≡◌, ◌<◌, [], ℕ, length, refl, subst, arith, All-get_or, IsComingTo, IsTask, no_task}
 use Rattle.cal_machine.specs.declared.numbering.TheConstants.{MOST_THREADS}
 use Rattle.cal_load.proofs.LogCounts.{given_more, given_nothing}
 use Rattle.cal_load.proofs.log.logged.all_of_log.Goals as goal

@@ -1,10 +1,4 @@
-use Rattle.std.proofs.Common.{List, length, sym, subst}
-use Rattle.cal_load.specs.Logs.{AreOfTasks, IsLogCount}
-use Rattle.cal_load.specs.Made.{AreCountedBy, IsTimedBy}
-use Rattle.cal_load.specs.declared.clocks.Timing.{Timing}
-use Rattle.cal_load.specs.declared.made.Count.{Count}
-use Rattle.cal_machine.specs.Tasks.{first_thread}
-use Rattle.cal_trace.specs.declared.arrivals.Arrival.{Arrival}
+use Rattle.cal_load.proofs.Common.{List, length, sym, subst, AreOfTasks, IsLogCount, AreCountedBy, IsTimedBy, Timing, Count, first_thread, Arrival}
 use Rattle.cal_load.proofs.log.logged.logged_arrivals.Goals as goal
 
 pub returns-clause-made : goal.returns-clause-made

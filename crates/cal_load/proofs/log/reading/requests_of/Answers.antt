@@ -1,8 +1,4 @@
-use Rattle.std.proofs.Common.{◌∷◌, [], List, length, length-append, ap, sym, subst, arith}
-use Rattle.cal_load.specs.Logs.{IsLogRow}
-use Rattle.cal_load.specs.declared.log.LogRow.{LogRow}
-use Rattle.cal_trace.specs.History.Ranges.{Each}
-use Rattle.cal_trace.proofs.ListLemmas.EachOne.{each_push}
+use Rattle.cal_load.proofs.Common.{◌∷◌, [], List, length, length-append, ap, sym, subst, arith, IsLogRow, LogRow, Each, each_push}
 use Rattle.cal_load.proofs.log.reading.requests_of.Goals as goal
 
 pub loop-k-preserved : goal.loop-k-preserved

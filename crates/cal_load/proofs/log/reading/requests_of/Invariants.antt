@@ -1,6 +1,4 @@
-use Rattle.std.proofs.Common.{◌≤◌, length}
-use Rattle.cal_load.specs.Logs.{IsLogRow}
-use Rattle.cal_trace.specs.History.Ranges.{Each}
+use Rattle.cal_load.proofs.Common.{◌≤◌, length, IsLogRow, Each}
 use Rattle.cal_load.proofs.log.reading.requests_of.Given as goal
 
 -- no more requests than rows

@@ -1,9 +1,4 @@
-use Rattle.std.proofs.Common.{◌≡◌, ◌≢◌, ◌<◌, ◌∙◌, List, take, length, Some, slice_get, get_or, ap, sym, subst, arith}
-use Rattle.std.proofs.lemmas.List.{take_more}
-use Rattle.std.proofs.lemmas.Option.{slice_get-get_or}
-use Rattle.cal_load.specs.declared.making.TaskLoad.{TaskLoad}
-use Rattle.cal_trace.specs.History.Ranges.{Each}
-use Rattle.cal_trace.proofs.ListLemmas.EachOne.{each_push}
+use Rattle.cal_load.proofs.Common.{◌≡◌, ◌≢◌, ◌<◌, ◌∙◌, List, take, length, Some, slice_get, get_or, ap, sym, subst, arith, take_more, slice_get-get_or, TaskLoad, Each, each_push}
 use Rattle.cal_load.proofs.made.ArrivalPlan.load_of.Goals as goal
 
 pub returns-then-self-place-clause-some : goal.returns-then-self-place-clause-some

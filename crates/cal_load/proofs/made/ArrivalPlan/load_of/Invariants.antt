@@ -1,5 +1,4 @@
-use Rattle.std.proofs.Common.{◌≢◌, take}
-use Rattle.cal_trace.specs.History.Ranges.{Each}
+use Rattle.cal_load.proofs.Common.{◌≢◌, take, Each}
 use Rattle.cal_load.proofs.made.ArrivalPlan.load_of.Given as goal
 
 -- none of those that were passed

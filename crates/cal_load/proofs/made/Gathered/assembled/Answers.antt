@@ -1,9 +1,4 @@
-use Rattle.std.proofs.Common.{◌≡◌, ◌∙◌, ℕ, List, Some, map, slice_get, ap, sym, subst}
-use Rattle.cal_load.specs.Built.{AreBuilt}
-use Rattle.cal_load.specs.Clocks.{ArePassesOf, AreTurnsOf}
-use Rattle.cal_machine.specs.Tasks.{threads_in}
-use Rattle.cal_trace.specs.declared.arrivals.Arrival.{Arrival}
-use Rattle.cal_trace.specs.declared.arrivals.GivenPass.{GivenPass}
+use Rattle.cal_load.proofs.Common.{◌≡◌, ◌∙◌, ℕ, List, Some, map, slice_get, ap, sym, subst, AreBuilt, ArePassesOf, AreTurnsOf, threads_in, Arrival, GivenPass}
 use Rattle.cal_load.proofs.Assembled.{assembled_fits, assembled_spelled, came_at_turn, came_before}
 use Rattle.cal_load.proofs.made.Gathered.assembled.Goals as goal
 

@@ -1,8 +1,4 @@
-use Rattle.std.proofs.Common.{◌≡◌, ◌≤◌, ◌+◌, ◌∙◌, ◌++◌, ◌∷◌, [], List, All, length, ap, sym, subst}
-use Rattle.cal_load.specs.Built.{AreBuilt, HasMoreFor}
-use Rattle.cal_load.specs.Comings.{IsQueue, slots_in}
-use Rattle.cal_load.specs.declared.made.Count.{Count}
-use Rattle.cal_load.specs.declared.making.Queue.{Queue}
+use Rattle.cal_load.proofs.Common.{◌≡◌, ◌≤◌, ◌+◌, ◌∙◌, ◌++◌, ◌∷◌, [], List, All, length, ap, sym, subst, AreBuilt, HasMoreFor, IsQueue, slots_in, Count, Queue}
 use Rattle.cal_load.proofs.made.Gathered.put.Goals as goal
 
 pub returns : goal.returns

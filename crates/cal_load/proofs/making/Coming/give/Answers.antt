@@ -1,8 +1,4 @@
-use Rattle.std.proofs.Common.{◌≡◌, ◌<◌, length, get_or, ap, sym, subst, arith}
-use Rattle.std.proofs.lemmas.List.Elements.{All-get_or, All-set}
-use Rattle.std.proofs.lemmas.List.Sums.{sum_by-set}
-use Rattle.cal_load.specs.Comings.{IsQueue, taken_in}
-use Rattle.cal_load.specs.declared.making.Queue.{Queue}
+use Rattle.cal_load.proofs.Common.{◌≡◌, ◌<◌, length, get_or, ap, sym, subst, arith, All-get_or, All-set, sum_by-set, IsQueue, taken_in, Queue}
 use Rattle.cal_load.proofs.making.Coming.give.Goals as goal
 
 pub returns-in-None-clause-is : goal.returns-in-None-clause-is

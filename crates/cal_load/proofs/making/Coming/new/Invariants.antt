@@ -1,5 +1,4 @@
-use Rattle.std.proofs.Common.{◌≡◌, All, length}
-use Rattle.cal_load.specs.Comings.{IsQueue, slots_in}
+use Rattle.cal_load.proofs.Common.{◌≡◌, All, length, IsQueue, slots_in}
 use Rattle.cal_load.proofs.making.Coming.new.Given as goal
 
 abbrev pub invariant-loop-k : goal.invariant-loop-k

@@ -1,5 +1,4 @@
-use Rattle.std.proofs.Common.{◌≡◌, length}
-use Rattle.cal_load.specs.Comings.{IsComing}
+use Rattle.cal_load.proofs.Common.{◌≡◌, length, IsComing}
 use Rattle.cal_load.proofs.making.TaskLoad.come.Given as goal
 
 abbrev pub invariant-loop-k : goal.invariant-loop-k

@@ -1,14 +1,5 @@
-use Rattle.std.proofs.Common.{◌≡◌, ◌<◌, ◌+◌, ◌&&◌, not, ℕ, List, length, map, take, get_or, refl, sym, ap, ◌∙◌, if◌then◌else◌, arith}
-use Rattle.std.specs.Prelude.{nat_lt}
-use Rattle.std.proofs.lemmas.List.{get_or-map, length-map, take_all}
-use Rattle.cal_kthread.specs.Turn.OnCores.{would_bring}
-use Rattle.cal_kthread.specs.Turn.Thread.{KernelView}
-use Rattle.cal_machine.specs.CoreSet.{has}
+use Rattle.cal_paced.proofs.Common.{◌≡◌, ◌<◌, ◌+◌, ◌&&◌, not, ℕ, List, length, map, take, get_or, refl, sym, ap, ◌∙◌, if◌then◌else◌, arith, nat_lt, get_or-map, length-map, take_all, would_bring, KernelView, has, MOST_CORES, Worker, Record, all_bring, brings, is_at_work, is_at_work_on, is_beside_work, last_record, memory_part}
 use Rattle.cal_machine.specs.Machine.{sibling_of}
-use Rattle.cal_machine.specs.declared.machine.TheConstants.{MOST_CORES}
-use Rattle.cal_run.specs.declared.workers.worker.Worker.{Worker}
-use Rattle.cal_signal.specs.declared.record.Record.{Record}
-use Rattle.cal_paced.specs.Shares.{all_bring, brings, is_at_work, is_at_work_on, is_beside_work, last_record, memory_part}
 use Rattle.cal_paced.proofs.Beside.{and-true, beside-more, bring-more}
 use Rattle.cal_paced.proofs.shares.Interference.of.Goals as goal
 

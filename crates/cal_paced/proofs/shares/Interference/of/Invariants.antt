@@ -1,8 +1,4 @@
-use Rattle.std.specs.Prelude.{◌≡◌, ◌≤◌, ◌*◌, ◌&&◌, not, nat_lt, ℕ, map, take}
-use Rattle.cal_machine.specs.CoreSet.{has}
-use Rattle.cal_machine.specs.declared.machine.TheConstants.{MOST_CORES}
-use Rattle.cal_run.specs.declared.workers.worker.Worker.{Worker}
-use Rattle.cal_paced.specs.Shares.{all_bring, is_beside_work}
+use Rattle.cal_paced.proofs.Common.{◌≡◌, ◌≤◌, ◌*◌, ◌&&◌, not, ℕ, map, take, nat_lt, has, MOST_CORES, Worker, all_bring, is_beside_work}
 use Rattle.cal_paced.proofs.shares.Interference.of.Given as goal
 
 -- what the first threads mean

@@ -1,5 +1,4 @@
-use Rattle.std.proofs.Common.{arith}
-use Rattle.cal_machine.specs.CoreSet.{has}
+use Rattle.cal_paced.proofs.Common.{arith, has}
 use Rattle.cal_paced.proofs.Cores.{only-clear}
 use Rattle.cal_paced.proofs.shares.Shares.cores.Goals as goal
 

@@ -1,13 +1,5 @@
-use Rattle.std.proofs.Common.{◌≡◌, List, refl}
-use Rattle.cal_machine.specs.Table.{Table}
-use Rattle.cal_policy.specs.Auditor.{KeepsUp}
-use Rattle.cal_policy.specs.Policies.{IsLegalBy, IsVerdictBy}
-use Rattle.cal_policy.specs.State.{IsStateAfter}
-use Rattle.cal_policy.specs.declared.history.entry.PassEntry.{PassEntry}
-use Rattle.cal_policy.specs.declared.policy.Policy.{Policy}
-use Rattle.cal_policy.specs.declared.policy.Policy.TheVariants.{Caladan}
+use Rattle.cal_policy.proofs.Common.{◌≡◌, List, refl, Table, KeepsUp, IsLegalBy, IsVerdictBy, IsStateAfter, PassEntry, Policy, Caladan, Legal, Illegal}
 use Rattle.cal_policy.specs.declared.verdict.Verdict.{Verdict}
-use Rattle.cal_policy.specs.declared.verdict.Verdict.TheVariants.{Legal, Illegal}
 use Rattle.cal_policy.proofs.PolicyLemmas.{AuditParts, audit_parts, never_illegal_by}
 use Rattle.cal_policy.proofs.auditor.Auditor.board.Goals as goal
 

@@ -1,9 +1,4 @@
-use Rattle.std.proofs.Common.{◌≡◌, ◌-◌, ◌^◌, ◌++◌, ◌∷◌, [], length, min, subst, arith, length-append}
-use Rattle.std.proofs.lemmas.Bool.{both_ways}
-use Rattle.cal_policy.specs.Auditor.{KeepsUp}
-use Rattle.cal_policy.specs.Policies.{IsPassBy, IsLegalBy, IsVerdictBy}
-use Rattle.cal_policy.specs.declared.policy.Policy.TheVariants.{Caladan}
-use Rattle.cal_policy.specs.declared.verdict.Verdict.TheVariants.{Legal, Illegal}
+use Rattle.cal_policy.proofs.Common.{◌≡◌, ◌-◌, ◌^◌, ◌++◌, ◌∷◌, [], length, min, subst, arith, length-append, both_ways, KeepsUp, IsPassBy, IsLegalBy, IsVerdictBy, Caladan, Legal, Illegal}
 use Rattle.cal_policy.proofs.PolicyLemmas.{audit_parts, audit_from, verdict_stays, verdict_more, verdict_here, legal_of}
 use Rattle.cal_policy.proofs.auditor.Auditor.next.Goals as goal
 

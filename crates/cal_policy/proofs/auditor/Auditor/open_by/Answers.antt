@@ -1,13 +1,7 @@
-use Rattle.std.proofs.Common.{◌≡◌, [], refl}
-use Rattle.cal_machine.specs.Table.{Table}
+use Rattle.cal_policy.proofs.Common.{◌≡◌, [], refl, Table, Policy, Caladan, Assured, Legal, IsAuditBy, IsStateAfter}
 use Rattle.cal_policy.specs.declared.book.Book.{Book}
 use Rattle.cal_policy.specs.declared.history.action_list.Actions.{Actions}
-use Rattle.cal_policy.specs.declared.policy.Policy.{Policy}
-use Rattle.cal_policy.specs.declared.policy.Policy.TheVariants.{Caladan, Assured}
-use Rattle.cal_policy.specs.declared.verdict.Verdict.TheVariants.{Legal}
 use Rattle.cal_policy.specs.Book.{board_in}
-use Rattle.cal_policy.specs.Policies.{IsAuditBy}
-use Rattle.cal_policy.specs.State.{IsStateAfter}
 use Rattle.cal_policy.proofs.AssuredLemmas.Legality as own
 use Rattle.cal_policy.proofs.PassLemmas.Legality.{legal_none}
 use Rattle.cal_policy.proofs.auditor.Auditor.open_by.Goals as goal

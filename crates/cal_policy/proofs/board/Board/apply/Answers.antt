@@ -1,13 +1,6 @@
 -- The counts and sets are kept up with the one holder that an action changes.
-use Rattle.std.proofs.Common.{◌∙◌, ap, subst, sym, arith}
-use Rattle.cal_machine.specs.CoreSet.{has}
-use Rattle.std.specs.Option.{IfSome}
-use Rattle.cal_machine.specs.TableTasks.{threads_of_table}
-use Rattle.cal_policy.specs.declared.board.holders.Holder.{Holder}
-use Rattle.cal_policy.specs.Board.{holder_in, holder_at}
-use Rattle.cal_policy.specs.Pass.Grants.{is_thread_for}
+use Rattle.cal_policy.proofs.Common.{◌∙◌, ap, subst, sym, arith, has, IfSome, threads_of_table, Holder, holder_in, holder_at, is_thread_for, IsSorted}
 use Rattle.cal_policy.specs.Board.Survey.{CountsOneMore}
-use Rattle.cal_policy.specs.Board.CoreSets.{IsSorted}
 use Rattle.cal_policy.proofs.BoardLemmas.StateKept.{names_fixed, names_threads, placed_at}
 use Rattle.cal_policy.proofs.BoardLemmas.DebtsKept.{low_core}
 use Rattle.cal_policy.proofs.BoardLemmas.Surveyed.{Surveys_moved, counted_at, few_left}

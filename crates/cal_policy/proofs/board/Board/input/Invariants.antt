@@ -1,8 +1,4 @@
-use Rattle.std.proofs.Common.{◌≡◌, List, length, take}
-use Rattle.cal_policy.specs.State.{IsStateAfter}
-use Rattle.cal_policy.specs.Judgement.OpenInput.{IsOfFound}
-use Rattle.cal_machine.specs.TableTasks.{threads_of_table}
-use Rattle.cal_policy.specs.declared.history.entry.PassEntry.{PassEntry}
+use Rattle.cal_policy.proofs.Common.{◌≡◌, List, length, take, IsStateAfter, IsOfFound, threads_of_table, PassEntry}
 use Rattle.cal_policy.proofs.board.Board.input.Given as goal
 
 abbrev pub invariant-loop-one : goal.invariant-loop-one

@@ -1,10 +1,5 @@
 -- Before any action every core is free.
-use Rattle.std.proofs.Common.{◌∙◌, ap, subst, sym}
-use Rattle.cal_machine.specs.TableTasks.{threads_of_table}
-use Rattle.cal_policy.specs.declared.board.holders.Holder.{Holder}
-use Rattle.cal_policy.specs.Board.{holder_in}
-use Rattle.cal_policy.specs.Board.CoreSets.{IsSorted}
-use Rattle.cal_policy.specs.Pass.Grants.{is_thread_for}
+use Rattle.cal_policy.proofs.Common.{◌∙◌, ap, subst, sym, threads_of_table, Holder, holder_in, IsSorted, is_thread_for}
 use Rattle.cal_policy.proofs.BoardLemmas.Surveyed.{Surveys_free}
 use Rattle.cal_policy.proofs.BoardLemmas.OpenCores.{opens_free}
 use Rattle.cal_policy.proofs.BoardLemmas.Unshown.{shows_free}

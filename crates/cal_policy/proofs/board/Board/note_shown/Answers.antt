@@ -1,8 +1,5 @@
 -- Only the set is another.
-use Rattle.std.proofs.Common.{inl, inr, ⊎_elim}
-use Rattle.cal_policy.specs.Board.{holder_in}
-use Rattle.cal_policy.specs.Board.KeepingSets.{kept_in}
-use Rattle.cal_policy.specs.Board.Unshown.{IsShownOn}
+use Rattle.cal_policy.proofs.Common.{inl, inr, ⊎_elim, holder_in, kept_in, IsShownOn}
 use Rattle.cal_policy.proofs.BoardLemmas.Unshown.{shows_out}
 use Rattle.cal_policy.proofs.board.Board.note_shown.Goals as goal
 

@@ -1,5 +1,4 @@
-use Rattle.std.proofs.Common.{◌≡◌, ℕ, ◌<◌, true}
-use Rattle.cal_machine.specs.CoreSet.{has}
+use Rattle.cal_policy.proofs.Common.{◌≡◌, ℕ, ◌<◌, true, has}
 use Rattle.cal_policy.proofs.board.core_sets.all_cores.Given as goal
 
 abbrev pub invariant-loop-core : goal.invariant-loop-core

@@ -1,6 +1,4 @@
-use Rattle.std.proofs.Common.{◌≡◌, ◌≢◌, ℕ, Some, eqb, false, not, ◌||◌, ◌&&◌, ap, ◌∙◌, arith}
-use Rattle.std.proofs.lemmas.Bool.Decides.{nat_tests}
-use Rattle.cal_machine.specs.CoreSet.{has}
+use Rattle.cal_policy.proofs.Common.{◌≡◌, ◌≢◌, ℕ, Some, eqb, false, not, ◌||◌, ◌&&◌, ap, ◌∙◌, arith, nat_tests, has}
 use Rattle.cal_policy.proofs.BoardLemmas.BannedSet.{Banned_same, Banned_ban, Banned_unban}
 use Rattle.cal_policy.proofs.HistoryLemmas.OneMore.{ban_push}
 use Rattle.cal_policy.proofs.board.core_sets.note_banned.Goals as goal

@@ -1,8 +1,5 @@
 -- A core that the thread has is counted.
-use Rattle.std.proofs.Common.{◌≡◌, ℕ, ◌<◌, Bool, true, ap, sym, ◌∙◌, arith}
-use Rattle.std.proofs.lemmas.Bool.Decides.{nat_tests}
-use Rattle.cal_policy.specs.History.{holder_of}
-use Rattle.cal_policy.specs.Board.Counts.{is_with}
+use Rattle.cal_policy.proofs.Common.{◌≡◌, ℕ, ◌<◌, Bool, true, ap, sym, ◌∙◌, arith, nat_tests, holder_of, is_with}
 use Rattle.cal_policy.proofs.BoardLemmas.StateKept.{some_counted}
 use Rattle.cal_policy.proofs.board.cores.has_no_core.Goals as goal
 use Rattle.cal_policy.proofs.BoardLemmas.AsKept.{with_as_kept}

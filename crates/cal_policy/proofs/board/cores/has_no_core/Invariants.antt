@@ -1,9 +1,4 @@
-use Rattle.std.proofs.Common.{◌≡◌, List}
-use Rattle.cal_policy.specs.declared.history.action.Action.{Action}
-use Rattle.cal_policy.specs.History.{holder_of}
-use Rattle.cal_policy.specs.Board.Counts.{is_with}
-use Rattle.cal_policy.specs.Pass.Choice.{count_below}
-use Rattle.cal_policy.specs.State.{Agrees}
+use Rattle.cal_policy.proofs.Common.{◌≡◌, List, Action, holder_of, is_with, count_below, Agrees}
 use Rattle.cal_policy.proofs.board.cores.has_no_core.Given as goal
 
 abbrev pub invariant-loop-core : goal.invariant-loop-core

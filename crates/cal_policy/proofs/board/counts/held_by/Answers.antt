@@ -1,6 +1,4 @@
-use Rattle.std.proofs.Common.{arith}
-use Rattle.cal_policy.specs.Board.Counts.{is_held_for}
-use Rattle.cal_policy.specs.Board.{holder_in}
+use Rattle.cal_policy.proofs.Common.{arith, is_held_for, holder_in}
 use Rattle.cal_policy.proofs.BoardLemmas.StateKept.{some_counted}
 use Rattle.cal_policy.proofs.BoardLemmas.Surveyed.{Surveys_agree}
 use Rattle.cal_policy.proofs.board.counts.held_by.Goals as goal

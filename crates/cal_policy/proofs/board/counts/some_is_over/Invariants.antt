@@ -1,8 +1,4 @@
-use Rattle.std.proofs.Common.{◌≡◌, ◌<◌, ◌≤◌, ℕ, List, false}
-use Rattle.cal_policy.specs.declared.history.action.Action.{Action}
-use Rattle.cal_policy.specs.Board.Counts.{held_by, is_over}
-use Rattle.cal_policy.specs.State.{Agrees}
-use Rattle.cal_policy.specs.Board.Losing.{secure_of}
+use Rattle.cal_policy.proofs.Common.{◌≡◌, ◌<◌, ◌≤◌, ℕ, List, false, Action, held_by, is_over, Agrees, secure_of}
 use Rattle.cal_policy.proofs.board.counts.some_is_over.Given as goal
 
 abbrev pub invariant-loop-task : goal.invariant-loop-task

@@ -1,10 +1,5 @@
 -- Each action of an orderly history names what the table has.
-use Rattle.std.proofs.Common.{◌≡◌, ℕ, ◌+◌, ◌-◌, List, length, take, refl, subst, arith}
-use Rattle.std.proofs.lemmas.Option.{slice_get_read}
-use Rattle.cal_policy.specs.declared.history.entry.PassEntry.{PassEntry}
-use Rattle.cal_policy.specs.History.{actions_of, looks_of}
-use Rattle.cal_policy.specs.Board.{KeepsBefore}
-use Rattle.cal_policy.specs.State.{Agrees, KeepingAgrees}
+use Rattle.cal_policy.proofs.Common.{◌≡◌, ℕ, ◌+◌, ◌-◌, List, length, take, refl, subst, arith, slice_get_read, PassEntry, actions_of, looks_of, KeepsBefore, Agrees, KeepingAgrees}
 use Rattle.cal_policy.proofs.ListLemmas.Each.{take_item}
 use Rattle.cal_policy.proofs.BoardLemmas.StateKept.{names_of_fitting}
 use Rattle.cal_policy.proofs.board.replay.board_of.Goals as goal

@@ -1,7 +1,4 @@
-use Rattle.std.proofs.Common.{◌-◌, take}
-use Rattle.cal_policy.specs.History.{actions_of, looks_of}
-use Rattle.cal_policy.specs.Board.{KeepsBefore}
-use Rattle.cal_policy.specs.State.{IsReady, Agrees, KeepingAgrees}
+use Rattle.cal_policy.proofs.Common.{◌-◌, take, actions_of, looks_of, KeepsBefore, IsReady, Agrees, KeepingAgrees}
 use Rattle.cal_policy.proofs.board.replay.board_of.Given as goal
 
 abbrev pub invariant-loop-entry : goal.invariant-loop-entry

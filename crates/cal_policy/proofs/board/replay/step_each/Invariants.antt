@@ -1,6 +1,4 @@
-use Rattle.std.proofs.Common.{◌≡◌, ◌++◌, List, take}
-use Rattle.cal_policy.specs.declared.history.action.Action.{Action}
-use Rattle.cal_policy.specs.State.{IsReady, Agrees}
+use Rattle.cal_policy.proofs.Common.{◌≡◌, ◌++◌, List, take, Action, IsReady, Agrees}
 use Rattle.cal_policy.proofs.board.replay.step_each.Given as goal
 
 abbrev pub invariant-loop-action : goal.invariant-loop-action

@@ -1,6 +1,4 @@
-use Rattle.std.proofs.Common.{◌∙◌}
-use Rattle.cal_policy.specs.Setting.{setting}
-use Rattle.cal_policy.specs.Judgement.OpenInput.{judged_input}
+use Rattle.cal_policy.proofs.Common.{◌∙◌, setting, judged_input}
 use Rattle.cal_policy.proofs.PassLemmas.Apart.{orderly_apart}
 use Rattle.cal_policy.proofs.PassLemmas.LegalOrderly.{legal_orderly}
 use Rattle.cal_policy.proofs.PolicyLemmas.{caladan_by, orderly_by}

@@ -1,10 +1,7 @@
 -- Each turn is followed by the next of its part, and the last of a part by the first of the next.
-use Rattle.std.proofs.Common.{◌≡◌, ◌+◌, length, ap, refl, arith}
-use Rattle.cal_machine.specs.Table.{Table}
+use Rattle.cal_policy.proofs.Common.{◌≡◌, ◌+◌, length, ap, refl, arith, Table, unban_at, bans_at, grant_of_kind_at, freed_of, granted_of}
 use Rattle.cal_machine.specs.declared.task.Kind.TheVariants as kinds
-use Rattle.cal_policy.specs.Pass.Bans.{unban_at, bans_at}
-use Rattle.cal_policy.specs.Pass.Grants.{grant_of_kind_at}
-use Rattle.cal_policy.specs.Explain.Turns.{freed_of, unbanned_of, bounded_of, granted_of}
+use Rattle.cal_policy.specs.Explain.Turns.{unbanned_of, bounded_of}
 use Rattle.cal_policy.proofs.ExplainLemmas.{turn_more, turn_last}
 use Rattle.cal_policy.proofs.explain.turn.turn_after.Goals as goal
 

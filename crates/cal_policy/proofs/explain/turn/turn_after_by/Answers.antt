@@ -1,7 +1,4 @@
-use Rattle.std.proofs.Common.{ap, sym, subst, ◌∙◌}
-use Rattle.cal_machine.specs.Table.{Table}
-use Rattle.cal_policy.specs.Explain.AssuredTurns.{made_before, next_turn}
-use Rattle.cal_policy.specs.Explain.Turns.{IsTurn}
+use Rattle.cal_policy.proofs.Common.{ap, sym, subst, ◌∙◌, Table, made_before, next_turn, IsTurn}
 use Rattle.cal_policy.proofs.ExplainLemmas.Assured.{assured_follows}
 use Rattle.cal_policy.proofs.explain.turn.turn_after_by.Goals as goal
 

@@ -1,6 +1,4 @@
-use Rattle.std.proofs.Common.{◌≡◌, refl}
-use Rattle.cal_policy.specs.History.Looks.{look_of}
-use Rattle.cal_policy.specs.Judgement.Judging.{judged}
+use Rattle.cal_policy.proofs.Common.{◌≡◌, refl, look_of, judged}
 use Rattle.cal_policy.proofs.ListLemmas.Each.{each_all}
 use Rattle.cal_policy.proofs.judgement.judging.each_as_judged.Goals as goal
 

@@ -1,9 +1,4 @@
-use Rattle.std.proofs.Common.{◌≡◌, ℕ, ◌<◌, List, Some, slice_get}
-use Rattle.cal_policy.specs.declared.history.look.Seen.{Seen}
-use Rattle.cal_policy.specs.declared.history.action.Action.{Action}
-use Rattle.cal_policy.specs.History.Looks.{look_of}
-use Rattle.cal_policy.specs.Judgement.Judging.{judged}
-use Rattle.cal_policy.specs.State.{Agrees}
+use Rattle.cal_policy.proofs.Common.{◌≡◌, ℕ, ◌<◌, List, Some, slice_get, Seen, Action, look_of, judged, Agrees}
 use Rattle.cal_policy.proofs.judgement.judging.each_as_judged.Given as goal
 
 abbrev pub invariant-loop-k : goal.invariant-loop-k

@@ -1,6 +1,4 @@
-use Rattle.std.proofs.Common.{refl}
-use Rattle.cal_policy.specs.History.Looks.{last_shown}
-use Rattle.cal_policy.specs.Judgement.Judging.{IsFitLook}
+use Rattle.cal_policy.proofs.Common.{refl, last_shown, IsFitLook}
 use Rattle.cal_policy.proofs.ListLemmas.Each.{each_all}
 use Rattle.cal_policy.proofs.judgement.judging.each_fits.Goals as goal
 

@@ -1,10 +1,5 @@
 -- The next entry is orderly after those before it.
-use Rattle.std.proofs.Common.{ℕ, List, length, take, refl, subst, arith}
-use Rattle.std.proofs.lemmas.Option.{slice_get_read}
-use Rattle.cal_policy.specs.declared.history.entry.PassEntry.{PassEntry}
-use Rattle.cal_policy.specs.History.{actions_of, looks_of}
-use Rattle.cal_policy.specs.Judgement.Orderly.{IsOrderlyEntry}
-use Rattle.cal_policy.specs.State.{Agrees, KeepingAgrees}
+use Rattle.cal_policy.proofs.Common.{ℕ, List, length, take, refl, subst, arith, slice_get_read, PassEntry, actions_of, looks_of, IsOrderlyEntry, Agrees, KeepingAgrees}
 use Rattle.cal_policy.proofs.ListLemmas.Each.{each_more_item, each_all, take_item}
 use Rattle.cal_policy.proofs.judgement.orderly.orderly.Goals as goal
 

@@ -1,8 +1,4 @@
-use Rattle.std.proofs.Common.{◌≡◌, ℕ, ◌<◌, Some, slice_get, take}
-use Rattle.cal_policy.specs.declared.history.entry.PassEntry.{PassEntry}
-use Rattle.cal_policy.specs.History.{actions_of, looks_of}
-use Rattle.cal_policy.specs.Judgement.Orderly.{IsOrderlyEntry}
-use Rattle.cal_policy.specs.State.{IsReady, Agrees, KeepingAgrees}
+use Rattle.cal_policy.proofs.Common.{◌≡◌, ℕ, ◌<◌, Some, slice_get, take, PassEntry, actions_of, looks_of, IsOrderlyEntry, IsReady, Agrees, KeepingAgrees}
 use Rattle.cal_policy.proofs.judgement.orderly.orderly.Given as goal
 
 abbrev pub invariant-loop-entry : goal.invariant-loop-entry

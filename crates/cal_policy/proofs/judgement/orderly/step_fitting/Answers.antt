@@ -1,8 +1,5 @@
 -- The next action fits the state after those before it.
-use Rattle.std.proofs.Common.{ℕ, ◌++◌, List, take, IsTrue, refl, sym, subst, ◌∙◌}
-use Rattle.cal_policy.specs.declared.history.action.Action.{Action}
-use Rattle.cal_policy.specs.Judgement.Orderly.{fits_state}
-use Rattle.cal_policy.specs.State.{Agrees}
+use Rattle.cal_policy.proofs.Common.{ℕ, ◌++◌, List, take, IsTrue, refl, sym, subst, ◌∙◌, Action, fits_state, Agrees}
 use Rattle.cal_policy.proofs.ListLemmas.Each.{each_more, each_all, after_more}
 use Rattle.cal_policy.proofs.judgement.orderly.step_fitting.Goals as goal
 

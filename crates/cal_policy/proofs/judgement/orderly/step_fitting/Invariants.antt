@@ -1,7 +1,4 @@
-use Rattle.std.proofs.Common.{◌≡◌, ℕ, ◌<◌, ◌++◌, List, Some, slice_get, take, IsTrue}
-use Rattle.cal_policy.specs.declared.history.action.Action.{Action}
-use Rattle.cal_policy.specs.Judgement.Orderly.{fits_state}
-use Rattle.cal_policy.specs.State.{IsReady, Agrees}
+use Rattle.cal_policy.proofs.Common.{◌≡◌, ℕ, ◌<◌, ◌++◌, List, Some, slice_get, take, IsTrue, Action, fits_state, IsReady, Agrees}
 use Rattle.cal_policy.proofs.judgement.orderly.step_fitting.Given as goal
 
 abbrev pub invariant-loop-action : goal.invariant-loop-action

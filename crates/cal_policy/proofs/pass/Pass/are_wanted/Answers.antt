@@ -1,9 +1,4 @@
-use Rattle.std.proofs.Common.{◌≡◌, ℕ, ◌<◌, ◌≤◌, ◌&&◌, Bool, true, false, nat_lt, refl, ap, sym, ◌∙◌, arith}
-use Rattle.std.proofs.lemmas.Bool.Decides.{nat_tests}
-use Rattle.std.proofs.Math.Bool.{and-false}
-use Rattle.cal_policy.specs.Assured.Short.{some_waits_short, open_cores, lacking}
-use Rattle.cal_policy.specs.Pass.AtHand.{setting_in}
-use Rattle.cal_policy.specs.Setting.{so_far}
+use Rattle.cal_policy.proofs.Common.{◌≡◌, ℕ, ◌<◌, ◌≤◌, ◌&&◌, Bool, true, false, nat_lt, refl, ap, sym, ◌∙◌, arith, nat_tests, and-false, some_waits_short, open_cores, lacking, setting_in, so_far}
 use Rattle.cal_policy.proofs.AssuredLemmas.Waiting.{none_short}
 use Rattle.cal_policy.proofs.pass.Pass.are_wanted.Goals as goal
 

@@ -1,7 +1,5 @@
-use Rattle.std.proofs.Common.{◌<◌, arith}
-use Rattle.cal_policy.specs.Setting.{so_far}
+use Rattle.cal_policy.proofs.Common.{◌<◌, arith, so_far, setting_in}
 use Rattle.cal_policy.proofs.PassLemmas.Pairs.{ban_parts}
-use Rattle.cal_policy.specs.Pass.AtHand.{setting_in}
 use Rattle.cal_policy.proofs.pass.Pass.ban_beside.Goals as goal
 
 pub returns-clause-due : goal.returns-clause-due

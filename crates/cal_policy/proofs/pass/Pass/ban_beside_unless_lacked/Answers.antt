@@ -1,8 +1,5 @@
-use Rattle.std.proofs.Common.{◌<◌, arith}
-use Rattle.cal_policy.specs.Setting.{so_far}
+use Rattle.cal_policy.proofs.Common.{◌<◌, arith, so_far, due_for, setting_in}
 use Rattle.cal_policy.proofs.PassLemmas.Pairs.{ban_parts_of}
-use Rattle.cal_policy.specs.Assured.Hyperthreads.{due_for}
-use Rattle.cal_policy.specs.Pass.AtHand.{setting_in}
 use Rattle.cal_policy.proofs.pass.Pass.ban_beside_unless_lacked.Goals as goal
 
 pub returns-clause-due : goal.returns-clause-due

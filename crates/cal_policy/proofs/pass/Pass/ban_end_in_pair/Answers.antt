@@ -1,7 +1,6 @@
-use Rattle.std.proofs.Common.{◌∙◌}
+use Rattle.cal_policy.proofs.Common.{◌∙◌, setting_in}
 use Rattle.cal_policy.proofs.AssuredLemmas.Pairs.{unban_lower}
 use Rattle.cal_policy.proofs.PassLemmas.Pairs.{pair_upper}
-use Rattle.cal_policy.specs.Pass.AtHand.{setting_in}
 use Rattle.cal_policy.specs.Assured.Hyperthreads.{unban_at}
 use Rattle.cal_policy.proofs.pass.Pass.ban_end_in_pair.Goals as goal
 

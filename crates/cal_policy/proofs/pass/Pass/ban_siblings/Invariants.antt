@@ -1,10 +1,4 @@
-use Rattle.std.proofs.Common.{◌≡◌, false, ◌+◌, ◌-◌, ◌*◌, ◌≤◌, length}
-use Rattle.cal_policy.specs.Setting.{Begun}
-use Rattle.cal_policy.specs.History.Lists.{in_pair}
-use Rattle.cal_policy.specs.Pass.AtHand.{setting_in}
-use Rattle.cal_policy.specs.Pass.Bans.{bans_at}
-use Rattle.cal_policy.specs.State.{IsReady, Stands}
-use Rattle.cal_policy.specs.Pass.ToBan.{NoneOver}
+use Rattle.cal_policy.proofs.Common.{◌≡◌, false, ◌+◌, ◌-◌, ◌*◌, ◌≤◌, length, Begun, in_pair, setting_in, bans_at, IsReady, Stands, NoneOver}
 use Rattle.cal_policy.proofs.PassLemmas.PartSoFar.{Reached}
 use Rattle.cal_policy.proofs.pass.Pass.ban_siblings.Given as goal
 

@@ -1,8 +1,5 @@
-use Rattle.std.proofs.Common.{◌<◌, ◌≤◌, sym, ◌∙◌, arith}
-use Rattle.std.proofs.lemmas.List.{append-nil}
-use Rattle.cal_policy.specs.Setting.{so_far}
+use Rattle.cal_policy.proofs.Common.{◌<◌, ◌≤◌, sym, ◌∙◌, arith, append-nil, so_far, setting_in}
 use Rattle.cal_policy.proofs.PassLemmas.Bandwidth.{over_limit, not_over_limit}
-use Rattle.cal_policy.specs.Pass.AtHand.{setting_in}
 use Rattle.cal_policy.proofs.pass.Pass.bandwidth_due.Goals as goal
 
 pub returns-then-self-bandwidth_limit-clause-due : goal.returns-then-self-bandwidth_limit-clause-due

@@ -1,14 +1,8 @@
 -- The cores between the set's members have no class.
-use Rattle.std.proofs.Common.{◌<◌, None, cond, ap, sym, ◌∙◌, arith}
-use Rattle.cal_policy.specs.Setting.{so_far}
-use Rattle.cal_policy.specs.Pass.Grants.{class_by, class_of}
-use Rattle.cal_policy.specs.Pass.Among.{class_among}
-use Rattle.cal_policy.specs.History.{holder_of}
-use Rattle.cal_policy.specs.History.CoreClasses.{comes_before}
+use Rattle.cal_policy.proofs.Common.{◌<◌, None, cond, ap, sym, ◌∙◌, arith, so_far, class_by, class_of, class_among, holder_of, comes_before, setting_in}
 use Rattle.cal_policy.proofs.ListLemmas.OneNumberMore.{best_more}
 use Rattle.cal_policy.proofs.BoardLemmas.AsKept.{class_as_kept}
 use Rattle.cal_policy.proofs.BoardLemmas.TwoSets.{best_skip}
-use Rattle.cal_policy.specs.Pass.AtHand.{setting_in}
 use Rattle.cal_policy.proofs.pass.Pass.choose_among.Goals as goal
 
 pub loop-core-preserved : goal.loop-core-preserved

@@ -1,12 +1,4 @@
-use Rattle.std.proofs.Common.{◌≡◌, ◌<◌, ◌≤◌, ◌-◌, List}
-use Rattle.std.specs.Option.{IfSome}
-use Rattle.cal_policy.specs.declared.history.action.Action.{Action}
-use Rattle.cal_policy.specs.Setting.{Begun}
-use Rattle.cal_policy.specs.History.CoreClasses.{comes_before}
-use Rattle.cal_policy.specs.Pass.Choice.{best_below}
-use Rattle.cal_policy.specs.Pass.Among.{class_among}
-use Rattle.cal_policy.specs.State.{Stands}
-use Rattle.cal_policy.specs.Pass.AtHand.{setting_in}
+use Rattle.cal_policy.proofs.Common.{◌≡◌, ◌<◌, ◌≤◌, ◌-◌, List, IfSome, Action, Begun, comes_before, best_below, class_among, Stands, setting_in}
 use Rattle.cal_policy.proofs.pass.Pass.choose_among.Given as goal
 
 abbrev pub invariant-loop-core : goal.invariant-loop-core

@@ -1,20 +1,7 @@
 -- The choice among the free cores that are not banned comes first, and where no core may be revoked, or no task may
 -- lose one, none of the others counts.
-use Rattle.std.proofs.Common.{◌≡◌, ℕ, List, Option, refl, ap, sym, ◌∙◌}
-use Rattle.std.specs.Option.{option_or}
-use Rattle.cal_policy.specs.declared.history.action.Action.{Action}
-use Rattle.cal_policy.specs.Setting.{Begun}
-use Rattle.cal_policy.specs.declared.pass.choice.Candidate.{Candidate}
-use Rattle.cal_policy.specs.declared.history.core_class.CoreClass.{CoreClass}
-use Rattle.cal_policy.specs.declared.board.Board.{Board}
+use Rattle.cal_policy.proofs.Common.{◌≡◌, ℕ, List, Option, refl, ap, sym, ◌∙◌, option_or, Action, Begun, so_far, Candidate, CoreClass, Board, best_below, comes_before, class_among, IsOfTable, Stands, setting_in, choice_of}
 use Rattle.cal_policy.specs.declared.pass.Pass.{Pass}
-use Rattle.cal_policy.specs.Setting.{so_far}
-use Rattle.cal_policy.specs.Pass.Choice.{best_below}
-use Rattle.cal_policy.specs.History.CoreClasses.{comes_before}
-use Rattle.cal_policy.specs.Pass.Among.{class_among}
-use Rattle.cal_policy.specs.State.{IsOfTable, Stands}
-use Rattle.cal_policy.specs.Pass.AtHand.{setting_in}
-use Rattle.cal_policy.specs.Pass.Grants.{choice_of}
 use Rattle.cal_policy.proofs.BoardLemmas.TwoSets.{choice_joins, idle_choice, none_taken}
 use Rattle.cal_policy.proofs.PassLemmas.Preempting.{none_preempted}
 use Rattle.cal_policy.proofs.pass.Pass.choose_core.Goals as goal

@@ -1,7 +1,4 @@
-use Rattle.std.proofs.Common.{refl, sym, ◌∙◌, None}
-use Rattle.cal_policy.specs.Assured.Taking.{may_preempt, held_choice}
-use Rattle.cal_policy.specs.Pass.AtHand.{setting_in}
-use Rattle.cal_policy.specs.Setting.{so_far}
+use Rattle.cal_policy.proofs.Common.{refl, sym, ◌∙◌, None, may_preempt, held_choice, setting_in, so_far}
 use Rattle.cal_policy.proofs.AssuredLemmas.Keeping.{chosen_here, chosen_beyond}
 use Rattle.cal_policy.proofs.AssuredLemmas.NoneToTake.{no_held_choice}
 use Rattle.cal_policy.proofs.PassLemmas.Branches.{when_true, when_false}

@@ -1,11 +1,5 @@
 -- The cores between the taken ones have no class.
-use Rattle.std.proofs.Common.{◌<◌, ℕ, Option, ◌∙◌, arith}
-use Rattle.cal_policy.specs.declared.history.core_class.CoreClass.{CoreClass}
-use Rattle.cal_policy.specs.Assured.Taking.{held_class}
-use Rattle.cal_policy.specs.History.{holder_of}
-use Rattle.cal_policy.specs.History.CoreClasses.{comes_before}
-use Rattle.cal_policy.specs.Pass.AtHand.{setting_in}
-use Rattle.cal_policy.specs.Setting.{so_far}
+use Rattle.cal_policy.proofs.Common.{◌<◌, ℕ, Option, ◌∙◌, arith, CoreClass, held_class, holder_of, comes_before, setting_in, so_far}
 use Rattle.cal_policy.proofs.ListLemmas.OneNumberMore.{best_more}
 use Rattle.cal_policy.proofs.BoardLemmas.TwoSets.{best_skip}
 use Rattle.cal_policy.proofs.AssuredLemmas.AsKept.{none_held}

@@ -1,10 +1,5 @@
 -- Each class is looked for by itself, the least first.
-use Rattle.std.proofs.Common.{None, cond, ap, sym, arith}
-use Rattle.cal_policy.specs.Setting.{so_far}
-use Rattle.cal_policy.specs.History.CoreClasses.{comes_before}
-use Rattle.cal_policy.specs.Pass.Among.{class_among}
-use Rattle.cal_policy.specs.Pass.Grants.{class_of}
-use Rattle.cal_policy.specs.Pass.AtHand.{setting_in}
+use Rattle.cal_policy.proofs.Common.{None, cond, ap, sym, arith, so_far, comes_before, class_among, class_of, setting_in}
 use Rattle.cal_policy.proofs.BoardLemmas.TwoSets.{best_none}
 use Rattle.cal_policy.proofs.PassLemmas.IdleCores.{chosen_beside, chosen_again, chosen_other}
 use Rattle.cal_policy.proofs.pass.Pass.choose_idle.Goals as goal

@@ -1,10 +1,4 @@
-use Rattle.std.proofs.Common.{refl, ap, sym, ◌∙◌}
-use Rattle.std.specs.Option.{option_or}
-use Rattle.cal_policy.specs.Assured.Taking.{open_class}
-use Rattle.cal_policy.specs.History.CoreClasses.{comes_before}
-use Rattle.cal_policy.specs.Pass.AtHand.{setting_in}
-use Rattle.cal_policy.specs.Pass.Choice.{best_below}
-use Rattle.cal_policy.specs.Setting.{so_far}
+use Rattle.cal_policy.proofs.Common.{refl, ap, sym, ◌∙◌, option_or, open_class, comes_before, setting_in, best_below, so_far}
 use Rattle.cal_policy.proofs.AssuredLemmas.NoneToTake.{no_open_choice, none_unlacked, none_owed}
 use Rattle.cal_policy.proofs.pass.Pass.choose_open.Goals as goal
 

@@ -1,9 +1,5 @@
 -- The cores between the open ones have no class.
-use Rattle.std.proofs.Common.{◌<◌, sym, ◌∙◌, arith}
-use Rattle.cal_policy.specs.Assured.Taking.{owed_class}
-use Rattle.cal_policy.specs.History.CoreClasses.{comes_before}
-use Rattle.cal_policy.specs.Pass.AtHand.{setting_in}
-use Rattle.cal_policy.specs.Setting.{so_far}
+use Rattle.cal_policy.proofs.Common.{◌<◌, sym, ◌∙◌, arith, owed_class, comes_before, setting_in, so_far}
 use Rattle.cal_policy.proofs.ListLemmas.OneNumberMore.{best_more}
 use Rattle.cal_policy.proofs.BoardLemmas.TwoSets.{best_skip}
 use Rattle.cal_policy.proofs.AssuredLemmas.AsKept.{open_as_kept, closed_owed_class}

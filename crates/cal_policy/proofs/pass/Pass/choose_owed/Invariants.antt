@@ -1,13 +1,4 @@
-use Rattle.std.proofs.Common.{◌≡◌, ◌<◌, ◌≤◌, ◌-◌, List}
-use Rattle.std.specs.Option.{IfSome}
-use Rattle.cal_policy.specs.declared.history.action.Action.{Action}
-use Rattle.cal_policy.specs.Assured.AtTurn.{is_lacked_by_others}
-use Rattle.cal_policy.specs.Assured.Taking.{owed_class}
-use Rattle.cal_policy.specs.History.CoreClasses.{comes_before}
-use Rattle.cal_policy.specs.Pass.AtHand.{setting_in}
-use Rattle.cal_policy.specs.Pass.Choice.{best_below}
-use Rattle.cal_policy.specs.Setting.{Begun, so_far}
-use Rattle.cal_policy.specs.State.{Stands}
+use Rattle.cal_policy.proofs.Common.{◌≡◌, ◌<◌, ◌≤◌, ◌-◌, List, IfSome, Action, is_lacked_by_others, owed_class, comes_before, setting_in, best_below, Begun, so_far, Stands}
 use Rattle.cal_policy.proofs.pass.Pass.choose_owed.Given as goal
 
 abbrev pub invariant-loop-core : goal.invariant-loop-core

@@ -1,11 +1,5 @@
-use Rattle.std.proofs.Common.{◌≡◌, ◌+◌, nat_lt, ap, ◌∙◌, arith}
-use Rattle.cal_machine.specs.declared.task.Task.{Task}
-use Rattle.cal_policy.specs.Setting.{so_far}
-use Rattle.cal_machine.specs.TableTasks.{thread_of, limit_of}
-use Rattle.cal_policy.specs.Pass.Choice.{best_below}
-use Rattle.cal_policy.specs.Pass.Grants.{thread_rank}
+use Rattle.cal_policy.proofs.Common.{◌≡◌, ◌+◌, nat_lt, ap, ◌∙◌, arith, Task, so_far, thread_of, limit_of, best_below, thread_rank, setting_in}
 use Rattle.cal_policy.proofs.ListLemmas.OneNumberMore.{best_more}
-use Rattle.cal_policy.specs.Pass.AtHand.{setting_in}
 use Rattle.cal_policy.proofs.pass.Pass.choose_thread.Goals as goal
 
 pub loop-j-preserved : goal.loop-j-preserved

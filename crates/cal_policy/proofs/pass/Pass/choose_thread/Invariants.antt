@@ -1,13 +1,4 @@
-use Rattle.std.proofs.Common.{◌≡◌, ◌<◌, List, nat_lt}
-use Rattle.std.specs.Option.{IfSome}
-use Rattle.cal_policy.specs.declared.history.action.Action.{Action}
-use Rattle.cal_policy.specs.Setting.{Begun}
-use Rattle.cal_policy.specs.Setting.{so_far}
-use Rattle.cal_machine.specs.TableTasks.{thread_of}
-use Rattle.cal_policy.specs.Pass.Choice.{best_below}
-use Rattle.cal_policy.specs.Pass.Grants.{thread_rank}
-use Rattle.cal_policy.specs.State.{Stands}
-use Rattle.cal_policy.specs.Pass.AtHand.{setting_in}
+use Rattle.cal_policy.proofs.Common.{◌≡◌, ◌<◌, List, nat_lt, IfSome, Action, Begun, so_far, thread_of, best_below, thread_rank, Stands, setting_in}
 use Rattle.cal_policy.proofs.pass.Pass.choose_thread.Given as goal
 
 abbrev pub invariant-loop-j : goal.invariant-loop-j

@@ -1,9 +1,6 @@
 -- The class of a held core, by whether it may be revoked.
-use Rattle.std.proofs.Common.{ap, ◌∙◌}
-use Rattle.cal_policy.specs.Setting.{so_far}
-use Rattle.cal_policy.specs.Pass.Grants.{preempt_class}
+use Rattle.cal_policy.proofs.Common.{ap, ◌∙◌, so_far, preempt_class, setting_in}
 use Rattle.cal_policy.proofs.PassLemmas.Branches.{when_true, when_false}
-use Rattle.cal_policy.specs.Pass.AtHand.{setting_in}
 use Rattle.cal_policy.proofs.pass.Pass.class_by_holder.Goals as goal
 
 pub returns-then-may_preempt : goal.returns-then-may_preempt

@@ -1,8 +1,5 @@
-use Rattle.std.proofs.Common.{ap, ◌∙◌}
-use Rattle.cal_policy.specs.Setting.{so_far}
-use Rattle.cal_policy.specs.Pass.Grants.{preempt_class}
+use Rattle.cal_policy.proofs.Common.{ap, ◌∙◌, so_far, preempt_class, setting_in}
 use Rattle.cal_policy.proofs.PassLemmas.Branches.{when_true, when_false}
-use Rattle.cal_policy.specs.Pass.AtHand.{setting_in}
 use Rattle.cal_policy.proofs.pass.Pass.class_if_held.Goals as goal
 
 pub returns-then-may_be_taken : goal.returns-then-may_be_taken

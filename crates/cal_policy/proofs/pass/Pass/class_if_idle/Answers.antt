@@ -1,15 +1,6 @@
 -- The class goes by the sibling's holder and the last grant as they are kept.
-use Rattle.std.proofs.Common.{◌≡◌, ℕ, ◌<◌, List, Option, ap, sym, ◌∙◌, arith}
-use Rattle.std.specs.Option.{option_map}
-use Rattle.cal_machine.specs.Table.{Table}
-use Rattle.cal_machine.specs.Machine.{sibling_of}
-use Rattle.cal_policy.specs.declared.history.action.Action.{Action}
-use Rattle.cal_policy.specs.declared.history.core_class.CoreClass.{CoreClass}
+use Rattle.cal_policy.proofs.Common.{◌≡◌, ℕ, ◌<◌, List, Option, ap, sym, ◌∙◌, arith, option_map, Table, sibling_of, Action, CoreClass, Holder, holder_of, last_thread, last_placement, idle_class, kept_holder, kept_placement}
 use Rattle.cal_policy.specs.declared.board.holders.Placement as placements
-use Rattle.cal_policy.specs.declared.board.holders.Holder.{Holder}
-use Rattle.cal_policy.specs.History.{holder_of, last_thread, last_placement}
-use Rattle.cal_policy.specs.Pass.Grants.{idle_class}
-use Rattle.cal_policy.specs.Board.{kept_holder, kept_placement}
 use Rattle.cal_policy.proofs.HistoryLemmas.OneMore.{last_thread_placement}
 use Rattle.cal_policy.proofs.BoardLemmas.AsKept.{thread_as_kept, idle_as_kept}
 use Rattle.cal_policy.proofs.pass.Pass.class_if_idle.Goals as goal

@@ -1,9 +1,5 @@
 -- How the number of a command is kept makes no difference to a class.
-use Rattle.std.proofs.Common.{◌<◌, ap, ◌∙◌, arith}
-use Rattle.cal_policy.specs.Setting.{so_far}
-use Rattle.cal_policy.specs.History.{holder_of}
-use Rattle.cal_policy.specs.Pass.Grants.{class_by}
-use Rattle.cal_policy.specs.Pass.AtHand.{setting_in}
+use Rattle.cal_policy.proofs.Common.{◌<◌, ap, ◌∙◌, arith, so_far, holder_of, class_by, setting_in}
 use Rattle.cal_policy.proofs.BoardLemmas.AsKept.{class_as_kept}
 use Rattle.cal_policy.proofs.pass.Pass.class_of.Goals as goal
 

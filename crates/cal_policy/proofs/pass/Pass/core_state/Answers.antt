@@ -1,5 +1,4 @@
-use Rattle.std.proofs.Common.{◌<◌, ◌∙◌, arith}
-use Rattle.cal_policy.specs.Pass.AtHand.{setting_in}
+use Rattle.cal_policy.proofs.Common.{◌<◌, ◌∙◌, arith, setting_in}
 use Rattle.cal_policy.proofs.pass.Pass.core_state.Goals as goal
 
 pub returns-clause-state : goal.returns-clause-state

@@ -1,9 +1,5 @@
-use Rattle.std.proofs.Common.{◌≡◌, ◌<◌, Some, None, cond, get_or, ap, sym, ◌∙◌, arith}
-use Rattle.cal_policy.specs.Pass.Choice.{highest_below}
-use Rattle.cal_policy.specs.Setting.{so_far}
-use Rattle.cal_policy.specs.Pass.Bandwidth.{can_lose}
+use Rattle.cal_policy.proofs.Common.{◌≡◌, ◌<◌, Some, None, cond, get_or, ap, sym, ◌∙◌, arith, highest_below, so_far, can_lose, setting_in}
 use Rattle.cal_policy.proofs.PassLemmas.Bandwidth.{highest_more, held_more}
-use Rattle.cal_policy.specs.Pass.AtHand.{setting_in}
 use Rattle.cal_policy.proofs.pass.Pass.cores_to_lose.Goals as goal
 
 pub loop-core-preserved : goal.loop-core-preserved

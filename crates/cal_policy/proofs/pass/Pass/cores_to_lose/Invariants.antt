@@ -1,12 +1,4 @@
-use Rattle.std.proofs.Common.{◌≡◌, ℕ, ◌<◌, List, get_or, None}
-use Rattle.cal_policy.specs.declared.history.action.Action.{Action}
-use Rattle.cal_policy.specs.Setting.{Begun}
-use Rattle.cal_policy.specs.Pass.Choice.{highest_below}
-use Rattle.cal_policy.specs.Setting.{so_far}
-use Rattle.cal_policy.specs.Pass.Bandwidth.{can_lose}
-use Rattle.cal_policy.specs.State.{Stands}
-use Rattle.cal_policy.specs.Board.Losing.{HoldsCore}
-use Rattle.cal_policy.specs.Pass.AtHand.{setting_in}
+use Rattle.cal_policy.proofs.Common.{◌≡◌, ℕ, ◌<◌, List, get_or, None, Action, Begun, so_far, highest_below, can_lose, Stands, HoldsCore, setting_in}
 use Rattle.cal_policy.proofs.pass.Pass.cores_to_lose.Given as goal
 
 abbrev pub invariant-loop-core : goal.invariant-loop-core

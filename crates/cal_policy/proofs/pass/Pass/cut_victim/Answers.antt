@@ -1,8 +1,5 @@
-use Rattle.std.proofs.Common.{◌<◌, ap, ◌∙◌, arith}
-use Rattle.cal_policy.specs.Setting.{so_far}
-use Rattle.cal_policy.specs.Pass.Bandwidth.{cut_of, cut_at}
+use Rattle.cal_policy.proofs.Common.{◌<◌, ap, ◌∙◌, arith, so_far, cut_of, cut_at, setting_in}
 use Rattle.cal_policy.specs.Pass.Coupled.{both_of}
-use Rattle.cal_policy.specs.Pass.AtHand.{setting_in}
 use Rattle.cal_policy.proofs.pass.Pass.cut_victim.Goals as goal
 
 pub returns-in-None-clause-cut : goal.returns-in-None-clause-cut

@@ -1,8 +1,5 @@
 -- Each pair with a banned core gives what is due, and the pairs between give nothing.
-use Rattle.std.proofs.Common.{◌≡◌, ◌*◌, ◌/◌, ◌+◌, ◌≤◌, ◌++◌, ap, ◌∙◌, arith}
-use Rattle.cal_policy.specs.History.Lists.{in_turn, in_pair}
-use Rattle.cal_policy.specs.Pass.AtHand.{setting_in}
-use Rattle.cal_policy.specs.Pass.Bans.{unban_at}
+use Rattle.cal_policy.proofs.Common.{◌≡◌, ◌*◌, ◌/◌, ◌+◌, ◌≤◌, ◌++◌, ap, ◌∙◌, arith, in_turn, in_pair, setting_in, unban_at}
 use Rattle.cal_policy.proofs.PassLemmas.PartSoFar.{Reached_step, Reached_skip}
 use Rattle.cal_policy.proofs.PassLemmas.Pairs.{in_turn_pairs, unban_pair_keeps}
 use Rattle.cal_policy.proofs.PassLemmas.NothingDue.{unban_pair_not_banned}

@@ -1,10 +1,4 @@
-use Rattle.std.proofs.Common.{◌+◌, ◌-◌, ◌*◌, ◌≤◌, length}
-use Rattle.cal_policy.specs.Setting.{Begun}
-use Rattle.cal_policy.specs.History.Lists.{in_pair}
-use Rattle.cal_policy.specs.Setting.{so_far}
-use Rattle.cal_policy.specs.Pass.AtHand.{setting_in}
-use Rattle.cal_policy.specs.Pass.Bans.{NoPairBanned, unban_at}
-use Rattle.cal_policy.specs.State.{IsReady, Stands}
+use Rattle.cal_policy.proofs.Common.{◌+◌, ◌-◌, ◌*◌, ◌≤◌, length, Begun, so_far, in_pair, setting_in, NoPairBanned, unban_at, IsReady, Stands}
 use Rattle.cal_policy.proofs.PassLemmas.PartSoFar.{Reached}
 use Rattle.cal_policy.proofs.pass.Pass.end_bans.Given as goal
 

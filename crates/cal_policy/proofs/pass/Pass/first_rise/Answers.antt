@@ -1,10 +1,6 @@
 -- The first task that gives a rise is the least-numbered capped one.
-use Rattle.std.proofs.Common.{◌≡◌, ◌<◌, cond, length, Some, None, true, ap, sym, ◌∙◌, arith}
-use Rattle.cal_policy.specs.Pass.Choice.{lowest_below}
-use Rattle.cal_policy.specs.Setting.{so_far}
-use Rattle.cal_policy.specs.Pass.Bandwidth.{is_capped, rise_of}
+use Rattle.cal_policy.proofs.Common.{◌≡◌, ◌<◌, cond, length, Some, None, true, ap, sym, ◌∙◌, arith, lowest_below, so_far, is_capped, rise_of, setting_in}
 use Rattle.cal_policy.proofs.PassLemmas.Bandwidth.{lowest_none, lowest_found, rise_made, rise_missing}
-use Rattle.cal_policy.specs.Pass.AtHand.{setting_in}
 use Rattle.cal_policy.proofs.pass.Pass.first_rise.Goals as goal
 
 pub loop-t-preserved : goal.loop-t-preserved

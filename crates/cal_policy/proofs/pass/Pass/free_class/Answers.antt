@@ -1,7 +1,5 @@
 -- The core is not banned.
-use Rattle.std.proofs.Common.{◌≡◌, ◌<◌, false, Some, ap, sym, ◌∙◌, arith}
-use Rattle.std.specs.Option.{is_some}
-use Rattle.cal_policy.specs.History.{is_banned}
+use Rattle.cal_policy.proofs.Common.{◌≡◌, ◌<◌, false, Some, ap, sym, ◌∙◌, arith, is_some, is_banned}
 use Rattle.cal_policy.proofs.pass.Pass.free_class.Goals as goal
 
 pub returns-in-None : goal.returns-in-None

@@ -1,8 +1,4 @@
-use Rattle.std.proofs.Common.{sym, ◌∙◌}
-use Rattle.cal_policy.specs.History.{holder_of}
-use Rattle.cal_policy.specs.Setting.{so_far, kept_now}
-use Rattle.cal_policy.specs.Pass.AtHand.{setting_in}
-use Rattle.cal_policy.specs.Pass.Frees.{shows_left}
+use Rattle.cal_policy.proofs.Common.{sym, ◌∙◌, holder_of, so_far, kept_now, setting_in, shows_left}
 use Rattle.cal_policy.proofs.PassLemmas.Branches.{when_true, when_false}
 use Rattle.cal_policy.proofs.pass.Pass.free_due.Goals as goal
 

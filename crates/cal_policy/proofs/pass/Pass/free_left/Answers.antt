@@ -1,7 +1,5 @@
 -- Each core that may have been left gives what is due, and the cores between give nothing.
-use Rattle.std.proofs.Common.{◌<◌, arith}
-use Rattle.cal_policy.specs.Pass.AtHand.{setting_in}
-use Rattle.cal_policy.specs.Pass.Frees.{free_at}
+use Rattle.cal_policy.proofs.Common.{◌<◌, arith, setting_in, free_at}
 use Rattle.cal_policy.proofs.PassLemmas.PartSoFar.{Reached_step, Reached_skip}
 use Rattle.cal_policy.proofs.PassLemmas.NothingDue.{free_not_unshown}
 use Rattle.cal_policy.proofs.pass.Pass.free_left.Goals as goal

@@ -1,8 +1,4 @@
-use Rattle.std.proofs.Common.{◌+◌, ◌-◌, ◌≤◌, length}
-use Rattle.cal_policy.specs.Setting.{Begun}
-use Rattle.cal_policy.specs.Pass.AtHand.{setting_in}
-use Rattle.cal_policy.specs.Pass.Frees.{free_at}
-use Rattle.cal_policy.specs.State.{IsReady, Stands}
+use Rattle.cal_policy.proofs.Common.{◌+◌, ◌-◌, ◌≤◌, length, Begun, setting_in, free_at, IsReady, Stands}
 use Rattle.cal_policy.proofs.PassLemmas.PartSoFar.{Reached}
 use Rattle.cal_policy.proofs.pass.Pass.free_left.Given as goal
 

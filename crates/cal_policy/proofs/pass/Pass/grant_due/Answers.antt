@@ -1,10 +1,7 @@
 -- A task that is not congested, or may not book one more core, gets nothing; another gets what is
 -- chosen for it.
-use Rattle.std.proofs.Common.{◌≡◌, None, ap, sym, ◌∙◌}
-use Rattle.cal_policy.specs.Setting.{so_far}
-use Rattle.cal_policy.specs.Pass.Grants.{grant_of, thread_choice, choice_of, is_congested, may_book}
+use Rattle.cal_policy.proofs.Common.{◌≡◌, None, ap, sym, ◌∙◌, so_far, grant_of, thread_choice, choice_of, is_congested, may_book, setting_in}
 use Rattle.cal_policy.proofs.PassLemmas.Branches.{when_both, when_not_first, when_not_second}
-use Rattle.cal_policy.specs.Pass.AtHand.{setting_in}
 use Rattle.cal_policy.proofs.pass.Pass.grant_due.Goals as goal
 
 pub returns-then-not-is_congested-clause-due : goal.returns-then-not-is_congested-clause-due

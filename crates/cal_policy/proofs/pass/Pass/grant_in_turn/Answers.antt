@@ -1,10 +1,5 @@
 -- Each place gives what is due to its task.
-use Rattle.std.proofs.Common.{◌++◌, length, refl, sym, ap, ◌∙◌, arith}
-use Rattle.std.proofs.lemmas.List.{append-nil, length-set}
-use Rattle.cal_policy.specs.declared.pass.assured.turns.TheConstants.{NO_TURN}
-use Rattle.cal_policy.specs.Assured.Order.{task_in_place}
-use Rattle.cal_policy.specs.Pass.AtHand.{setting_in}
-use Rattle.cal_policy.specs.Setting.{so_far}
+use Rattle.cal_policy.proofs.Common.{◌++◌, length, refl, sym, ap, ◌∙◌, arith, append-nil, length-set, NO_TURN, task_in_place, setting_in, so_far}
 use Rattle.cal_policy.proofs.AssuredLemmas.NextTurn.{by_place, come_first, come_last, come_idle, come_next}
 use Rattle.cal_policy.proofs.AssuredLemmas.NoneToTake.{none_in_place}
 use Rattle.cal_policy.proofs.AssuredLemmas.Waiting.{nothing_in_place}

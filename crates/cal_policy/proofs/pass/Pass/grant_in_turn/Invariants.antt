@@ -1,8 +1,4 @@
-use Rattle.std.proofs.Common.{◌≡◌, ◌+◌, ◌≤◌, length}
-use Rattle.cal_policy.specs.declared.pass.assured.turns.TheConstants.{NO_TURN}
-use Rattle.cal_policy.specs.Pass.AtHand.{setting_in}
-use Rattle.cal_policy.specs.Setting.{Begun}
-use Rattle.cal_policy.specs.State.{IsReady, Stands}
+use Rattle.cal_policy.proofs.Common.{◌≡◌, ◌+◌, ◌≤◌, length, NO_TURN, setting_in, Begun, IsReady, Stands}
 use Rattle.cal_policy.proofs.AssuredLemmas.NextTurn.{HasCome}
 use Rattle.cal_policy.proofs.pass.Pass.grant_in_turn.Given as goal
 

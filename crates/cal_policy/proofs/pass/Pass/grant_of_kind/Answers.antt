@@ -1,12 +1,5 @@
-use Rattle.std.proofs.Common.{◌≡◌, ℕ, Bool, true, false, List, [], refl, ap, sym, not, ◌∙◌, ◌++◌}
-use Rattle.std.proofs.lemmas.List.{append-nil}
-use Rattle.cal_machine.specs.declared.task.Kind.{Kind}
+use Rattle.cal_policy.proofs.Common.{◌≡◌, ℕ, Bool, true, false, List, [], refl, ap, sym, not, ◌∙◌, ◌++◌, append-nil, Kind, is_latency_critical, Action, Setting, setting_in, grant_at, grant_of_kind_at, is_of_kind}
 use Rattle.cal_machine.specs.declared.task.Kind.TheVariants as kinds
-use Rattle.cal_machine.specs.TableTasks.{is_latency_critical}
-use Rattle.cal_policy.specs.declared.history.action.Action.{Action}
-use Rattle.cal_policy.specs.Setting.{Setting}
-use Rattle.cal_policy.specs.Pass.AtHand.{setting_in}
-use Rattle.cal_policy.specs.Pass.Grants.{grant_at, grant_of_kind_at, is_of_kind}
 use Rattle.cal_policy.proofs.PassLemmas.Branches.{when_true, when_false}
 use Rattle.cal_policy.proofs.pass.Pass.grant_of_kind.Goals as goal
 

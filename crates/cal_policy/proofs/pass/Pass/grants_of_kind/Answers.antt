@@ -1,9 +1,5 @@
 -- Each task of the kind with a thread that waits gives what is due, and the tasks between give nothing.
-use Rattle.std.proofs.Common.{◌≡◌, ℕ, ◌+◌, ◌≤◌, Bool, refl, length, arith}
-use Rattle.cal_machine.proofs.ThreadNumbers.{first_next, next_le}
-use Rattle.cal_machine.specs.Tasks.{first_thread, task_at}
-use Rattle.cal_policy.specs.Pass.AtHand.{setting_in}
-use Rattle.cal_policy.specs.Pass.Grants.{grant_of_kind_at, is_of_kind}
+use Rattle.cal_policy.proofs.Common.{◌≡◌, ℕ, ◌+◌, ◌≤◌, Bool, refl, length, arith, first_next, next_le, first_thread, task_at, setting_in, grant_of_kind_at, is_of_kind}
 use Rattle.cal_policy.proofs.ListLemmas.OneNumberMore.{count_more, count_within, count_grows}
 use Rattle.cal_policy.proofs.PassLemmas.NoneOpen.{none_given}
 use Rattle.cal_policy.proofs.PassLemmas.NothingDue.{none_waits, task_not_before, threads_between}

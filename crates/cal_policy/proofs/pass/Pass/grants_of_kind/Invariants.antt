@@ -1,10 +1,4 @@
-use Rattle.std.proofs.Common.{◌≡◌, ◌+◌, ◌-◌, ◌≤◌, length}
-use Rattle.cal_machine.specs.Tasks.{first_thread}
-use Rattle.cal_policy.specs.Setting.{Begun}
-use Rattle.cal_policy.specs.Pass.AtHand.{setting_in}
-use Rattle.cal_policy.specs.Pass.Choice.{count_below}
-use Rattle.cal_policy.specs.Pass.Grants.{grant_of_kind_at, is_of_kind}
-use Rattle.cal_policy.specs.State.{IsReady, Stands}
+use Rattle.cal_policy.proofs.Common.{◌≡◌, ◌+◌, ◌-◌, ◌≤◌, length, first_thread, Begun, setting_in, count_below, grant_of_kind_at, is_of_kind, IsReady, Stands}
 use Rattle.cal_policy.proofs.PassLemmas.PartSoFar.{Reached}
 use Rattle.cal_policy.proofs.pass.Pass.grants_of_kind.Given as goal
 

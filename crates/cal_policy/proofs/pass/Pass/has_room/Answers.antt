@@ -1,6 +1,4 @@
-use Rattle.std.proofs.Common.{◌≡◌, ◌+◌, not, ap, sym, ◌∙◌, arith}
-use Rattle.cal_machine.specs.TableTasks.{threads_of_table}
-use Rattle.cal_machine.specs.ThreadSet.{has_thread}
+use Rattle.cal_policy.proofs.Common.{◌≡◌, ◌+◌, not, ap, sym, ◌∙◌, arith, threads_of_table, has_thread}
 use Rattle.cal_policy.proofs.PassLemmas.Rooms.{room_at}
 use Rattle.cal_policy.proofs.pass.Pass.has_room.Goals as goal
 

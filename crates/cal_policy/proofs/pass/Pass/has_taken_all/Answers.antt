@@ -1,8 +1,4 @@
-use Rattle.std.proofs.Common.{ap, arith}
-use Rattle.cal_signal.specs.declared.record.Record.{Record}
-use Rattle.cal_policy.specs.History.{sent_to}
-use Rattle.cal_policy.specs.Pass.AtHand.{setting_in}
-use Rattle.cal_policy.specs.Setting.{so_far}
+use Rattle.cal_policy.proofs.Common.{ap, arith, Record, sent_to, setting_in, so_far}
 use Rattle.cal_policy.proofs.pass.Pass.has_taken_all.Goals as goal
 
 pub returns : goal.returns

@@ -1,12 +1,5 @@
 -- No thread before this one may be granted a core, so the first that may be is one to choose from.
-use Rattle.std.proofs.Common.{◌≡◌, ◌+◌, ◌<◌, ℕ, Bool, Option, None, nat_lt, refl, ap, sym, ◌∙◌, arith}
-use Rattle.std.specs.Option.{is_some}
-use Rattle.cal_machine.specs.TableTasks.{thread_of, limit_of}
-use Rattle.cal_machine.specs.declared.task.Task.{Task}
-use Rattle.cal_policy.specs.Pass.AtHand.{setting_in}
-use Rattle.cal_policy.specs.Pass.Choice.{best_below}
-use Rattle.cal_policy.specs.Pass.Grants.{thread_rank}
-use Rattle.cal_policy.specs.Setting.{so_far}
+use Rattle.cal_policy.proofs.Common.{◌≡◌, ◌+◌, ◌<◌, ℕ, Bool, None, nat_lt, refl, ap, sym, ◌∙◌, arith, is_some, thread_of, limit_of, Task, setting_in, best_below, thread_rank, so_far}
 use Rattle.cal_policy.proofs.ListLemmas.OneNumberMore.{best_more, some_is_best}
 use Rattle.cal_policy.proofs.pass.Pass.has_thread.Goals as goal
 

@@ -1,11 +1,4 @@
-use Rattle.std.proofs.Common.{◌≡◌, ℕ, List, None, nat_lt}
-use Rattle.cal_machine.specs.TableTasks.{thread_of}
-use Rattle.cal_policy.specs.declared.history.action.Action.{Action}
-use Rattle.cal_policy.specs.Pass.AtHand.{setting_in}
-use Rattle.cal_policy.specs.Pass.Choice.{best_below}
-use Rattle.cal_policy.specs.Pass.Grants.{thread_rank}
-use Rattle.cal_policy.specs.Setting.{Begun, so_far}
-use Rattle.cal_policy.specs.State.{Stands}
+use Rattle.cal_policy.proofs.Common.{◌≡◌, ℕ, List, None, nat_lt, thread_of, Action, setting_in, best_below, thread_rank, Begun, so_far, Stands}
 use Rattle.cal_policy.proofs.pass.Pass.has_thread.Given as goal
 
 abbrev pub invariant-loop-j : goal.invariant-loop-j

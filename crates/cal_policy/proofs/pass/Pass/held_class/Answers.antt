@@ -1,8 +1,4 @@
-use Rattle.std.proofs.Common.{◌<◌, ap, ◌∙◌, arith}
-use Rattle.cal_policy.specs.Assured.Taking.{held_class}
-use Rattle.cal_policy.specs.History.{holder_of}
-use Rattle.cal_policy.specs.Pass.AtHand.{setting_in}
-use Rattle.cal_policy.specs.Setting.{so_far}
+use Rattle.cal_policy.proofs.Common.{◌<◌, ap, ◌∙◌, arith, held_class, holder_of, setting_in, so_far}
 use Rattle.cal_policy.proofs.AssuredLemmas.AsKept.{held_class_as_kept}
 use Rattle.cal_policy.proofs.pass.Pass.held_class.Goals as goal
 

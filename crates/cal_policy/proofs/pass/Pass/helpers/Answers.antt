@@ -1,9 +1,4 @@
-use Rattle.std.proofs.Common.{◌≡◌, ◌+◌, ap, ◌∙◌, arith}
-use Rattle.cal_machine.specs.TableTasks.{thread_of, limit_of}
-use Rattle.cal_policy.specs.Assured.InFlight.{helps}
-use Rattle.cal_policy.specs.Pass.AtHand.{setting_in}
-use Rattle.cal_policy.specs.Pass.Choice.{count_below}
-use Rattle.cal_policy.specs.Setting.{so_far}
+use Rattle.cal_policy.proofs.Common.{◌≡◌, ◌+◌, ap, ◌∙◌, arith, thread_of, limit_of, helps, setting_in, count_below, so_far}
 use Rattle.cal_policy.proofs.AssuredLemmas.Counting.{counted_more}
 use Rattle.cal_policy.proofs.pass.Pass.helpers.Goals as goal
 

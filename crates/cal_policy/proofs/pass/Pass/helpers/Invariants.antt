@@ -1,11 +1,4 @@
-use Rattle.std.proofs.Common.{◌≡◌, ◌≤◌, List}
-use Rattle.cal_machine.specs.TableTasks.{thread_of}
-use Rattle.cal_policy.specs.declared.history.action.Action.{Action}
-use Rattle.cal_policy.specs.Assured.InFlight.{helps}
-use Rattle.cal_policy.specs.Pass.AtHand.{setting_in}
-use Rattle.cal_policy.specs.Pass.Choice.{count_below}
-use Rattle.cal_policy.specs.Setting.{Begun, so_far}
-use Rattle.cal_policy.specs.State.{Stands}
+use Rattle.cal_policy.proofs.Common.{◌≡◌, ◌≤◌, List, thread_of, Action, helps, setting_in, count_below, Begun, so_far, Stands}
 use Rattle.cal_policy.proofs.pass.Pass.helpers.Given as goal
 
 abbrev pub invariant-loop-j : goal.invariant-loop-j

@@ -1,6 +1,4 @@
-use Rattle.std.proofs.Common.{◌&&◌, not, ap, sym, ◌∙◌}
-use Rattle.cal_policy.specs.Assured.InFlight.{is_late}
-use Rattle.cal_policy.specs.Pass.AtHand.{setting_in}
+use Rattle.cal_policy.proofs.Common.{◌&&◌, not, ap, sym, ◌∙◌, is_late, setting_in}
 use Rattle.cal_policy.proofs.pass.Pass.helps.Goals as goal
 
 pub returns-then-is_in_flight : goal.returns-then-is_in_flight

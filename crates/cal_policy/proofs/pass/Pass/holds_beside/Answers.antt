@@ -1,12 +1,5 @@
 -- The sibling's holder is asked as it is kept.
-use Rattle.std.proofs.Common.{◌≡◌, ℕ, ◌<◌, Bool, List, ap, ◌∙◌, arith}
-use Rattle.cal_machine.specs.Table.{Table}
-use Rattle.cal_machine.specs.Machine.{sibling_of}
-use Rattle.cal_policy.specs.declared.history.action.Action.{Action}
-use Rattle.cal_policy.specs.declared.board.holders.Holder.{Holder}
-use Rattle.cal_policy.specs.History.{holder_of}
-use Rattle.cal_policy.specs.Board.Counts.{is_held_for}
-use Rattle.cal_policy.specs.Board.{kept_holder}
+use Rattle.cal_policy.proofs.Common.{◌≡◌, ℕ, ◌<◌, Bool, List, ap, ◌∙◌, arith, Table, sibling_of, Action, Holder, holder_of, is_held_for, kept_holder}
 use Rattle.cal_policy.proofs.BoardLemmas.AsKept.{held_as_kept}
 use Rattle.cal_policy.proofs.pass.Pass.holds_beside.Goals as goal
 

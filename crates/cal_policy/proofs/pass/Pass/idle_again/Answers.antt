@@ -1,15 +1,5 @@
 -- The cores between those that the task had last are none of them.
-use Rattle.std.proofs.Common.{◌≡◌, ℕ, ◌<◌, ◌≤◌, List, None, false, sym, ◌∙◌, arith}
-use Rattle.std.proofs.lemmas.Bool.{and_right}
-use Rattle.cal_machine.specs.CoreSet.{has}
-use Rattle.cal_policy.specs.declared.history.action.Action.{Action}
-use Rattle.cal_policy.specs.declared.board.Board.{Board}
-use Rattle.cal_policy.specs.Board.RecentCores.{had_by}
-use Rattle.cal_policy.specs.Pass.Choice.{lowest_below}
-use Rattle.cal_policy.specs.Pass.Among.{was_own_last}
-use Rattle.cal_policy.specs.State.{Agrees, IsOfTable}
-use Rattle.cal_machine.specs.Table.{Table}
-use Rattle.cal_machine.specs.declared.task_table.TheConstants.{MOST_TASKS}
+use Rattle.cal_policy.proofs.Common.{◌≡◌, ℕ, ◌<◌, ◌≤◌, List, None, false, sym, ◌∙◌, arith, and_right, has, Action, Board, had_by, lowest_below, was_own_last, Agrees, IsOfTable, Table, MOST_TASKS}
 use Rattle.cal_policy.proofs.BoardLemmas.RecentCores.{recent_says}
 use Rattle.cal_policy.proofs.ListLemmas.Counted.{lowest_past}
 use Rattle.cal_policy.proofs.PassLemmas.Bandwidth.{lowest_none, lowest_found}

@@ -1,8 +1,4 @@
-use Rattle.std.proofs.Common.{◌≡◌, ◌≤◌, ◌-◌, List, None}
-use Rattle.cal_policy.specs.declared.history.action.Action.{Action}
-use Rattle.cal_policy.specs.Pass.Choice.{lowest_below}
-use Rattle.cal_policy.specs.Pass.Among.{was_own_last}
-use Rattle.cal_policy.specs.State.{Agrees}
+use Rattle.cal_policy.proofs.Common.{◌≡◌, ◌≤◌, ◌-◌, List, None, Action, lowest_below, was_own_last, Agrees}
 use Rattle.cal_policy.proofs.pass.Pass.idle_again.Given as goal
 
 abbrev pub invariant-loop-core : goal.invariant-loop-core

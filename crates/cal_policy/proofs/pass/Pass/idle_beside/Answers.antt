@@ -1,17 +1,6 @@
 -- The idle cores between those beside a held one are beside none of the task's.
-use Rattle.std.proofs.Common.{◌≡◌, ℕ, ◌<◌, ◌≤◌, Bool, List, None, true, false, refl, ap, sym, ◌∙◌, arith}
-use Rattle.cal_machine.specs.CoreSet.{has}
-use Rattle.cal_machine.specs.Machine.{sibling_of}
-use Rattle.cal_machine.proofs.Siblings.{pairs}
-use Rattle.cal_policy.specs.declared.history.action.Action.{Action}
-use Rattle.cal_policy.specs.declared.board.Board.{Board}
+use Rattle.cal_policy.proofs.Common.{◌≡◌, ℕ, ◌<◌, ◌≤◌, Bool, List, None, true, false, refl, ap, sym, ◌∙◌, arith, has, sibling_of, pairs, Action, Board, holder_of, holder_in, is_held_for, lowest_below, is_beside_own, IsOfTable, Agrees}
 use Rattle.cal_policy.specs.declared.pass.Pass.{Pass}
-use Rattle.cal_policy.specs.History.{holder_of}
-use Rattle.cal_policy.specs.Board.{holder_in}
-use Rattle.cal_policy.specs.Board.Counts.{is_held_for}
-use Rattle.cal_policy.specs.Pass.Choice.{lowest_below}
-use Rattle.cal_policy.specs.Pass.Among.{is_beside_own}
-use Rattle.cal_policy.specs.State.{IsOfTable, Agrees}
 use Rattle.cal_policy.proofs.BoardLemmas.AsKept.{held_as_kept}
 use Rattle.cal_policy.proofs.ListLemmas.Counted.{lowest_past}
 use Rattle.cal_policy.proofs.PassLemmas.Bandwidth.{lowest_none, lowest_found}

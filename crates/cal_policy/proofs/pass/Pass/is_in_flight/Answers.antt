@@ -1,18 +1,5 @@
 -- A core that the thread holds by an untaken Run is counted, and is one of those that its task had last.
-use Rattle.std.proofs.Common.{◌≡◌, ℕ, ◌<◌, ◌≤◌, Bool, false, List, refl, sym, subst, ◌∙◌, arith}
-use Rattle.cal_machine.specs.Table.{Table}
-use Rattle.cal_machine.specs.TableTasks.{owner_of}
-use Rattle.cal_machine.specs.declared.task_table.TheConstants.{MOST_TASKS}
-use Rattle.cal_signal.specs.declared.record.Record.{Record}
-use Rattle.cal_policy.specs.declared.board.Board.{Board}
-use Rattle.cal_policy.specs.declared.history.action.Action.{Action}
-use Rattle.cal_policy.specs.Assured.InFlight.{is_untaken}
-use Rattle.cal_policy.specs.History.{holder_of}
-use Rattle.cal_policy.specs.Pass.AtHand.{setting_in}
-use Rattle.cal_policy.specs.Board.RecentCores.{had_by}
-use Rattle.cal_policy.specs.Pass.Choice.{count_below}
-use Rattle.cal_policy.specs.Setting.{so_far, kept_now}
-use Rattle.cal_policy.specs.State.{Agrees, IsReady}
+use Rattle.cal_policy.proofs.Common.{◌≡◌, ℕ, ◌<◌, ◌≤◌, Bool, false, List, refl, sym, subst, ◌∙◌, arith, Table, owner_of, MOST_TASKS, Record, Board, Action, is_untaken, holder_of, setting_in, had_by, count_below, so_far, kept_now, Agrees, IsReady}
 use Rattle.cal_policy.proofs.AssuredLemmas.AsKept.{none_untaken}
 use Rattle.cal_policy.proofs.AssuredLemmas.Sent.{all_taken}
 use Rattle.cal_policy.proofs.AssuredLemmas.Counting.{count_skip, some_passes, none_passes}

@@ -1,11 +1,4 @@
-use Rattle.std.proofs.Common.{◌≡◌, ◌≤◌, ◌-◌, List}
-use Rattle.cal_policy.specs.declared.history.action.Action.{Action}
-use Rattle.cal_policy.specs.Assured.InFlight.{is_untaken}
-use Rattle.cal_policy.specs.History.{holder_of}
-use Rattle.cal_policy.specs.Pass.AtHand.{setting_in}
-use Rattle.cal_policy.specs.Pass.Choice.{count_below}
-use Rattle.cal_policy.specs.Setting.{Begun, so_far, kept_now}
-use Rattle.cal_policy.specs.State.{Stands}
+use Rattle.cal_policy.proofs.Common.{◌≡◌, ◌≤◌, ◌-◌, List, Action, is_untaken, holder_of, setting_in, count_below, Begun, so_far, kept_now, Stands}
 use Rattle.cal_policy.proofs.pass.Pass.is_in_flight.Given as goal
 
 abbrev pub invariant-loop-core : goal.invariant-loop-core

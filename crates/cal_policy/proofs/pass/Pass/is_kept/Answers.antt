@@ -1,9 +1,4 @@
-use Rattle.std.proofs.Common.{◌≡◌, ◌<◌, Some, None, ap, sym, ◌∙◌, arith}
-use Rattle.cal_policy.specs.Assured.Owed.{owed_to}
-use Rattle.cal_policy.specs.Assured.Short.{is_short, are_lacked}
-use Rattle.cal_policy.specs.Assured.Taking.{is_kept_for, is_kept_for_short}
-use Rattle.cal_policy.specs.Pass.AtHand.{setting_in}
-use Rattle.cal_policy.specs.Setting.{so_far}
+use Rattle.cal_policy.proofs.Common.{◌≡◌, ◌<◌, Some, None, ap, sym, ◌∙◌, arith, owed_to, is_short, are_lacked, is_kept_for, is_kept_for_short, setting_in, so_far}
 use Rattle.cal_policy.proofs.AssuredLemmas.Keeping.{kept_lacked, kept_none, kept_other}
 use Rattle.cal_policy.proofs.PassLemmas.Branches.{when_true}
 use Rattle.cal_policy.proofs.pass.Pass.is_kept.Goals as goal

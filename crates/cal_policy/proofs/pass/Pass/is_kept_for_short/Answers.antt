@@ -1,6 +1,4 @@
-use Rattle.std.proofs.Common.{not, eqb, refl}
-use Rattle.cal_policy.specs.Pass.AtHand.{setting_in}
-use Rattle.cal_policy.specs.Setting.{so_far}
+use Rattle.cal_policy.proofs.Common.{not, eqb, refl, setting_in, so_far}
 use Rattle.cal_policy.proofs.AssuredLemmas.Counting.{waits_short_past}
 use Rattle.cal_policy.proofs.AssuredLemmas.Keeping.{middle_fails}
 use Rattle.cal_policy.proofs.pass.Pass.is_kept_for_short.Goals as goal

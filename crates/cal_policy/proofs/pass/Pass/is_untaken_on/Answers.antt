@@ -1,12 +1,5 @@
 -- The Run is taken by its number as it is kept where it is by its number.
-use Rattle.std.proofs.Common.{◌≡◌, ◌<◌, ◌&&◌, true, eqb, nat_lt, ap, sym, ◌∙◌, arith}
-use Rattle.std.proofs.lemmas.Bool.{eq-eqb}
-use Rattle.cal_signal.specs.declared.record.Record.{Record}
-use Rattle.cal_policy.specs.declared.board.holders.Holder.TheVariants.{Held}
-use Rattle.cal_policy.specs.Board.{kept_holder}
-use Rattle.cal_policy.specs.History.{holder_of}
-use Rattle.cal_policy.specs.Pass.AtHand.{setting_in}
-use Rattle.cal_policy.specs.Setting.{so_far, kept_now}
+use Rattle.cal_policy.proofs.Common.{◌≡◌, ◌<◌, ◌&&◌, true, eqb, nat_lt, ap, sym, ◌∙◌, arith, eq-eqb, Record, Held, kept_holder, holder_of, setting_in, so_far, kept_now}
 use Rattle.cal_policy.proofs.AssuredLemmas.AsKept.{untaken_held}
 use Rattle.cal_policy.proofs.pass.Pass.is_untaken_on.Goals as goal
 

@@ -1,5 +1,4 @@
-use Rattle.std.proofs.Common.{◌++◌, ap, ◌∙◌}
-use Rattle.cal_policy.specs.Pass.AtHand.{setting_in}
+use Rattle.cal_policy.proofs.Common.{◌++◌, ap, ◌∙◌, setting_in}
 use Rattle.cal_policy.proofs.pass.Pass.keep_bandwidth.Goals as goal
 
 pub returns-clause-acts : goal.returns-clause-acts

@@ -1,8 +1,4 @@
-use Rattle.std.proofs.Common.{◌≡◌, ◌<◌, None, sym, ◌∙◌, arith}
-use Rattle.cal_policy.specs.Assured.Owed.{owed_to}
-use Rattle.cal_policy.specs.Assured.Short.{is_short, are_lacked}
-use Rattle.cal_policy.specs.Pass.AtHand.{setting_in}
-use Rattle.cal_policy.specs.Setting.{so_far}
+use Rattle.cal_policy.proofs.Common.{◌≡◌, ◌<◌, None, sym, ◌∙◌, arith, owed_to, is_short, are_lacked, setting_in, so_far}
 use Rattle.cal_policy.proofs.AssuredLemmas.Keeping.{kept_lacked, kept_none}
 use Rattle.cal_policy.proofs.pass.Pass.keeping_of.Goals as goal
 

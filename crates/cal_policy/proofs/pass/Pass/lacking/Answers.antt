@@ -1,6 +1,4 @@
-use Rattle.std.proofs.Common.{◌≡◌, ◌∙◌, ap, length, arith}
-use Rattle.cal_policy.specs.Assured.Short.{lacks}
-use Rattle.cal_policy.specs.Pass.Choice.{sum_below}
+use Rattle.cal_policy.proofs.Common.{◌≡◌, ◌∙◌, ap, length, arith, lacks, sum_below}
 use Rattle.cal_policy.proofs.PassLemmas.Bandwidth.{sum_more}
 use Rattle.cal_policy.proofs.pass.Pass.lacking.Goals as goal
 

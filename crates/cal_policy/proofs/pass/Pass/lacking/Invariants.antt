@@ -1,8 +1,4 @@
-use Rattle.std.proofs.Common.{◌≡◌, ◌*◌, ◌≤◌, List}
-use Rattle.cal_policy.specs.declared.history.action.Action.{Action}
-use Rattle.cal_policy.specs.Assured.Short.{lacks}
-use Rattle.cal_policy.specs.Pass.Choice.{sum_below}
-use Rattle.cal_policy.specs.State.{Agrees}
+use Rattle.cal_policy.proofs.Common.{◌≡◌, ◌*◌, ◌≤◌, List, Action, lacks, sum_below, Agrees}
 use Rattle.cal_policy.proofs.pass.Pass.lacking.Given as goal
 
 abbrev pub invariant-loop-task : goal.invariant-loop-task

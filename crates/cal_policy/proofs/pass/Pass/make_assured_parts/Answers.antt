@@ -1,9 +1,5 @@
 -- Each part begins where the one before ended.
-use Rattle.std.proofs.Common.{◌≡◌, List, length, ap, sym, subst, arith}
-use Rattle.cal_policy.specs.declared.history.action.Action.{Action}
-use Rattle.cal_policy.specs.Setting.{Setting}
-use Rattle.cal_policy.specs.Pass.AtHand.{setting_in}
-use Rattle.cal_policy.specs.State.{Stands}
+use Rattle.cal_policy.proofs.Common.{◌≡◌, List, length, ap, sym, subst, arith, Action, Setting, setting_in, Stands}
 use Rattle.cal_policy.proofs.PassLemmas.FromParts.{freed_apart}
 use Rattle.cal_policy.proofs.AssuredLemmas.FromParts.{parts_pass}
 use Rattle.cal_policy.proofs.pass.Pass.make_assured_parts.Goals as goal

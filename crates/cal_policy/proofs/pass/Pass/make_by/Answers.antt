@@ -1,5 +1,4 @@
-use Rattle.std.proofs.Common.{sym, ◌∙◌}
-use Rattle.cal_policy.specs.Pass.AtHand.{setting_in}
+use Rattle.cal_policy.proofs.Common.{sym, ◌∙◌, setting_in}
 use Rattle.cal_policy.proofs.PolicyLemmas.{caladan_by, assured_by}
 use Rattle.cal_policy.proofs.pass.Pass.make_by.Goals as goal
 

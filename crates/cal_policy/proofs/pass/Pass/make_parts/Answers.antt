@@ -1,11 +1,6 @@
 -- Each part begins where the one before ended.
-use Rattle.std.proofs.Common.{◌≡◌, ◌+◌, ◌≤◌, List, length, refl, ap, sym, subst, arith}
+use Rattle.cal_policy.proofs.Common.{◌≡◌, ◌+◌, ◌≤◌, List, length, refl, ap, sym, subst, arith, Action, Setting, setting_in, is_of_kind, tasks_of_kind, Stands}
 use Rattle.cal_machine.specs.declared.task.Kind.TheVariants as kinds
-use Rattle.cal_policy.specs.declared.history.action.Action.{Action}
-use Rattle.cal_policy.specs.Setting.{Setting}
-use Rattle.cal_policy.specs.Pass.AtHand.{setting_in}
-use Rattle.cal_policy.specs.Pass.Grants.{is_of_kind, tasks_of_kind}
-use Rattle.cal_policy.specs.State.{Stands}
 use Rattle.cal_policy.proofs.ListLemmas.OneNumberMore.{count_at_most, count_both}
 use Rattle.cal_policy.proofs.PassLemmas.FromParts.{parts_pass, freed_apart}
 use Rattle.cal_policy.proofs.PassLemmas.NoneGranted.{nothing_granted}

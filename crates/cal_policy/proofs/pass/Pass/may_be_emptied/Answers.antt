@@ -1,10 +1,5 @@
 -- Held by a thread whose ring has room, and whose task is over.
-use Rattle.std.proofs.Common.{◌≡◌, ◌<◌, true, false, sym, refl, ◌∙◌, ap, arith}
-use Rattle.cal_policy.specs.Setting.{so_far, has_room}
-use Rattle.cal_policy.specs.History.{holder_of}
-use Rattle.cal_policy.specs.Pass.AtHand.{setting_in}
-use Rattle.cal_policy.specs.Pass.Bans.{may_be_emptied}
-use Rattle.cal_policy.specs.declared.board.holders.Holder.TheVariants.{Held}
+use Rattle.cal_policy.proofs.Common.{◌≡◌, ◌<◌, true, false, sym, refl, ◌∙◌, ap, arith, so_far, has_room, holder_of, setting_in, may_be_emptied, Held}
 use Rattle.cal_policy.proofs.BoardLemmas.AsKept.{emptied_as_kept}
 use Rattle.cal_policy.proofs.pass.Pass.may_be_emptied.Goals as goal
 

@@ -1,7 +1,4 @@
-use Rattle.std.proofs.Common.{◌≡◌, ◌<◌, ◌&&◌, not, true, false, ap, sym, ◌∙◌, arith}
-use Rattle.cal_policy.specs.Pass.AtHand.{setting_in}
-use Rattle.cal_policy.specs.Pass.Grants.{is_granted_in}
-use Rattle.cal_policy.specs.Setting.{has_room}
+use Rattle.cal_policy.proofs.Common.{◌≡◌, ◌<◌, ◌&&◌, not, true, false, ap, sym, ◌∙◌, arith, setting_in, is_granted_in, has_room}
 use Rattle.cal_policy.proofs.pass.Pass.may_be_taken.Goals as goal
 
 pub returns-then-has_room : goal.returns-then-has_room

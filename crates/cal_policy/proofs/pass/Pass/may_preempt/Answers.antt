@@ -1,9 +1,5 @@
 -- One may be revoked at all by the first and the last test of the rule.
-use Rattle.std.proofs.Common.{◌≡◌, ◌<◌, ◌&&◌, not, Bool, true, false, refl, ap, sym, ◌∙◌, arith}
-use Rattle.cal_machine.specs.TableTasks.{is_latency_critical}
-use Rattle.cal_policy.specs.Setting.{so_far, has_room}
-use Rattle.cal_policy.specs.Pass.Grants.{is_granted_in, none_leaves_for}
-use Rattle.cal_policy.specs.Pass.AtHand.{setting_in}
+use Rattle.cal_policy.proofs.Common.{◌≡◌, ◌<◌, ◌&&◌, not, Bool, true, false, refl, ap, sym, ◌∙◌, arith, is_latency_critical, so_far, has_room, is_granted_in, none_leaves_for, setting_in}
 use Rattle.cal_policy.proofs.PassLemmas.Branches.{outer_hold, outer_fail}
 use Rattle.cal_policy.proofs.pass.Pass.may_preempt.Goals as goal
 

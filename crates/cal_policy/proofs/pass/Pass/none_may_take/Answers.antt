@@ -1,6 +1,4 @@
-use Rattle.std.proofs.Common.{◌≡◌, Bool, true, false, not, refl}
-use Rattle.cal_policy.specs.Pass.AtHand.{setting_in}
-use Rattle.cal_policy.specs.Setting.{so_far}
+use Rattle.cal_policy.proofs.Common.{◌≡◌, Bool, true, false, not, refl, setting_in, so_far}
 use Rattle.cal_policy.proofs.AssuredLemmas.NoneToTake.{none_to_take}
 use Rattle.cal_policy.proofs.pass.Pass.none_may_take.Goals as goal
 

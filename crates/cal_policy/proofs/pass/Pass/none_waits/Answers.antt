@@ -1,6 +1,4 @@
-use Rattle.std.proofs.Common.{arith}
-use Rattle.cal_machine.proofs.ThreadNumbers.{next_le}
-use Rattle.cal_policy.specs.Pass.AtHand.{setting_in}
+use Rattle.cal_policy.proofs.Common.{arith, next_le, setting_in}
 use Rattle.cal_policy.proofs.AssuredLemmas.Waiting.{calm_task}
 use Rattle.cal_policy.proofs.pass.Pass.none_waits.Goals as goal
 

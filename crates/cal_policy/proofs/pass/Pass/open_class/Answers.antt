@@ -1,8 +1,4 @@
-use Rattle.std.proofs.Common.{Some, ap, ◌∙◌}
-use Rattle.cal_policy.specs.declared.history.core_class.CoreClass.{CoreClass}
-use Rattle.cal_policy.specs.Assured.Taking.{may_take}
-use Rattle.cal_policy.specs.Pass.AtHand.{setting_in}
-use Rattle.cal_policy.specs.Setting.{so_far}
+use Rattle.cal_policy.proofs.Common.{Some, ap, ◌∙◌, CoreClass, may_take, setting_in, so_far}
 use Rattle.cal_policy.proofs.PassLemmas.Branches.{when_true, when_false}
 use Rattle.cal_policy.proofs.pass.Pass.open_class.Goals as goal
 

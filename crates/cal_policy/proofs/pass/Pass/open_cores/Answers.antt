@@ -1,9 +1,6 @@
 -- The set of open cores has those that are open, as far as the machine has cores.
-use Rattle.std.proofs.Common.{◌≡◌, ℕ, ◌+◌, ◌<◌, ◌≤◌, zero, suc, Bool, if◌then◌else◌, refl, ◌∙◌, arith}
+use Rattle.cal_policy.proofs.Common.{◌≡◌, ℕ, ◌<◌, zero, suc, Bool, refl, ◌∙◌, arith, CoreSet, is_open, count_below}
 use Rattle.cal_machine.specs.CoreSet as sets
-use Rattle.cal_machine.specs.declared.core_set.CoreSet.{CoreSet}
-use Rattle.cal_policy.specs.Assured.Short.{is_open}
-use Rattle.cal_policy.specs.Pass.Choice.{count_below}
 use Rattle.cal_policy.proofs.AssuredLemmas.AsKept.{open_as_kept}
 use Rattle.cal_policy.proofs.pass.Pass.open_cores.Goals as goal
 

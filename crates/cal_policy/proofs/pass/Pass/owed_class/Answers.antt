@@ -1,7 +1,4 @@
-use Rattle.std.proofs.Common.{◌∙◌}
-use Rattle.cal_policy.specs.Assured.Owed.{is_task, owed_to}
-use Rattle.cal_policy.specs.Pass.AtHand.{setting_in}
-use Rattle.cal_policy.specs.Setting.{so_far}
+use Rattle.cal_policy.proofs.Common.{◌∙◌, is_task, owed_to, setting_in, so_far}
 use Rattle.cal_policy.proofs.PassLemmas.Branches.{when_true}
 use Rattle.cal_policy.proofs.pass.Pass.owed_class.Goals as goal
 

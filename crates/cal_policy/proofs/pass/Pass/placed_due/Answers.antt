@@ -1,7 +1,4 @@
-use Rattle.std.proofs.Common.{◌≡◌, ◌<◌, Some, ap, sym, ◌∙◌, arith}
-use Rattle.cal_policy.specs.Assured.Grants.{grant_in_place}
-use Rattle.cal_policy.specs.Explain.AssuredTurns.{placed_task}
-use Rattle.cal_policy.specs.Pass.AtHand.{setting_in}
+use Rattle.cal_policy.proofs.Common.{◌≡◌, ◌<◌, Some, ap, sym, ◌∙◌, arith, grant_in_place, placed_task, setting_in}
 use Rattle.cal_policy.proofs.pass.Pass.placed_due.Goals as goal
 
 pub returns-in-Some-clause-due : goal.returns-in-Some-clause-due

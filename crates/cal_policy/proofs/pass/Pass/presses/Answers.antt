@@ -1,7 +1,4 @@
-use Rattle.std.proofs.Common.{◌&&◌, not, ap, sym, ◌∙◌}
-use Rattle.cal_policy.specs.Assured.InFlight.{is_in_flight}
-use Rattle.cal_policy.specs.Pass.AtHand.{setting_in}
-use Rattle.cal_policy.specs.Setting.{so_far}
+use Rattle.cal_policy.proofs.Common.{◌&&◌, not, ap, sym, ◌∙◌, is_in_flight, setting_in, so_far}
 use Rattle.cal_policy.proofs.pass.Pass.presses.Goals as goal
 
 pub returns-then-is_late : goal.returns-then-is_late

@@ -1,11 +1,5 @@
 -- Each thread that waits is asked, and those between do not press.
-use Rattle.std.proofs.Common.{◌≡◌, ◌+◌, ◌-◌, ◌≤◌, ℕ, Bool, ap, ◌∙◌, arith}
-use Rattle.cal_machine.specs.Tasks.{first_thread}
-use Rattle.cal_machine.specs.TableTasks.{thread_of}
-use Rattle.cal_policy.specs.Assured.InFlight.{presses}
-use Rattle.cal_policy.specs.Pass.AtHand.{setting_in}
-use Rattle.cal_policy.specs.Pass.Choice.{count_below}
-use Rattle.cal_policy.specs.Setting.{so_far}
+use Rattle.cal_policy.proofs.Common.{◌≡◌, ◌+◌, ◌-◌, ◌≤◌, ℕ, Bool, ap, ◌∙◌, arith, first_thread, thread_of, presses, setting_in, count_below, so_far}
 use Rattle.cal_policy.proofs.AssuredLemmas.Counting.{counted_more}
 use Rattle.cal_policy.proofs.AssuredLemmas.Waiting.{press_past}
 use Rattle.cal_policy.proofs.pass.Pass.pressing.Goals as goal

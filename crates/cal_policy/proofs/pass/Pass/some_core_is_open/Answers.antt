@@ -1,6 +1,4 @@
-use Rattle.std.proofs.Common.{arith}
-use Rattle.cal_policy.specs.Setting.{so_far}
-use Rattle.cal_policy.specs.Pass.AtHand.{setting_in}
+use Rattle.cal_policy.proofs.Common.{arith, so_far, setting_in}
 use Rattle.cal_policy.proofs.PassLemmas.NoneOpen.{none_chosen}
 use Rattle.cal_policy.proofs.pass.Pass.some_core_is_open.Goals as goal
 

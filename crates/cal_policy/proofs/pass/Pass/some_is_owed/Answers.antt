@@ -1,7 +1,5 @@
 -- None of the open cores that were gone over is owed to a task.
-use Rattle.std.proofs.Common.{◌≡◌, ℕ, Bool, true, false, Option, Some, None, refl, sym, ◌∙◌, arith, ⊎_elim}
-use Rattle.std.proofs.lemmas.Bool.{cases_lt}
-use Rattle.std.specs.Option.{is_some}
+use Rattle.cal_policy.proofs.Common.{◌≡◌, ℕ, Bool, true, false, Option, Some, None, refl, sym, ◌∙◌, arith, ⊎_elim, cases_lt, is_some}
 use Rattle.cal_policy.proofs.pass.Pass.some_is_owed.Goals as goal
 
 is_none : (o : Option ℕ) → is_some o ≡ false → o ≡ None

@@ -1,5 +1,4 @@
-use Rattle.std.proofs.Common.{◌≡◌, ◌<◌, ◌≤◌, ◌-◌, ℕ, true, None, slice_index_or}
-use Rattle.cal_machine.specs.CoreSet.{has}
+use Rattle.cal_policy.proofs.Common.{◌≡◌, ◌<◌, ◌≤◌, ◌-◌, ℕ, true, None, slice_index_or, has}
 use Rattle.cal_policy.proofs.pass.Pass.some_is_owed.Given as goal
 
 abbrev pub invariant-loop-core : goal.invariant-loop-core

@@ -1,9 +1,4 @@
-use Rattle.std.proofs.Common.{◌≡◌, ◌<◌, ◌&&◌, ℕ, List, false, nat_lt}
-use Rattle.std.specs.Option.{is_some}
-use Rattle.cal_policy.specs.declared.history.action.Action.{Action}
-use Rattle.cal_policy.specs.Board.Counts.{held_by}
-use Rattle.cal_policy.specs.Pass.Grants.{preempt_class}
-use Rattle.cal_policy.specs.State.{Agrees}
+use Rattle.cal_policy.proofs.Common.{◌≡◌, ◌<◌, ◌&&◌, ℕ, List, false, nat_lt, is_some, Action, held_by, preempt_class, Agrees}
 use Rattle.cal_policy.proofs.pass.Pass.some_may_be_preempted.Given as goal
 
 abbrev pub invariant-loop-other : goal.invariant-loop-other

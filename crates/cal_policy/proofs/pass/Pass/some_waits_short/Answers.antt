@@ -1,9 +1,4 @@
-use Rattle.std.proofs.Common.{◌≡◌, ◌<◌, ◌+◌, ◌≤◌, ℕ, false, length, refl, sym, ◌∙◌, arith}
-use Rattle.cal_machine.proofs.ThreadNumbers.{first_next, next_le}
-use Rattle.cal_machine.specs.Tasks.{first_thread, task_at}
-use Rattle.cal_policy.specs.Assured.Short.{waits_short}
-use Rattle.cal_policy.specs.Pass.AtHand.{setting_in}
-use Rattle.cal_policy.specs.Setting.{so_far}
+use Rattle.cal_policy.proofs.Common.{◌≡◌, ◌<◌, ◌+◌, ◌≤◌, ℕ, false, length, refl, sym, ◌∙◌, arith, first_next, next_le, first_thread, task_at, waits_short, setting_in, so_far}
 use Rattle.cal_policy.proofs.AssuredLemmas.Counting.{count_skip, some_passes, none_passes}
 use Rattle.cal_policy.proofs.AssuredLemmas.Waiting.{calm_short}
 use Rattle.cal_policy.proofs.BoardLemmas.StateKept.{none_more}

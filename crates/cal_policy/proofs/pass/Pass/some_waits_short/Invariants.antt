@@ -1,11 +1,4 @@
-use Rattle.std.proofs.Common.{◌≡◌, ◌-◌, ◌≤◌, List, length}
-use Rattle.cal_machine.specs.Tasks.{first_thread}
-use Rattle.cal_policy.specs.declared.history.action.Action.{Action}
-use Rattle.cal_policy.specs.Assured.Short.{waits_short}
-use Rattle.cal_policy.specs.Pass.AtHand.{setting_in}
-use Rattle.cal_policy.specs.Pass.Choice.{count_below}
-use Rattle.cal_policy.specs.Setting.{Begun, so_far}
-use Rattle.cal_policy.specs.State.{Stands}
+use Rattle.cal_policy.proofs.Common.{◌≡◌, ◌-◌, ◌≤◌, List, length, first_thread, Action, waits_short, setting_in, count_below, Begun, so_far, Stands}
 use Rattle.cal_policy.proofs.pass.Pass.some_waits_short.Given as goal
 
 abbrev pub invariant-loop-waiting : goal.invariant-loop-waiting

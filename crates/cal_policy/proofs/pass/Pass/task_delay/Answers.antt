@@ -1,10 +1,5 @@
 -- Each thread that waits counts, and those between have no delay.
-use Rattle.std.proofs.Common.{◌≡◌, ◌+◌, ◌-◌, ◌≤◌, ℕ, ap, sym, ◌∙◌, arith}
-use Rattle.cal_machine.specs.Tasks.{first_thread}
-use Rattle.cal_policy.specs.Pass.AtHand.{setting_in}
-use Rattle.cal_machine.specs.TableTasks.{thread_of}
-use Rattle.cal_policy.specs.Pass.Choice.{greatest_below}
-use Rattle.cal_policy.specs.Pass.Grants.{thread_delay}
+use Rattle.cal_policy.proofs.Common.{◌≡◌, ◌+◌, ◌-◌, ◌≤◌, ℕ, ap, sym, ◌∙◌, arith, first_thread, setting_in, thread_of, greatest_below, thread_delay}
 use Rattle.cal_policy.proofs.ListLemmas.OneNumberMore.{greatest_more}
 use Rattle.cal_policy.proofs.PassLemmas.NothingDue.{delays_past}
 use Rattle.cal_policy.proofs.pass.Pass.task_delay.Goals as goal

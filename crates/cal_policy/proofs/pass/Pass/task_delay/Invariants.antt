@@ -1,11 +1,4 @@
-use Rattle.std.proofs.Common.{◌≡◌, ◌+◌, ◌-◌, ◌≤◌, List}
-use Rattle.cal_policy.specs.declared.history.action.Action.{Action}
-use Rattle.cal_policy.specs.Setting.{Begun}
-use Rattle.cal_policy.specs.State.{Stands}
-use Rattle.cal_policy.specs.Pass.AtHand.{setting_in}
-use Rattle.cal_machine.specs.TableTasks.{thread_of}
-use Rattle.cal_policy.specs.Pass.Choice.{greatest_below}
-use Rattle.cal_policy.specs.Pass.Grants.{thread_delay}
+use Rattle.cal_policy.proofs.Common.{◌≡◌, ◌+◌, ◌-◌, ◌≤◌, List, Action, Begun, Stands, setting_in, thread_of, greatest_below, thread_delay}
 use Rattle.cal_policy.proofs.pass.Pass.task_delay.Given as goal
 
 abbrev pub invariant-loop-next : goal.invariant-loop-next

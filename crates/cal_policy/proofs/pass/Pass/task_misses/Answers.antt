@@ -1,8 +1,5 @@
-use Rattle.std.proofs.Common.{ap, ◌+◌, ◌∙◌, arith}
-use Rattle.cal_machine.specs.TableTasks.{thread_of}
-use Rattle.cal_policy.specs.Pass.Bandwidth.{new_misses}
+use Rattle.cal_policy.proofs.Common.{ap, ◌+◌, ◌∙◌, arith, thread_of, new_misses, setting_in}
 use Rattle.cal_policy.proofs.PassLemmas.Bandwidth.{sum_more}
-use Rattle.cal_policy.specs.Pass.AtHand.{setting_in}
 use Rattle.cal_policy.proofs.pass.Pass.task_misses.Goals as goal
 
 pub loop-j-preserved : goal.loop-j-preserved

@@ -1,11 +1,4 @@
-use Rattle.std.proofs.Common.{◌≡◌, ◌*◌, ◌≤◌, ◌^◌, List}
-use Rattle.cal_policy.specs.declared.history.action.Action.{Action}
-use Rattle.cal_policy.specs.Setting.{Begun}
-use Rattle.cal_machine.specs.TableTasks.{thread_of}
-use Rattle.cal_policy.specs.Pass.Choice.{sum_below}
-use Rattle.cal_policy.specs.Pass.Bandwidth.{new_misses}
-use Rattle.cal_policy.specs.State.{Stands}
-use Rattle.cal_policy.specs.Pass.AtHand.{setting_in}
+use Rattle.cal_policy.proofs.Common.{◌≡◌, ◌*◌, ◌≤◌, ◌^◌, List, Action, Begun, thread_of, sum_below, new_misses, Stands, setting_in}
 use Rattle.cal_policy.proofs.pass.Pass.task_misses.Given as goal
 
 abbrev pub invariant-loop-j : goal.invariant-loop-j

@@ -1,5 +1,4 @@
-use Rattle.cal_policy.specs.Setting.{so_far}
-use Rattle.cal_policy.specs.Pass.AtHand.{setting_in}
+use Rattle.cal_policy.proofs.Common.{so_far, setting_in}
 use Rattle.cal_policy.proofs.pass.Pass.task_state.Goals as goal
 
 pub returns : goal.returns

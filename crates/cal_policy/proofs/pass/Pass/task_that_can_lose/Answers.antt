@@ -1,13 +1,5 @@
 -- Held by a thread of the task, whose ring has room.
-use Rattle.std.proofs.Common.{◌≡◌, ◌<◌, ◌==◌, ◌&&◌, Bool, true, false, sym, refl, ◌∙◌, ap, arith}
-use Rattle.cal_machine.specs.TableTasks.{owner_of}
-use Rattle.cal_policy.specs.Setting.{so_far, has_room, is_held_with_room}
-use Rattle.cal_policy.specs.History.{holder_of}
-use Rattle.cal_policy.specs.Board.Counts.{is_held_for}
-use Rattle.cal_policy.specs.Pass.AtHand.{setting_in}
-use Rattle.cal_policy.specs.Pass.Bandwidth.{can_lose}
-use Rattle.cal_policy.specs.declared.board.holders.Holder.{Holder}
-use Rattle.cal_policy.specs.declared.board.holders.Holder.TheVariants.{Held}
+use Rattle.cal_policy.proofs.Common.{◌≡◌, ◌<◌, ◌==◌, ◌&&◌, Bool, true, false, sym, refl, ◌∙◌, ap, arith, owner_of, so_far, has_room, is_held_with_room, holder_of, is_held_for, setting_in, can_lose, Holder, Held}
 use Rattle.cal_policy.proofs.BoardLemmas.AsKept.{loses_as_kept}
 use Rattle.cal_policy.proofs.pass.Pass.task_that_can_lose.Goals as goal
 

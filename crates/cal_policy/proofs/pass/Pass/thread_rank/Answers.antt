@@ -1,9 +1,5 @@
 -- The thread neither holds nor leaves a core, as the counts say, and its ring has room.
-use Rattle.std.proofs.Common.{◌≡◌, ◌<◌, ℕ, Bool, true, false, ◌&&◌, cond, eqb, get_or, Some, None, refl, ap, sym, ◌∙◌, arith}
-use Rattle.std.proofs.lemmas.Bool.Decides.{nat_tests}
-use Rattle.cal_policy.specs.Setting.{so_far, has_room}
-use Rattle.cal_policy.specs.Board.Counts.{cores_of_thread}
-use Rattle.cal_policy.specs.Pass.AtHand.{setting_in}
+use Rattle.cal_policy.proofs.Common.{◌≡◌, ◌<◌, ℕ, Bool, true, false, ◌&&◌, cond, eqb, get_or, Some, None, refl, ap, sym, ◌∙◌, arith, nat_tests, so_far, has_room, cores_of_thread, setting_in}
 use Rattle.cal_policy.proofs.PassLemmas.Branches.{when_not_second}
 use Rattle.cal_policy.proofs.pass.Pass.thread_rank.Goals as goal
 use Rattle.cal_policy.proofs.pass.Pass.thread_rank.Goals.{else-has_none-via-then-has_none+else-has_room, else-has_none-via-else-has_none}

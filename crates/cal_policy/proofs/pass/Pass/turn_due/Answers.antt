@@ -1,14 +1,5 @@
 -- A task that does not wait gets nothing; another gets what is chosen for it.
-use Rattle.std.proofs.Common.{◌≡◌, ◌&&◌, Bool, true, false, cond, nat_lt, List, [], None, refl, ap, sym, ◌∙◌, arith}
-use Rattle.std.proofs.lemmas.Bool.Decides.{nat_tests}
-use Rattle.std.specs.Option.{is_some}
-use Rattle.cal_policy.specs.declared.history.action.Action.{Action}
-use Rattle.cal_policy.specs.Assured.InFlight.{pressing}
-use Rattle.cal_policy.specs.Assured.Short.{surplus, waits}
-use Rattle.cal_policy.specs.Assured.Taking.{choice_for}
-use Rattle.cal_policy.specs.Pass.AtHand.{setting_in}
-use Rattle.cal_policy.specs.Pass.Grants.{grant_of, may_book, thread_choice}
-use Rattle.cal_policy.specs.Setting.{so_far}
+use Rattle.cal_policy.proofs.Common.{◌≡◌, ◌&&◌, Bool, true, false, cond, nat_lt, List, [], None, refl, ap, sym, ◌∙◌, arith, nat_tests, is_some, Action, pressing, surplus, waits, choice_for, setting_in, grant_of, may_book, thread_choice, so_far}
 use Rattle.cal_policy.proofs.AssuredLemmas.Keeping.{middle_fails}
 use Rattle.cal_policy.proofs.PassLemmas.Branches.{when_true, when_false}
 use Rattle.cal_policy.proofs.pass.Pass.turn_due.Goals as goal

@@ -1,7 +1,5 @@
-use Rattle.std.proofs.Common.{◌∙◌}
+use Rattle.cal_policy.proofs.Common.{◌∙◌, setting_in, unban_at}
 use Rattle.cal_policy.proofs.PassLemmas.Pairs.{unban_lower, pair_upper}
-use Rattle.cal_policy.specs.Pass.AtHand.{setting_in}
-use Rattle.cal_policy.specs.Pass.Bans.{unban_at}
 use Rattle.cal_policy.proofs.pass.Pass.unban_in_pair.Goals as goal
 
 pub returns-in-Some-clause-due : goal.returns-in-Some-clause-due

@@ -1,9 +1,4 @@
-use Rattle.std.proofs.Common.{◌≡◌, ℕ, ◌-◌, nat_lt, ap, sym, ◌∙◌, arith}
-use Rattle.std.proofs.lemmas.Bool.Decides.{nat_tests}
-use Rattle.cal_policy.specs.Assured.InFlight.{pressing}
-use Rattle.cal_policy.specs.Assured.Short.{surplus}
-use Rattle.cal_policy.specs.Pass.AtHand.{setting_in}
-use Rattle.cal_policy.specs.Setting.{so_far}
+use Rattle.cal_policy.proofs.Common.{◌≡◌, ℕ, ◌-◌, nat_lt, ap, sym, ◌∙◌, arith, nat_tests, pressing, surplus, setting_in, so_far}
 use Rattle.cal_policy.proofs.pass.Pass.unhelped.Goals as goal
 
 none_beyond : (n : ℕ) → 0 ≡ 0 - n

@@ -1,9 +1,5 @@
-use Rattle.std.proofs.Common.{◌≡◌, ◌<◌, length, nat_lt, ap, ◌∙◌, arith}
-use Rattle.cal_policy.specs.Pass.Choice.{best_below}
-use Rattle.cal_policy.specs.Setting.{so_far}
-use Rattle.cal_policy.specs.Pass.Bandwidth.{victim_rank}
+use Rattle.cal_policy.proofs.Common.{◌≡◌, ◌<◌, length, nat_lt, ap, ◌∙◌, arith, best_below, so_far, victim_rank, setting_in}
 use Rattle.cal_policy.proofs.ListLemmas.OneNumberMore.{best_more}
-use Rattle.cal_policy.specs.Pass.AtHand.{setting_in}
 use Rattle.cal_policy.proofs.pass.Pass.victim.Goals as goal
 
 pub loop-t-preserved : goal.loop-t-preserved

@@ -1,12 +1,4 @@
-use Rattle.std.proofs.Common.{◌≡◌, ℕ, ◌<◌, List, get_or, None, nat_lt}
-use Rattle.std.specs.Option.{IfSome}
-use Rattle.cal_policy.specs.declared.history.action.Action.{Action}
-use Rattle.cal_policy.specs.Setting.{Begun}
-use Rattle.cal_policy.specs.Pass.Choice.{best_below}
-use Rattle.cal_policy.specs.Setting.{so_far}
-use Rattle.cal_policy.specs.Pass.Bandwidth.{core_to_lose, victim_rank}
-use Rattle.cal_policy.specs.State.{Stands}
-use Rattle.cal_policy.specs.Pass.AtHand.{setting_in}
+use Rattle.cal_policy.proofs.Common.{◌≡◌, ℕ, ◌<◌, List, get_or, None, nat_lt, IfSome, Action, Begun, so_far, best_below, core_to_lose, victim_rank, Stands, setting_in}
 use Rattle.cal_policy.proofs.pass.Pass.victim.Given as goal
 
 abbrev pub invariant-loop-t : goal.invariant-loop-t

@@ -1,7 +1,5 @@
-use Rattle.std.proofs.Common.{sym, ◌∙◌}
-use Rattle.cal_policy.specs.Setting.{so_far}
+use Rattle.cal_policy.proofs.Common.{sym, ◌∙◌, so_far, setting_in}
 use Rattle.cal_policy.proofs.PassLemmas.Bandwidth.{ranked}
-use Rattle.cal_policy.specs.Pass.AtHand.{setting_in}
 use Rattle.cal_policy.proofs.pass.Pass.victim_rank.Goals as goal
 
 pub returns-in-Some : goal.returns-in-Some

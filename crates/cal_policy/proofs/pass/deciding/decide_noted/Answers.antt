@@ -1,10 +1,4 @@
-use Rattle.std.proofs.Common.{◌≡◌, ◌∙◌, sym, ap}
-use Rattle.cal_policy.specs.Setting.{Setting, Begun, setting, setting_at}
-use Rattle.cal_policy.specs.History.{looks_of, actions_of}
-use Rattle.cal_policy.specs.Judgement.OpenInput.{judged_input, judged_looks}
-use Rattle.cal_policy.specs.Policies.{pass_by}
-use Rattle.cal_policy.specs.declared.pass.terms.Terms.{Terms}
-use Rattle.cal_policy.specs.declared.policy.Policy.{Policy}
+use Rattle.cal_policy.proofs.Common.{◌≡◌, ◌∙◌, sym, ap, Setting, Begun, setting, setting_at, looks_of, actions_of, judged_input, judged_looks, pass_by, Terms, Policy}
 use Rattle.cal_policy.proofs.PassLemmas.FromParts.{Stands_begin, decided}
 use Rattle.cal_policy.proofs.pass.deciding.decide_noted.Goals as goal
 

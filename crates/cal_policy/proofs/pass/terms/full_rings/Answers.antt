@@ -1,5 +1,4 @@
-use Rattle.std.proofs.Common.{◌≡◌, ◌+◌, not, ap, ◌∙◌, arith}
-use Rattle.cal_machine.specs.ThreadSet.{has_thread}
+use Rattle.cal_policy.proofs.Common.{◌≡◌, ◌+◌, not, ap, ◌∙◌, arith, has_thread}
 use Rattle.cal_policy.proofs.PassLemmas.Rooms.{rooms_are}
 use Rattle.cal_policy.proofs.pass.terms.full_rings.Goals as goal
 

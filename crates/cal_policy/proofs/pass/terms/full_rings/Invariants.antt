@@ -1,5 +1,4 @@
-use Rattle.std.proofs.Common.{◌≡◌, ℕ, ◌<◌, ◌≤◌, false, not, get_or}
-use Rattle.cal_machine.specs.ThreadSet.{has_thread}
+use Rattle.cal_policy.proofs.Common.{◌≡◌, ℕ, ◌<◌, ◌≤◌, false, not, get_or, has_thread}
 use Rattle.cal_policy.proofs.pass.terms.full_rings.Given as goal
 
 abbrev pub invariant-loop-k : goal.invariant-loop-k

@@ -1,6 +1,4 @@
-use Rattle.std.proofs.Common.{◌≡◌, [], map, ap, sym, ◌∙◌}
-use Rattle.std.specs.Vec.Iter.{into_iter_items}
-use Rattle.cal_kthread.specs.End.HandingOut.{run_of}
+use Rattle.cal_run.proofs.Common.{◌≡◌, [], map, ap, sym, ◌∙◌, into_iter_items, run_of}
 use Rattle.cal_run.proofs.ClosingLemmas.Ends.{all_closed, nothing_left}
 use Rattle.cal_run.proofs.closing.pages_and_rings.close_each.Goals as goal
 

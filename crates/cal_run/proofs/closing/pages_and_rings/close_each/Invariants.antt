@@ -1,6 +1,4 @@
-use Rattle.std.proofs.Common.{◌≡◌, length, map}
-use Rattle.std.specs.Vec.Iter.{into_iter_items, into_iter_len}
-use Rattle.cal_kthread.specs.End.HandingOut.{run_of}
+use Rattle.cal_run.proofs.Common.{◌≡◌, length, map, into_iter_items, into_iter_len, run_of}
 use Rattle.cal_run.proofs.ClosingLemmas.Ends.{ClosesOn}
 use Rattle.cal_run.proofs.closing.pages_and_rings.close_each.Given as goal
 

@@ -1,12 +1,6 @@
-use Rattle.std.proofs.Common.{◌≡◌, ◌++◌, drop, length, map, sym, subst, take, ◌∙◌}
+use Rattle.cal_run.proofs.Common.{◌≡◌, ◌++◌, drop, length, map, sym, subst, take, ◌∙◌, KeepsItsWork, IsAccounted, HandedOutNothing, run_of, IsTeam, EndView, AreClosed, IsEndOf}
 use Rattle.std.proofs.lemmas.Slice.Zip.{AllZip-long}
 use Rattle.cal_sched.proofs.Lists.{written_whole}
-use Rattle.cal_kthread.specs.End.Account.{KeepsItsWork}
-use Rattle.cal_kthread.specs.End.HandingOut.{HandedOutNothing, run_of}
-use Rattle.cal_kthread.specs.Team.{IsTeam}
-use Rattle.cal_kthread.specs.End.Rest.{EndView}
-use Rattle.cal_kthread.specs.End.Account.{IsAccounted}
-use Rattle.cal_run.specs.Closing.{AreClosed, IsEndOf}
 use Rattle.cal_run.proofs.ClosingLemmas.Closed.{each_end, have_closed, length_alike, others_at_ends, places_at_ends}
 use Rattle.cal_run.proofs.closing.pages_and_rings.close_threads.Goals as goal
 

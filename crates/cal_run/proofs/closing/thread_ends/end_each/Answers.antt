@@ -1,6 +1,4 @@
-use Rattle.std.proofs.Common.{◌≡◌, ◌∷◌, length, ap, subst, sym, ◌∙◌, rules, arith}
-use Rattle.std.specs.Vec.Iter.{into_iter_items}
-use Rattle.cal_run.specs.Closing.{AreEndsOf}
+use Rattle.cal_run.proofs.Common.{◌≡◌, ◌∷◌, length, ap, subst, sym, ◌∙◌, rules, arith, into_iter_items, AreEndsOf}
 use Rattle.cal_run.proofs.ClosingLemmas.Ends.{all_ended, none_ended, one_ended}
 use Rattle.cal_run.proofs.closing.thread_ends.end_each.Goals as goal
 

@@ -1,5 +1,4 @@
-use Rattle.std.proofs.Common.{◌≡◌, length}
-use Rattle.std.specs.Vec.Iter.{into_iter_items, into_iter_len}
+use Rattle.cal_run.proofs.Common.{◌≡◌, length, into_iter_items, into_iter_len}
 use Rattle.cal_run.proofs.ClosingLemmas.Ends.{EndsUpTo}
 use Rattle.cal_run.proofs.closing.thread_ends.end_each.Given as goal
 

@@ -1,7 +1,4 @@
-use Rattle.std.proofs.Common.{◌∙◌, List, subst}
-use Rattle.std.specs.Prelude.{IfOk}
-use Rattle.cal_kthread.specs.End.Account.{IsAccounted}
-use Rattle.cal_kthread.specs.declared.journal.entry.Entry.{Entry}
+use Rattle.cal_run.proofs.Common.{◌∙◌, List, subst, IfOk, IsAccounted, Entry}
 use Rattle.cal_run.proofs.ClosingLemmas.Ends.{same_journals}
 use Rattle.cal_run.proofs.closing.thread_ends.settle_and_hand_out.Goals as goal
 

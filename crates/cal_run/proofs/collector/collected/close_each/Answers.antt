@@ -1,6 +1,4 @@
-use Rattle.std.proofs.Common.{◌≡◌, ◌∷◌, ◌++◌, [], List, ap, sym, ◌∙◌, append_assoc}
-use Rattle.std.specs.Vec.Iter.{into_iter_items}
-use Rattle.cal_kthread.specs.declared.journal.entry.Entry.{Entry}
+use Rattle.cal_run.proofs.Common.{◌≡◌, ◌∷◌, ◌++◌, [], List, ap, sym, ◌∙◌, append_assoc, into_iter_items, Entry}
 use Rattle.cal_run.proofs.collector.collected.close_each.Goals as goal
 
 pub loop-journal-preserved : goal.loop-journal-preserved

@@ -1,5 +1,4 @@
-use Rattle.std.proofs.Common.{◌≡◌, ◌++◌}
-use Rattle.std.specs.Vec.Iter.{into_iter_items}
+use Rattle.cal_run.proofs.Common.{◌≡◌, ◌++◌, into_iter_items}
 use Rattle.cal_run.proofs.collector.collected.close_each.Given as goal
 
 abbrev pub invariant-loop-journal : goal.invariant-loop-journal

@@ -1,6 +1,4 @@
-use Rattle.std.proofs.Common.{◌≡◌, ◌++◌}
-use Rattle.std.specs.Vec.Iter.{into_iter_items}
-use Rattle.cal_run.specs.Workers.{journals_of}
+use Rattle.cal_run.proofs.Common.{◌≡◌, ◌++◌, into_iter_items, journals_of}
 use Rattle.cal_run.proofs.collector.worker.split_workers.Given as goal
 
 abbrev pub invariant-loop-worker : goal.invariant-loop-worker

@@ -1,11 +1,8 @@
-use Rattle.std.proofs.Common.{List, length, subst, arith}
+use Rattle.cal_run.proofs.Common.{List, length, subst, arith, IsLegalBy, page_at, pass_at_by}
 use Rattle.std.proofs.Math.Seq.{take-length}
 use Rattle.cal_world.specs.Projections.{history_in}
 use Rattle.cal_world.specs.declared.event.Event.{Event}
-use Rattle.cal_policy.specs.Policies.{IsLegalBy}
 use Rattle.cal_policy.specs.History.Found.{looks_at}
-use Rattle.cal_linear.specs.Runs.{page_at}
-use Rattle.cal_policy.proofs.PolicyLemmas.{pass_at_by}
 use Rattle.cal_run.proofs.OutcomeLemmas.Fitting.{fitting_never_fall, fitting_published}
 use Rattle.cal_run.proofs.outcome.headline.headline_of_runs_by.Goals as goal
 

@@ -1,8 +1,4 @@
-use Rattle.std.proofs.Common.{◌≡◌, List, length, ap, ◌∙◌, arith}
-use Rattle.std.proofs.lemmas.Result.{IfOk-weaker}
-use Rattle.cal_trace.specs.declared.arrivals.GivenPass.{GivenPass}
-use Rattle.cal_run.specs.Parts.{rounds_of}
-use Rattle.cal_run.specs.declared.parts.Parts.{Parts}
+use Rattle.cal_run.proofs.Common.{◌≡◌, List, length, ap, ◌∙◌, arith, IfOk-weaker, GivenPass, rounds_of, Parts}
 use Rattle.cal_run.proofs.parts.opening.open_parts_by.Goals as goal
 
 pub returns-clause-most : goal.returns-clause-most

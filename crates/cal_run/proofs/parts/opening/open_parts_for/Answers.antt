@@ -1,8 +1,4 @@
-use Rattle.std.proofs.Common.{List, [], ap, subst, sym, ◌∙◌}
-use Rattle.cal_kthread.specs.Turn.Thread.{KernelView}
-use Rattle.cal_machine.specs.Table.{Table}
-use Rattle.cal_sched.specs.Scheduler.{SchedulerView}
-use Rattle.cal_run.specs.Workers.{HaveMadeNoTurn}
+use Rattle.cal_run.proofs.Common.{List, [], ap, subst, sym, ◌∙◌, KernelView, Table, SchedulerView, HaveMadeNoTurn}
 use Rattle.cal_run.proofs.PartsLemmas.Opened.{are_opened, opened_are_fresh, saw_nothing, sent_nothing}
 use Rattle.cal_run.proofs.parts.opening.open_parts_for.Goals as goal
 

@@ -1,7 +1,4 @@
-use Rattle.std.proofs.Common.{◌≡◌, ◌∷◌, ℕ, List, length, subst, arith}
-use Rattle.std.specs.Vec.Iter.{into_iter_items}
-use Rattle.cal_kthread.specs.Turn.Thread.{KernelView}
-use Rattle.cal_run.specs.Workers.{HasMade}
+use Rattle.cal_run.proofs.Common.{◌≡◌, ◌∷◌, ℕ, List, length, subst, arith, into_iter_items, KernelView, HasMade}
 use Rattle.cal_run.proofs.PartsLemmas.Opened.{HaveWorkers, next_is_fresh, worker_more}
 use Rattle.cal_run.proofs.parts.opening.open_workers.Goals as goal
 

@@ -1,9 +1,5 @@
-use Rattle.std.proofs.Common.{◌≡◌, ◌∙◌, ◌<◌, ◌∷◌, [], List, Option, Some, None, length, get_or, slice_get, ap, subst, sym}
-use Rattle.std.proofs.lemmas.List.{append_cancel_left}
-use Rattle.std.proofs.lemmas.Option.{slice_get-get_or}
-use Rattle.cal_policy.specs.declared.history.entry.PassEntry.{PassEntry}
-use Rattle.cal_trace.specs.declared.arrivals.GivenPass.{GivenPass}
-use Rattle.cal_run.specs.Outcome.{figures_of}
+use Rattle.cal_run.proofs.Common.{◌≡◌, ◌∙◌, ◌<◌, ◌∷◌, [], List, Option, Some, None, length, get_or, ap, subst, sym, append_cancel_left, slice_get-get_or, PassEntry, GivenPass, figures_of}
+use Rattle.std.proofs.Common.{slice_get}
 use Rattle.cal_run.proofs.RoundsLemmas.Passes.{seat_stays}
 use Rattle.cal_run.proofs.rounds.passes.step_given.Goals as goal
 

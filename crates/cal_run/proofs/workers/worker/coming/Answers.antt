@@ -1,6 +1,4 @@
-use Rattle.std.proofs.Common.{sym, slice_index_or, arith}
-use Rattle.std.proofs.lemmas.Option.{slice_get-get_or}
-use Rattle.cal_trace.specs.declared.arrivals.Arrival.{Arrival}
+use Rattle.cal_run.proofs.Common.{sym, slice_index_or, arith, slice_get-get_or, Arrival}
 use Rattle.cal_run.proofs.WorkersLemmas.NextRequest.{apart_from, comes_next, is_other, next_after_all, next_after_it, next_after_other, none_is_next, other_is_next}
 use Rattle.cal_run.proofs.workers.worker.coming.Goals as goal
 

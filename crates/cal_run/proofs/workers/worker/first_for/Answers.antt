@@ -1,6 +1,5 @@
-use Rattle.std.proofs.Common.{nat_lt, rules}
+use Rattle.cal_run.proofs.Common.{nat_lt, rules, Arrival}
 use Rattle.std.proofs.lemmas.List.Sorted.{IsPartitionPoint-from_clause, IsPartitionedBy-ltb}
-use Rattle.cal_trace.specs.declared.arrivals.Arrival.{Arrival}
 use Rattle.cal_run.proofs.WorkersLemmas.NextRequest.{first_is_next, threads_rise}
 use Rattle.cal_run.proofs.workers.worker.first_for.Goals as goal
 

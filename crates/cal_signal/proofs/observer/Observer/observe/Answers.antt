@@ -1,8 +1,4 @@
-use Rattle.std.proofs.Common.{rules, ◌≡◌, ℕ, ◌/◌, ◌%◌, length, ap, sym, ◌∙◌, arith}
-use Rattle.cal_signal.specs.declared.record.Record.{Record}
-use Rattle.cal_signal.specs.Records.{record_of}
-use Rattle.cal_signal.specs.Pages.{floor_of}
-use Rattle.cal_signal.specs.Rule.{sees}
+use Rattle.cal_signal.proofs.Common.{rules, ◌≡◌, ℕ, ◌/◌, ◌%◌, length, ap, sym, ◌∙◌, arith, Record, record_of, floor_of, sees}
 use Rattle.cal_signal.proofs.PageSteps.{M, starts, ends}
 use Rattle.cal_signal.proofs.PageLists.{floor_snoc}
 use Rattle.cal_signal.proofs.observer.Observer.observe.Goals as goal

@@ -1,9 +1,4 @@
-use Rattle.std.proofs.Common.{rules, ◌≡◌, ℕ, ◌/◌, ◌%◌, ◌≤◌, length, ap, sym, ◌∙◌, arith}
-use Rattle.std.proofs.lemmas.List.{length-take-le}
-use Rattle.cal_signal.specs.declared.record.Record.{Record}
-use Rattle.cal_signal.specs.Records.{record_of}
-use Rattle.cal_signal.specs.Pages.{floor_of}
-use Rattle.cal_signal.specs.Rule.{sees}
+use Rattle.cal_signal.proofs.Common.{rules, ◌≡◌, ℕ, ◌/◌, ◌%◌, ◌≤◌, length, ap, sym, ◌∙◌, arith, length-take-le, Record, record_of, floor_of, sees}
 use Rattle.cal_signal.proofs.PageLists.{floor_snoc}
 use Rattle.cal_signal.proofs.PageSteps.{M, ends}
 use Rattle.cal_signal.proofs.open_look.OpenLook.finish.Goals as goal

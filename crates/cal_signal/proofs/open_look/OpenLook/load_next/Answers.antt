@@ -1,5 +1,4 @@
-use Rattle.std.proofs.Common.{rules, ◌<◌, ◌≤◌, length, ap, sym, ◌∙◌, arith}
-use Rattle.std.proofs.lemmas.List.{length-take-le}
+use Rattle.cal_signal.proofs.Common.{rules, ◌<◌, ◌≤◌, length, ap, sym, ◌∙◌, arith, length-take-le}
 use Rattle.cal_signal.proofs.PageSteps.{peeks}
 use Rattle.cal_signal.proofs.open_look.OpenLook.load_next.Goals as goal
 

@@ -1,8 +1,4 @@
-use Rattle.std.proofs.Common.{rules, ◌≡◌, ◌++◌, ◌∷◌, [], length, ap, sym, ◌∙◌, subst, arith}
-use Rattle.std.proofs.lemmas.List.{length_push}
-use Rattle.cal_signal.specs.Records.{record_of, zero_record, MayFollow}
-use Rattle.cal_signal.specs.Pages.{last_published}
-use Rattle.cal_signal.specs.Rule.{parts_of}
+use Rattle.cal_signal.proofs.Common.{rules, ◌≡◌, ◌++◌, ◌∷◌, [], length, ap, sym, ◌∙◌, subst, arith, length_push, record_of, zero_record, MayFollow, last_published, parts_of}
 use Rattle.cal_signal.proofs.PageLists.{last_snoc}
 use Rattle.cal_signal.proofs.PageSteps.{M, publishes_of, closes, all_stored}
 use Rattle.cal_signal.proofs.publication.OpenPage.finish.Goals as goal

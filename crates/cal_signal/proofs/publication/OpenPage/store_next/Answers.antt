@@ -1,6 +1,4 @@
-use Rattle.std.proofs.Common.{rules, ◌<◌, ◌≤◌, length, ap, sym, ◌∙◌, arith}
-use Rattle.std.proofs.lemmas.List.{length-take-le}
-use Rattle.cal_signal.specs.Records.{words_of}
+use Rattle.cal_signal.proofs.Common.{rules, ◌<◌, ◌≤◌, length, ap, sym, ◌∙◌, arith, length-take-le, words_of}
 use Rattle.cal_signal.proofs.PageSteps.{publishes_of, writes}
 use Rattle.cal_signal.proofs.publication.OpenPage.store_next.Goals as goal
 

@@ -1,9 +1,4 @@
-use Rattle.std.proofs.Common.{rules, ◌≡◌, ◌+◌, ◌*◌, ◌%◌, ◌++◌, ◌∷◌, [], length, ap, sym, ◌∙◌, subst, arith}
-use Rattle.std.proofs.lemmas.List.{length_push}
-use Rattle.cal_signal.specs.declared.record.Record.{Record}
-use Rattle.cal_signal.specs.Records.{words_of, record_of, zero_record, MayFollow}
-use Rattle.cal_signal.specs.Pages.{last_published}
-use Rattle.cal_signal.specs.Rule.{parts_of}
+use Rattle.cal_signal.proofs.Common.{rules, ◌≡◌, ◌+◌, ◌*◌, ◌%◌, ◌++◌, ◌∷◌, [], length, ap, sym, ◌∙◌, subst, arith, length_push, Record, words_of, record_of, zero_record, MayFollow, last_published, parts_of}
 use Rattle.cal_signal.specs.Faults.{MayPublish}
 use Rattle.cal_signal.proofs.PageLists.{last_snoc}
 use Rattle.cal_signal.proofs.PageSteps.{M, publishes_of, opens, closes}

@@ -1,8 +1,4 @@
-use Rattle.std.proofs.Common.{[], ℕ, replicate, subst, sym}
-use Rattle.std.specs.List.{AllZip}
-use Rattle.cal_machine.specs.Table.{Table}
-use Rattle.cal_measure.specs.ThreadWork.{IsThreadWorkOf}
-use Rattle.cal_measure.specs.Walk.{IsWalkOf}
+use Rattle.cal_tables.proofs.Common.{[], ℕ, replicate, subst, sym, AllZip, Table, IsThreadWorkOf, IsWalkOf}
 use Rattle.cal_tables.proofs.collecting.OpenNumbers.open.Goals as goal
 
 pub returns-clause-nothing : goal.returns-clause-nothing

@@ -1,19 +1,13 @@
-use Rattle.std.proofs.Common.{◌≡◌, ◌∙◌, ◌<◌, ◌≤◌, ◌++◌, ◌∷◌, [], List, slice_get, get_or, length, length-append, take, ap, subst, sym, arith}
+use Rattle.cal_tables.proofs.Common.{◌≡◌, ◌∙◌, ◌<◌, ◌≤◌, ◌++◌, ◌∷◌, [], List, slice_get, get_or, length, length-append, take, ap, subst, sym, arith, get_or_from_slice_get, Table, IsWalkOf, IsLegalBy, PassEntry, figures_of}
 use Rattle.std.specs.List.{All}
-use Rattle.std.proofs.lemmas.Option.{get_or_from_slice_get}
-use Rattle.cal_machine.specs.Table.{Table}
 use Rattle.cal_measure.proofs.OneMore.{slice_here}
-use Rattle.cal_measure.specs.Walk.{IsWalkOf}
 use Rattle.cal_policy.specs.Board.{NamesTable}
 use Rattle.cal_policy.specs.History.{actions_of}
-use Rattle.cal_policy.specs.Policies.{IsLegalBy}
 use Rattle.cal_laws.specs.Point.{Point}
 use Rattle.cal_policy.specs.State.{IsReady, IsStateAfter}
 use Rattle.cal_policy.specs.declared.history.action.Action.{Action}
-use Rattle.cal_policy.specs.declared.history.entry.PassEntry.{PassEntry}
 use Rattle.cal_policy.specs.declared.history.entry.TheConstants.{MOST_PASSES}
 use Rattle.cal_policy.proofs.BoardLemmas.StateKept.{names_of_fitting}
-use Rattle.cal_run.specs.Outcome.{figures_of}
 use Rattle.cal_run.specs.Parts.{SchedulerSeat}
 use Rattle.cal_trace.specs.declared.arrivals.GivenPass.{GivenPass}
 use Rattle.cal_tables.proofs.collecting.OpenNumbers.pass.Goals as goal

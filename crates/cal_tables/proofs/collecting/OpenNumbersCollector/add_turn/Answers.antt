@@ -1,7 +1,4 @@
-use Rattle.std.proofs.Common.{◌∙◌, subst, sym}
-use Rattle.cal_machine.specs.Table.{Table}
-use Rattle.cal_measure.specs.Walk.{IsOpenFor, IsWalkOf}
-use Rattle.cal_measure.specs.declared.walk.Walk.{Walk}
+use Rattle.cal_tables.proofs.Common.{◌∙◌, subst, sym, Table, IsOpenFor, IsWalkOf, Walk}
 use Rattle.cal_tables.proofs.collecting.OpenNumbersCollector.add_turn.Goals as goal
 
 pub returns-clause-suits : goal.returns-clause-suits

@@ -1,10 +1,6 @@
-use Rattle.std.proofs.Common.{◌∙◌, subst, sym}
-use Rattle.std.specs.List.{AllZip}
+use Rattle.cal_tables.proofs.Common.{◌∙◌, subst, sym, AllZip, Table, IsThreadWorkOf, IsOpenFor, IsWalkOf}
 use Rattle.std.specs.declared.alloc.Global.{Global}
 use Rattle.std.specs.declared.vec.Vec.{Vec}
-use Rattle.cal_machine.specs.Table.{Table}
-use Rattle.cal_measure.specs.ThreadWork.{IsThreadWorkOf}
-use Rattle.cal_measure.specs.Walk.{IsOpenFor, IsWalkOf}
 use Rattle.cal_measure.specs.declared.thread_work.ThreadWork.{ThreadWork}
 use Rattle.cal_tables.proofs.collecting.OpenNumbersCollector.make_pass.Goals as goal
 

@@ -1,10 +1,4 @@
-use Rattle.std.proofs.Common.{◌≡◌, ◌++◌, ◌∙◌, ◌∷◌, [], ap, map, sym, take}
-use Rattle.std.proofs.lemmas.List.{map-append}
-use Rattle.cal_measure.proofs.Steps.{grown}
-use Rattle.cal_tables.specs.Moved.{coming_moved_to, HasItsTask}
-use Rattle.cal_trace.proofs.ListLemmas.EachOne.{each_push}
-use Rattle.cal_trace.specs.History.Ranges.{Each}
-use Rattle.cal_trace.specs.declared.comings.Coming.{Coming}
+use Rattle.cal_tables.proofs.Common.{◌≡◌, ◌++◌, ◌∙◌, ◌∷◌, [], ap, map, sym, take, map-append, grown, coming_moved_to, HasItsTask, each_push, Each, Coming}
 use Rattle.cal_tables.proofs.moved.arrivals.each_moved.Goals as goal
 
 pub loop-coming-preserved : goal.loop-coming-preserved

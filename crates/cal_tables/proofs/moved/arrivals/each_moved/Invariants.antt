@@ -1,6 +1,4 @@
-use Rattle.std.proofs.Common.{◌≡◌, take}
-use Rattle.cal_tables.specs.Moved.{each_moved, HasItsTask}
-use Rattle.cal_trace.specs.History.Ranges.{Each}
+use Rattle.cal_tables.proofs.Common.{◌≡◌, take, each_moved, HasItsTask, Each}
 use Rattle.cal_tables.proofs.moved.arrivals.each_moved.Given as goal
 
 abbrev pub invariant-loop-coming : goal.invariant-loop-coming

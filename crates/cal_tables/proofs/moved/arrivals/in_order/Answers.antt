@@ -1,7 +1,5 @@
-use Rattle.std.proofs.Common.{◌≡◌, rules}
+use Rattle.cal_tables.proofs.Common.{◌≡◌, rules, IsNonDecreasingBy-from_sort_by_key, order_of}
 use Rattle.std.proofs.lemmas.Fn.{always_returns_same}
-use Rattle.std.proofs.lemmas.List.Sorted.{IsNonDecreasingBy-from_sort_by_key}
-use Rattle.cal_tables.specs.Moved.{order_of}
 use Rattle.cal_tables.proofs.moved.arrivals.in_order.Goals as goal
 
 pub returns : goal.returns

@@ -1,8 +1,4 @@
-use Rattle.std.proofs.Common.{◌<◌, ℕ, List, length, rules, subst, sym}
-use Rattle.cal_tables.specs.Moved.{AreInOrder, each_moved}
-use Rattle.cal_trace.specs.History.Ranges.{Each}
-use Rattle.cal_trace.specs.declared.comings.Coming.{Coming}
-use Rattle.cal_tables.specs.declared.moved.arrivals.MovedArrivals.{MovedArrivals}
+use Rattle.cal_tables.proofs.Common.{◌<◌, ℕ, List, length, rules, subst, sym, AreInOrder, each_moved, Each, Coming, MovedArrivals}
 use Rattle.cal_tables.proofs.Moving.Places.{each_reordered, moved_fits, threads_fit, turns_fit}
 use Rattle.cal_tables.proofs.moved.arrivals.moved_arrivals.Goals as goal
 

@@ -1,7 +1,4 @@
-use Rattle.std.proofs.Common.{◌≡◌, ◌++◌, ◌∙◌, ◌∷◌, [], ap, map, sym, take}
-use Rattle.std.proofs.lemmas.List.{map-append}
-use Rattle.cal_measure.proofs.Steps.{grown}
-use Rattle.cal_tables.specs.Moved.{own_coming}
+use Rattle.cal_tables.proofs.Common.{◌≡◌, ◌++◌, ◌∙◌, ◌∷◌, [], ap, map, sym, take, map-append, grown, own_coming}
 use Rattle.cal_tables.proofs.moved.arrivals.own_comings.Goals as goal
 
 pub loop-arrival-preserved : goal.loop-arrival-preserved

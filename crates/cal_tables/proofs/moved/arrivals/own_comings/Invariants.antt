@@ -1,5 +1,4 @@
-use Rattle.std.proofs.Common.{◌≡◌, map, take}
-use Rattle.cal_tables.specs.Moved.{own_coming}
+use Rattle.cal_tables.proofs.Common.{◌≡◌, map, take, own_coming}
 use Rattle.cal_tables.proofs.moved.arrivals.own_comings.Given as goal
 
 abbrev pub invariant-loop-arrival : goal.invariant-loop-arrival

@@ -1,5 +1,4 @@
-use Rattle.std.proofs.Common.{◌≡◌}
-use Rattle.cal_tables.specs.Moved.{rows_below}
+use Rattle.cal_tables.proofs.Common.{◌≡◌, rows_below}
 use Rattle.cal_tables.proofs.moved.comings.left_out_rows.Given as goal
 
 abbrev pub invariant-loop-task : goal.invariant-loop-task

@@ -1,5 +1,4 @@
-use Rattle.std.proofs.Common.{◌≡◌, length, take}
-use Rattle.cal_tables.specs.Moved.{ArePlaced}
+use Rattle.cal_tables.proofs.Common.{◌≡◌, length, take, ArePlaced}
 use Rattle.cal_tables.specs.Placing.{IsFreeAfter}
 use Rattle.cal_tables.proofs.moved.placing.each_placed.Given as goal
 

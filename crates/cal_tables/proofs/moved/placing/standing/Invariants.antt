@@ -1,5 +1,4 @@
-use Rattle.std.proofs.Common.{◌≡◌, take}
-use Rattle.cal_tables.specs.Moved.{standing}
+use Rattle.cal_tables.proofs.Common.{◌≡◌, take, standing}
 use Rattle.cal_tables.proofs.moved.placing.standing.Given as goal
 
 abbrev pub invariant-loop-one : goal.invariant-loop-one

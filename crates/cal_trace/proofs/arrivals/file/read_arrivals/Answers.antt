@@ -1,5 +1,4 @@
-use Rattle.cal_machine.specs.Tasks.{threads_in}
-use Rattle.cal_trace.specs.Rows.{rows_of}
+use Rattle.cal_trace.proofs.Common.{threads_in, rows_of}
 use Rattle.cal_trace.proofs.ArrivalsFit.{given_fit}
 use Rattle.cal_trace.proofs.arrivals.file.read_arrivals.Goals as goal
 

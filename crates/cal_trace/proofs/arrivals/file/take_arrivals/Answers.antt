@@ -1,9 +1,5 @@
-use Rattle.std.proofs.Common.{ap, codes}
-use Rattle.std.proofs.lemmas.Result.{err_from_is_err_and}
-use Rattle.cal_trace.specs.Arrivals.{at_start, take_row, whole}
-use Rattle.cal_trace.specs.Rows.Header.{header_of, in_version_one}
-use Rattle.cal_trace.specs.Rows.Reading.{read_under}
-use Rattle.cal_trace.specs.Rows.{rest_of}
+use Rattle.cal_trace.proofs.Common.{ap, codes, err_from_is_err_and, take_row, header_of, in_version_one, read_under, rest_of}
+use Rattle.cal_trace.specs.Arrivals.{at_start, whole}
 use Rattle.cal_trace.proofs.RowLemmas.Readings.{no_header}
 use Rattle.cal_trace.proofs.arrivals.file.take_arrivals.Goals as goal
 

@@ -1,8 +1,5 @@
-use Rattle.std.proofs.Common.{ap}
-use Rattle.std.proofs.lemmas.Result.{err_from_is_err_and}
+use Rattle.cal_trace.proofs.Common.{ap, err_from_is_err_and, read_under, rest_of}
 use Rattle.cal_trace.specs.Comings.{at_start, below_header, take_row, whole}
-use Rattle.cal_trace.specs.Rows.Reading.{read_under}
-use Rattle.cal_trace.specs.Rows.{rest_of}
 use Rattle.cal_trace.proofs.RowLemmas.Readings.{no_header}
 use Rattle.cal_trace.proofs.comings.file.take_comings.Goals as goal
 

@@ -1,7 +1,4 @@
-use Rattle.std.proofs.Common.{take, map}
-use Rattle.std.specs.Io.KnownBytes.{Appends}
-use Rattle.cal_trace.specs.Comings.Text.{left_out_fields}
-use Rattle.cal_trace.specs.History.Text.{lines_of}
+use Rattle.cal_trace.proofs.Common.{take, map, Appends, left_out_fields, lines_of}
 use Rattle.cal_trace.proofs.comings.text.write_left_out.Given as goal
 
 abbrev pub invariant-loop-of_task : goal.invariant-loop-of_task

@@ -1,7 +1,4 @@
-use Rattle.std.proofs.Common.{take, map}
-use Rattle.std.specs.Io.KnownBytes.{Appends}
-use Rattle.cal_trace.specs.Comings.Text.{coming_fields}
-use Rattle.cal_trace.specs.History.Text.{lines_of}
+use Rattle.cal_trace.proofs.Common.{take, map, Appends, coming_fields, lines_of}
 use Rattle.cal_trace.proofs.comings.text.write_requests.Given as goal
 
 abbrev pub invariant-loop-coming : goal.invariant-loop-coming

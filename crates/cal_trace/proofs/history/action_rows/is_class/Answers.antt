@@ -1,7 +1,5 @@
 -- The classes have the numbers 1 to 5.
-use Rattle.std.proofs.Common.{◌≡◌, ◌≢◌, ◌&&◌, ◌∙◌, ℕ, Bool, true, false, nat_le, Option, Some, None, refl, sym, subst, arith}
-use Rattle.std.specs.Option.{MatchOption, is_some}
-use Rattle.std.proofs.lemmas.Bool.{and_parts, leb-true}
+use Rattle.cal_trace.proofs.Common.{◌≡◌, ◌≢◌, ◌&&◌, ◌∙◌, ℕ, Bool, true, false, nat_le, Option, Some, None, refl, sym, subst, arith, MatchOption, is_some, and_parts, leb-true}
 use Rattle.cal_policy.specs.declared.history.core_class.CoreClass.{CoreClass}
 use Rattle.cal_policy.specs.declared.history.core_class.CoreClass.TheVariants as classes
 use Rattle.cal_policy.specs.History.CoreClasses.{class_number}

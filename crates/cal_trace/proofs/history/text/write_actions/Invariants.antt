@@ -1,6 +1,4 @@
-use Rattle.std.proofs.Common.{take, map}
-use Rattle.std.specs.Io.KnownBytes.{Appends}
-use Rattle.cal_trace.specs.History.Text.{action_fields, lines_of}
+use Rattle.cal_trace.proofs.Common.{take, map, Appends, action_fields, lines_of}
 use Rattle.cal_trace.proofs.history.text.write_actions.Given as goal
 
 abbrev pub invariant-loop-action : goal.invariant-loop-action

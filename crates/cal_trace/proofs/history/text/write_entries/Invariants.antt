@@ -1,7 +1,4 @@
-use Rattle.std.proofs.Common.{take}
-use Rattle.std.specs.List.{flat_map}
-use Rattle.std.specs.Io.KnownBytes.{Appends}
-use Rattle.cal_trace.specs.History.Text.{entry_rows, lines_of}
+use Rattle.cal_trace.proofs.Common.{take, flat_map, Appends, entry_rows, lines_of}
 use Rattle.cal_trace.proofs.history.text.write_entries.Given as goal
 
 abbrev pub invariant-loop-entry : goal.invariant-loop-entry

@@ -1,6 +1,4 @@
-use Rattle.std.proofs.Common.{take}
-use Rattle.std.specs.Io.KnownBytes.{Appends}
-use Rattle.cal_trace.specs.History.Text.{look_rows, lines_of}
+use Rattle.cal_trace.proofs.Common.{take, Appends, look_rows, lines_of}
 use Rattle.cal_trace.proofs.history.text.write_looks.Given as goal
 
 abbrev pub invariant-loop-thread : goal.invariant-loop-thread

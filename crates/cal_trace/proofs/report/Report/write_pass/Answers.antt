@@ -1,7 +1,4 @@
-use Rattle.std.proofs.Common.{subst, sym, List, ℕ}
-use Rattle.std.specs.Io.KnownBytes.{Appends}
-use Rattle.std.proofs.KnownBytes.{Appends-trans}
-use Rattle.cal_trace.specs.Report.{pass_text}
+use Rattle.cal_trace.proofs.Common.{subst, sym, List, ℕ, Appends, Appends-trans, pass_text}
 use Rattle.cal_trace.proofs.ListLemmas.Numbered.{text-end}
 use Rattle.cal_trace.proofs.report.Report.write_pass.Goals as goal
 

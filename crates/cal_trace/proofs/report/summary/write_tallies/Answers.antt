@@ -1,9 +1,6 @@
-use Rattle.std.proofs.Common.{◌≡◌, ◌<◌, [], List, length, get_or, take, slice_index_or, ap, subst, ◌∙◌, arith}
-use Rattle.std.specs.Io.KnownBytes.{Appends}
+use Rattle.cal_trace.proofs.Common.{◌≡◌, ◌<◌, [], List, length, get_or, take, slice_index_or, ap, subst, ◌∙◌, arith, Appends, Entry, IsTallyOf, thread_line, thread_lines}
 use Rattle.std.proofs.lemmas.Slice.Zip.{AllZip-long}
 use Rattle.std.proofs.Math.Seq.{take-length}
-use Rattle.cal_kthread.specs.declared.journal.entry.Entry.{Entry}
-use Rattle.cal_trace.specs.Report.Summary.{IsTallyOf, thread_line, thread_lines}
 use Rattle.cal_trace.proofs.ListLemmas.Numbered.{one_numbered}
 use Rattle.cal_trace.proofs.Tallies.{tally_at}
 use Rattle.cal_trace.proofs.report.summary.write_tallies.Goals as goal

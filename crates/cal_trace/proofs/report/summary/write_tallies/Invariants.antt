@@ -1,8 +1,4 @@
-use Rattle.std.proofs.Common.{List, take}
-use Rattle.std.specs.List.{AllZip}
-use Rattle.std.specs.Io.KnownBytes.{Appends}
-use Rattle.cal_kthread.specs.declared.journal.entry.Entry.{Entry}
-use Rattle.cal_trace.specs.Report.Summary.{IsTallyOf, thread_lines}
+use Rattle.cal_trace.proofs.Common.{List, take, AllZip, Appends, Entry, IsTallyOf, thread_lines}
 use Rattle.cal_trace.proofs.report.summary.write_tallies.Given as goal
 
 abbrev pub invariant-loop-thread : goal.invariant-loop-thread

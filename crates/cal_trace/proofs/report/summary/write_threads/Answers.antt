@@ -1,6 +1,4 @@
-use Rattle.std.proofs.Common.{[], List, slice_index_or, subst}
-use Rattle.cal_kthread.specs.declared.journal.entry.Entry.{Entry}
-use Rattle.cal_trace.specs.Report.Summary.{IsTallyOf, thread_line}
+use Rattle.cal_trace.proofs.Common.{[], List, slice_index_or, subst, Entry, IsTallyOf, thread_line}
 use Rattle.cal_trace.proofs.ListLemmas.Numbered.{one_numbered_at}
 use Rattle.cal_trace.proofs.report.summary.write_threads.Goals as goal
 

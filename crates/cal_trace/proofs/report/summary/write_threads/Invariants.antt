@@ -1,6 +1,4 @@
-use Rattle.std.proofs.Common.{take}
-use Rattle.std.specs.Io.KnownBytes.{Appends}
-use Rattle.cal_trace.specs.Report.Summary.{thread_lines}
+use Rattle.cal_trace.proofs.Common.{take, Appends, thread_lines}
 use Rattle.cal_trace.proofs.report.summary.write_threads.Given as goal
 
 abbrev pub invariant-loop-thread : goal.invariant-loop-thread

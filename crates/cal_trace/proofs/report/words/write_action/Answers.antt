@@ -1,5 +1,4 @@
-use Rattle.std.proofs.KnownBytes.{Appends-trans}
-use Rattle.std.proofs.lemmas.Result.{on_ok_weaker}
+use Rattle.cal_trace.proofs.Common.{Appends-trans, on_ok_weaker}
 use Rattle.cal_trace.proofs.report.words.write_action.Goals as goal
 
 pub returns-in_ok-write-in-Revoke : goal.returns-in_ok-write-in-Revoke

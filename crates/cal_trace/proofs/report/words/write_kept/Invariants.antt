@@ -1,5 +1,4 @@
-use Rattle.std.proofs.Common.{take}
-use Rattle.std.specs.Io.KnownBytes.{Appends}
+use Rattle.cal_trace.proofs.Common.{take, Appends}
 use Rattle.cal_trace.specs.Report.Words.{kept_lines}
 use Rattle.cal_trace.proofs.report.words.write_kept.Given as goal
 

@@ -1,5 +1,4 @@
-use Rattle.std.proofs.Common.{◌<◌, ◌≤◌, ◌∙◌, sym, length}
-use Rattle.csv.specs.Records.{fields_of}
+use Rattle.cal_trace.proofs.Common.{◌<◌, ◌≤◌, ◌∙◌, sym, length, fields_of}
 use Rattle.cal_trace.proofs.RowLemmas.Numbers.{no_number, one_number, no_more}
 use Rattle.cal_trace.proofs.rows.fields.has_numbers.Goals as goal
 

@@ -1,6 +1,4 @@
-use Rattle.std.proofs.Common.{◌≡◌, drop}
-use Rattle.cal_trace.specs.Rows.RowFields.{all_numbers}
-use Rattle.csv.specs.Records.{fields_of}
+use Rattle.cal_trace.proofs.Common.{◌≡◌, drop, all_numbers, fields_of}
 use Rattle.cal_trace.proofs.rows.fields.has_numbers.Given as goal
 
 abbrev pub invariant-loop-place : goal.invariant-loop-place

@@ -1,11 +1,6 @@
 -- Each number is put at its place, and no field past the row's end is one.
-use Rattle.std.proofs.Common.{◌≡◌, ◌<◌, ◌≤◌, ◌+◌, ℕ, zero, suc, Bool, true, false, List, [], ◌∷◌, cond, eqb, length, get_or, Some, None, refl, sym, ap, ◌∙◌, subst, arith, ⊎_elim}
-use Rattle.std.proofs.lemmas.Bool.{cases_lt}
-use Rattle.std.proofs.lemmas.Bool.Decides.{nat_tests}
-use Rattle.std.specs.Option.{is_some, unwrap_or}
-use Rattle.csv.specs.Records.{fields_of, field_at}
-use Rattle.cal_trace.specs.Rows.{Fields}
-use Rattle.cal_trace.specs.Rows.RowFields.{number_in, number_at}
+use Rattle.cal_trace.proofs.Common.{◌≡◌, ◌<◌, ◌≤◌, ◌+◌, ℕ, zero, suc, Bool, true, false, List, [], ◌∷◌, cond, eqb, length, get_or, Some, None, refl, sym, ap, ◌∙◌, subst, arith, ⊎_elim, cases_lt, nat_tests, is_some, fields_of, field_at, Fields, number_in, number_at}
+use Rattle.std.specs.Option.{unwrap_or}
 use Rattle.cal_trace.proofs.RowLemmas.Numbers.{no_number, one_number, no_more}
 use Rattle.cal_trace.proofs.rows.fields.numbers_of.Goals as goal
 

@@ -1,7 +1,5 @@
-use Rattle.std.proofs.Common.{◌≡◌, ◌<◌, ◌≤◌, ℕ, drop, get_or}
-use Rattle.cal_trace.specs.Rows.RowFields.{all_numbers, number_at}
+use Rattle.cal_trace.proofs.Common.{◌≡◌, ◌<◌, ◌≤◌, ℕ, drop, get_or, all_numbers, number_at, fields_of}
 use Rattle.cal_trace.specs.declared.rows.fields.TheConstants.{RECORD_FIELDS}
-use Rattle.csv.specs.Records.{fields_of}
 use Rattle.cal_trace.proofs.rows.fields.numbers_of.Given as goal
 
 abbrev pub invariant-loop-place : goal.invariant-loop-place

@@ -1,5 +1,4 @@
-use Rattle.std.proofs.Common.{◌≡◌, drop}
-use Rattle.cal_trace.specs.Rows.Number.{digits_of}
+use Rattle.cal_trace.proofs.Common.{◌≡◌, drop, digits_of}
 use Rattle.cal_trace.proofs.rows.number.digits.Given as goal
 
 abbrev pub invariant-loop-digit : goal.invariant-loop-digit

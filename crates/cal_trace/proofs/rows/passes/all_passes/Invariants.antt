@@ -1,7 +1,4 @@
-use Rattle.std.proofs.Common.{◌≡◌, [], length}
-use Rattle.cal_trace.specs.Rows.Reading.{read_on}
-use Rattle.cal_trace.specs.Rows.SoFar.{whole}
-use Rattle.cal_trace.specs.Rows.{IsReading, rest_of}
+use Rattle.cal_trace.proofs.Common.{◌≡◌, [], length, read_on, whole, IsReading, rest_of}
 use Rattle.cal_trace.proofs.rows.passes.all_passes.Given as goal
 
 -- the passes so far and what is left to read give what the start did

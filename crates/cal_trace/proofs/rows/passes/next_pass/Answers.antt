@@ -1,6 +1,4 @@
-use Rattle.std.proofs.Common.{◌≡◌, ◌∙◌, Ok, ap, sym, subst, length, arith}
-use Rattle.std.proofs.lemmas.List.{append-nil}
-use Rattle.cal_trace.specs.Rows.{row_at}
+use Rattle.cal_trace.proofs.Common.{◌≡◌, ◌∙◌, Ok, ap, sym, subst, length, arith, append-nil, row_at}
 use Rattle.cal_trace.proofs.RowLemmas.Readings.{more_rows, bad_row, no_row}
 use Rattle.cal_trace.proofs.rows.passes.next_pass.Goals as goal
 

@@ -1,7 +1,4 @@
-use Rattle.std.proofs.Common.{◌≡◌, ◌≤◌, List, length}
-use Rattle.cal_trace.specs.Rows.Reading.{read_on}
-use Rattle.cal_trace.specs.Rows.SoFar.{whole}
-use Rattle.cal_trace.specs.Rows.{IsReading, rest_of}
+use Rattle.cal_trace.proofs.Common.{◌≡◌, ◌≤◌, List, length, read_on, whole, IsReading, rest_of}
 use Rattle.cal_trace.proofs.rows.passes.next_pass.Given as goal
 
 -- no pass was handed out since the start

@@ -1,5 +1,4 @@
-use Rattle.std.proofs.Common.{◌∙◌}
-use Rattle.cal_trace.specs.Rows.{row_at}
+use Rattle.cal_trace.proofs.Common.{◌∙◌, row_at}
 use Rattle.cal_trace.proofs.RowLemmas.Readings.{more_rows, bad_row, no_row}
 use Rattle.cal_trace.proofs.rows.reading.take_rows.Goals as goal
 

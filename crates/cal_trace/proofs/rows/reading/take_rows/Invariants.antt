@@ -1,6 +1,4 @@
-use Rattle.std.proofs.Common.{◌≡◌, length}
-use Rattle.cal_trace.specs.Rows.Reading.{read_on}
-use Rattle.cal_trace.specs.Rows.{IsReading, rest_of}
+use Rattle.cal_trace.proofs.Common.{◌≡◌, length, read_on, IsReading, rest_of}
 use Rattle.cal_trace.proofs.rows.reading.take_rows.Given as goal
 
 -- what is left to read says the same of the whole as the start did

@@ -1,13 +1,7 @@
 -- The words that were copied are the numbers at their places.
-use Rattle.std.proofs.Common.{◌≡◌, ◌≤◌, ◌<◌, ◌+◌, ◌∙◌, ℕ, List, length, take, drop, get_or, slice_index, refl, sym, ap, arith}
-use Rattle.std.proofs.lemmas.Grind.{same_number_lists}
-use Rattle.std.proofs.lemmas.List.{get_or-take, get_or-drop}
+use Rattle.cal_trace.proofs.Common.{◌≡◌, ◌≤◌, ◌<◌, ◌+◌, ◌∙◌, ℕ, List, length, take, drop, get_or, slice_index, refl, sym, ap, arith, same_number_lists, get_or-take, get_or-drop, WORDS, number_at, shown_words, Fields}
 use Rattle.std.proofs.lemmas.List.FromFn.{length-map-range_with_len, get_or-map-range_with_len}
 use Rattle.cal_signal.specs.Records as records
-use Rattle.cal_signal.specs.declared.record.TheConstants.{WORDS}
-use Rattle.cal_trace.specs.Rows.RowFields.{number_at}
-use Rattle.cal_trace.specs.Rows.Shown.{shown_words}
-use Rattle.cal_trace.specs.Rows.{Fields}
 use Rattle.cal_trace.specs.declared.rows.fields.TheConstants.{FIRST_WORD, RECORD_FIELDS}
 use Rattle.cal_trace.proofs.rows.shown.record_of.Goals as goal
 

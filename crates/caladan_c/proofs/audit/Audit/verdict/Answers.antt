@@ -1,6 +1,4 @@
-use Rattle.std.proofs.Common.{List, subst}
-use Rattle.cal_policy.specs.Policies.{IsVerdictBy}
-use Rattle.cal_policy.specs.declared.history.entry.PassEntry.{PassEntry}
+use Rattle.caladan_c.proofs.Common.{List, subst, IsVerdictBy, PassEntry}
 use Rattle.cal_policy.specs.declared.policy.Policy.{Policy}
 use Rattle.caladan_c.specs.AuditView.{AuditView, HasAudited}
 use Rattle.caladan_c.proofs.audit.Audit.verdict.Goals as goal

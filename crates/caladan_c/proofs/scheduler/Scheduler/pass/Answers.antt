@@ -1,16 +1,5 @@
-use Rattle.std.proofs.Common.{◌≡◌, List, map, sym, ap, subst, ◌∙◌}
-use Rattle.cal_machine.specs.TableTasks.{threads_of_table}
-use Rattle.cal_policy.specs.declared.history.entry.PassEntry.{PassEntry}
-use Rattle.cal_policy.specs.Judgement.Judging.{IsInput}
-use Rattle.cal_policy.specs.Judgement.OpenPass.{IsOpenAt}
-use Rattle.caladan_c.specs.Found.{found_of, input_of_found}
+use Rattle.caladan_c.proofs.Common.{◌≡◌, List, map, sym, ap, subst, ◌∙◌, threads_of_table, PassEntry, IsInput, IsOpenAt, found_of, input_of_found, IsLegalBy, IsStateAfter, MadePass, AreJudgements, Standing, length-map}
 use Rattle.cal_policy.specs.Book.{board_in}
-use Rattle.cal_policy.specs.Policies.{IsLegalBy}
-use Rattle.cal_policy.specs.State.{IsStateAfter}
-use Rattle.caladan_c.specs.Passing.{MadePass}
-use Rattle.caladan_c.specs.Told.{AreJudgements}
-use Rattle.caladan_c.specs.Standing.{Standing}
-use Rattle.std.proofs.lemmas.List.{length-map}
 use Rattle.caladan_c.proofs.Passed.{passed_after}
 use Rattle.caladan_c.proofs.Walked.{told_as_judged}
 use Rattle.caladan_c.proofs.scheduler.Scheduler.pass.Goals as goal

@@ -1,15 +1,5 @@
-use Rattle.std.proofs.Common.{◌≡◌, List, map, sym, ap, subst, ◌∙◌}
-use Rattle.cal_machine.specs.TableTasks.{threads_of_table}
-use Rattle.cal_policy.specs.declared.history.entry.PassEntry.{PassEntry}
-use Rattle.cal_policy.specs.Judgement.Judging.{IsInput}
-use Rattle.cal_policy.specs.Judgement.OneByOne.{taken_looks}
-use Rattle.caladan_c.specs.Found.{found_of}
-use Rattle.caladan_c.specs.OneByOne.{input_of_each, AreSaid, IsTakenAt}
+use Rattle.caladan_c.proofs.Common.{◌≡◌, List, map, sym, ap, subst, ◌∙◌, threads_of_table, PassEntry, IsInput, taken_looks, found_of, input_of_each, AreSaid, IsTakenAt, IsLegalBy, IsStateAfter, MadePass, Standing}
 use Rattle.cal_policy.specs.Book.{board_in}
-use Rattle.cal_policy.specs.Policies.{IsLegalBy}
-use Rattle.cal_policy.specs.State.{IsStateAfter}
-use Rattle.caladan_c.specs.Passing.{MadePass}
-use Rattle.caladan_c.specs.Standing.{Standing}
 use Rattle.caladan_c.proofs.Passed.{passed_after}
 use Rattle.caladan_c.proofs.scheduler.Scheduler.pass_each.Goals as goal
 

@@ -1,16 +1,4 @@
-use Rattle.std.proofs.Common.{rules, ◌≡◌, List, map, refl, ap, sym, subst, ◌∙◌}
-use Rattle.std.proofs.lemmas.List.{length-map}
-use Rattle.cal_machine.specs.TableTasks.{threads_of_table}
-use Rattle.cal_policy.specs.declared.history.action.Action.{Action}
-use Rattle.cal_policy.specs.declared.history.entry.PassEntry.{PassEntry}
-use Rattle.cal_policy.specs.Judgement.Judging.{IsInput}
-use Rattle.cal_policy.specs.Judgement.OpenPass.{IsOpenAt}
-use Rattle.caladan_c.specs.Found.{found_of, input_of_found}
-use Rattle.cal_policy.specs.State.{IsStateAfter}
-use Rattle.cal_guard.specs.Guarded.{board_in}
-use Rattle.cal_guard.specs.Permitted.{IsPermittedHistory}
-use Rattle.caladan_c.specs.GuardView.{GuardView, WentThrough, WasStopped}
-use Rattle.caladan_c.specs.Told.{AreJudgements, told_of}
+use Rattle.caladan_c.proofs.Common.{rules, ◌≡◌, List, map, refl, ap, sym, subst, ◌∙◌, length-map, threads_of_table, Action, PassEntry, IsInput, IsOpenAt, found_of, input_of_found, IsStateAfter, board_in, IsPermittedHistory, GuardView, WentThrough, WasStopped, AreJudgements, told_of}
 use Rattle.caladan_c.proofs.Guarding.{went_through, was_stopped}
 use Rattle.caladan_c.proofs.Walked.{told_as_judged}
 use Rattle.caladan_c.proofs.table_guard.TableGuard.pass.Goals as goal

@@ -1,16 +1,4 @@
-use Rattle.std.proofs.Common.{rules, ◌≡◌, List, map, refl, sym, ap, subst, ◌∙◌}
-use Rattle.cal_machine.specs.TableTasks.{threads_of_table}
-use Rattle.cal_policy.specs.declared.history.action.Action.{Action}
-use Rattle.cal_policy.specs.declared.history.entry.PassEntry.{PassEntry}
-use Rattle.cal_policy.specs.Judgement.Judging.{IsInput}
-use Rattle.cal_policy.specs.Judgement.OneByOne.{taken_looks}
-use Rattle.caladan_c.specs.Found.{found_of}
-use Rattle.cal_policy.specs.State.{IsStateAfter}
-use Rattle.cal_guard.specs.Guarded.{board_in}
-use Rattle.cal_guard.specs.Permitted.{IsPermittedHistory}
-use Rattle.caladan_c.specs.GuardView.{GuardView, WentThrough, WasStopped}
-use Rattle.caladan_c.specs.OneByOne.{input_of_each, AreSaid, IsTakenAt}
-use Rattle.caladan_c.specs.Told.{told_of}
+use Rattle.caladan_c.proofs.Common.{rules, ◌≡◌, List, map, refl, sym, ap, subst, ◌∙◌, threads_of_table, Action, PassEntry, IsInput, taken_looks, found_of, IsStateAfter, board_in, IsPermittedHistory, GuardView, WentThrough, WasStopped, input_of_each, AreSaid, IsTakenAt, told_of}
 use Rattle.caladan_c.proofs.Guarding.{went_through, was_stopped}
 use Rattle.caladan_c.proofs.table_guard.TableGuard.pass_each.Goals as goal
 

@@ -1,5 +1,4 @@
-use Rattle.std.proofs.Common.{◌≡◌, ℕ, ◌<◌, ◌≤◌, ◌-◌, Some, length, slice_get}
-use Rattle.caladan_c.specs.Told.{judgement_at}
+use Rattle.caladan_c.proofs.Common.{◌≡◌, ℕ, ◌<◌, ◌≤◌, ◌-◌, Some, length, slice_get, judgement_at}
 use Rattle.caladan_c.proofs.told.judgement.tell_looks.Given as goal
 
 abbrev pub invariant-loop-k : goal.invariant-loop-k

@@ -1,5 +1,4 @@
-use Rattle.std.proofs.Common.{sym, ◌∙◌}
-use Rattle.std.proofs.lemmas.Result.{on_ok_weaker, IfErr-weaker}
+use Rattle.cal_engine.proofs.Common.{sym, ◌∙◌, on_ok_weaker, IfErr-weaker}
 use Rattle.cal_engine.proofs.Telling.{told_more}
 use Rattle.cal_engine.proofs.jobs.telling.TellingCollector.make_pass.Goals as goal
 

@@ -1,6 +1,4 @@
-use Rattle.std.proofs.Common.{[], ℕ, replicate, subst}
-use Rattle.std.specs.List.{AllZip}
-use Rattle.cal_measure.specs.ThreadWork.{IsThreadWorkOf}
+use Rattle.cal_facts.proofs.Common.{[], ℕ, replicate, subst, AllZip, IsThreadWorkOf}
 use Rattle.cal_facts.proofs.requests.collecting.OpenRequests.open.Goals as goal
 
 pub returns : goal.returns

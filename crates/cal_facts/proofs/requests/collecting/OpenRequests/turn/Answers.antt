@@ -1,8 +1,6 @@
-use Rattle.std.proofs.Common.{◌≡◌, ◌++◌, ℕ, get_or, sym, subst, arith}
-use Rattle.std.proofs.lemmas.Option.{slice_get_within}
+use Rattle.cal_facts.proofs.Common.{◌≡◌, ◌++◌, ℕ, get_or, sym, subst, arith, slice_get_within, IsThreadWorkOf}
 use Rattle.std.proofs.lemmas.Slice.Zip.{AllZip-long}
 use Rattle.cal_kthread.specs.Turn.Entries.{entries_of}
-use Rattle.cal_measure.specs.ThreadWork.{IsThreadWorkOf}
 use Rattle.cal_measure.specs.declared.thread_work.ThreadWork.{ThreadWork}
 use Rattle.cal_run.proofs.CollectorLemmas.HeldOfEach.{held_after, held_at}
 use Rattle.cal_facts.proofs.requests.collecting.OpenRequests.turn.Goals as goal

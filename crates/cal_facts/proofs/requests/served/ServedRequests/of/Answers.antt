@@ -1,10 +1,6 @@
-use Rattle.std.proofs.Common.{◌≡◌, ◌++◌, ◌∙◌, ◌+◌, ℕ, List, map, take, get_or, length, sym, ap, subst, arith}
-use Rattle.std.proofs.Math.Seq.{take-length}
+use Rattle.cal_facts.proofs.Common.{◌≡◌, ◌++◌, ◌∙◌, ◌+◌, ℕ, List, map, take, get_or, length, sym, ap, subst, arith, take-length, ThreadTotals, AreServed, served_by, Served}
 use Rattle.cal_measure.specs.declared.services.Service.{Service}
-use Rattle.cal_measure.specs.declared.thread_work.totals.ThreadTotals.{ThreadTotals}
 use Rattle.cal_facts.proofs.ServedLemmas.{totals_from, totals_more, totals_told}
-use Rattle.cal_facts.specs.Served.{AreServed, served_by}
-use Rattle.cal_facts.specs.declared.requests.served.Served.{Served}
 use Rattle.cal_facts.proofs.requests.served.ServedRequests.of.Goals as goal
 
 pub loop-thread-preserved : goal.loop-thread-preserved

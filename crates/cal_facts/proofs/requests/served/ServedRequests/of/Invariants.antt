@@ -1,6 +1,5 @@
-use Rattle.std.proofs.Common.{take}
+use Rattle.cal_facts.proofs.Common.{take, AreServed}
 use Rattle.cal_facts.proofs.ServedLemmas.{totals_from}
-use Rattle.cal_facts.specs.Served.{AreServed}
 use Rattle.cal_facts.proofs.requests.served.ServedRequests.of.Given as goal
 
 abbrev pub invariant-loop-thread : goal.invariant-loop-thread

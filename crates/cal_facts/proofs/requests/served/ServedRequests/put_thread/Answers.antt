@@ -1,10 +1,6 @@
-use Rattle.std.proofs.Common.{◌≡◌, ◌++◌, ◌∷◌, ◌∙◌, ◌<◌, ◌+◌, [], ℕ, nat_eq, cond, List, Option, Some, map, take, get_or, length, sym, ap, subst, append_assoc}
-use Rattle.std.proofs.lemmas.List.{map-append, take_more}
-use Rattle.cal_policy.proofs.ListLemmas.OneMore.{last_of_push, or_if}
+use Rattle.cal_facts.proofs.Common.{◌≡◌, ◌++◌, ◌∷◌, ◌∙◌, ◌<◌, ◌+◌, [], ℕ, nat_eq, cond, List, Option, Some, map, take, get_or, length, sym, ap, subst, append_assoc, map-append, take_more, last_of_push, or_if, AreServed, served_by, service_of, told_of, Served}
 use Rattle.cal_policy.specs.History.Lists.{last_of}
 use Rattle.cal_measure.specs.declared.services.Service.{Service}
-use Rattle.cal_facts.specs.Served.{AreServed, served_by, service_of, told_of}
-use Rattle.cal_facts.specs.declared.requests.served.Served.{Served}
 use Rattle.cal_facts.specs.declared.requests.served.ServedRequests.{ServedRequests}
 use Rattle.cal_facts.proofs.requests.served.ServedRequests.put_thread.Goals as goal
 

@@ -1,6 +1,4 @@
-use Rattle.std.proofs.Common.{◌++◌, List, map, take}
-use Rattle.cal_facts.specs.Served.{AreServed, served_by}
-use Rattle.cal_facts.specs.declared.requests.served.Served.{Served}
+use Rattle.cal_facts.proofs.Common.{◌++◌, List, map, take, AreServed, served_by, Served}
 use Rattle.cal_facts.proofs.requests.served.ServedRequests.put_thread.Given as goal
 
 abbrev pub invariant-loop-service : goal.invariant-loop-service

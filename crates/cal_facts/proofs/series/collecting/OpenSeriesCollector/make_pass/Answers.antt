@@ -1,16 +1,7 @@
-use Rattle.std.proofs.Common.{◌≡◌, ◌++◌, ◌∷◌, ◌∙◌, [], List, length, get_or, slice_get, subst, sym, ap}
-use Rattle.std.proofs.lemmas.Option.{get_or_from_slice_get}
-use Rattle.cal_machine.specs.Table.{Table}
-use Rattle.cal_policy.proofs.ListLemmas.OneMore.{each_of_push}
-use Rattle.cal_policy.specs.State.{IsReady, IsStateAfter}
-use Rattle.cal_policy.specs.declared.history.entry.PassEntry.{PassEntry}
+use Rattle.cal_facts.proofs.Common.{◌≡◌, ◌++◌, ◌∷◌, ◌∙◌, [], List, length, get_or, slice_get, subst, sym, ap, get_or_from_slice_get, Table, each_of_push, IsReady, IsStateAfter, PassEntry, GivenPass, IsPassAt, points_of, series_of, Point}
 use Rattle.cal_run.specs.Outcome.{figures_of}
 use Rattle.cal_run.specs.Parts.{SchedulerSeat}
-use Rattle.cal_trace.specs.declared.arrivals.GivenPass.{GivenPass}
 use Rattle.cal_facts.proofs.MoveLemmas.{passed_count}
-use Rattle.cal_facts.specs.PassAt.{IsPassAt}
-use Rattle.cal_facts.specs.Series.{points_of, series_of}
-use Rattle.cal_facts.specs.declared.series.point.Point.{Point}
 use Rattle.cal_facts.proofs.series.collecting.OpenSeriesCollector.make_pass.Goals as goal
 
 -- the state is of the table

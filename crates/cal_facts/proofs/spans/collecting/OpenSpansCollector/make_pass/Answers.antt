@@ -1,9 +1,5 @@
-use Rattle.std.proofs.Common.{◌≡◌, ◌++◌, ◌∙◌, List, map, length, subst, sym, ap}
-use Rattle.cal_measure.specs.Spans.{Move, made_in, moves_of}
-use Rattle.cal_policy.specs.declared.history.action.Action.{Action}
-use Rattle.cal_policy.specs.declared.history.entry.PassEntry.{PassEntry}
+use Rattle.cal_facts.proofs.Common.{◌≡◌, ◌++◌, ◌∙◌, List, map, length, subst, sym, ap, Move, made_in, moves_of, Action, PassEntry, Gathers}
 use Rattle.cal_facts.proofs.MoveLemmas.{moves_passed, passed_count}
-use Rattle.cal_facts.specs.Stretches.{Gathers}
 use Rattle.cal_facts.proofs.spans.collecting.OpenSpansCollector.make_pass.Goals as goal
 
 pub returns-clause-collected : goal.returns-clause-collected

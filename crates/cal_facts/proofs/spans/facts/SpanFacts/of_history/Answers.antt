@@ -1,12 +1,5 @@
-use Rattle.std.proofs.Common.{◌≡◌, ◌+◌, ◌++◌, ◌∙◌, ℕ, List, map, take, get_or, length, ap, sym, subst, arith}
-use Rattle.std.proofs.Math.Seq.{take-length}
+use Rattle.cal_facts.proofs.Common.{◌≡◌, ◌+◌, ◌++◌, ◌∙◌, ℕ, List, map, take, get_or, length, ap, sym, subst, arith, take-length, Move, made_in, moves_of, spans_of, Action, PassEntry, bans_of, Gathers}
 use Rattle.cal_measure.proofs.SpanLemmas.StaysKept.{moves-more}
-use Rattle.cal_measure.specs.Spans.{Move, made_in, moves_of}
-use Rattle.cal_policy.specs.declared.history.action.Action.{Action}
-use Rattle.cal_policy.specs.declared.history.entry.PassEntry.{PassEntry}
-use Rattle.cal_facts.specs.Bans.{bans_of}
-use Rattle.cal_facts.specs.Stretches.{Gathers}
-use Rattle.cal_measure.specs.Spans.{spans_of}
 use Rattle.cal_facts.proofs.spans.facts.SpanFacts.of_history.Goals as goal
 
 pub loop-pass-preserved : goal.loop-pass-preserved

@@ -1,9 +1,5 @@
-use Rattle.std.proofs.Common.{◌∙◌, ℕ, List, map, ap, sym}
-use Rattle.cal_measure.specs.Spans.{moves_of, spans_of}
+use Rattle.cal_facts.proofs.Common.{◌∙◌, ℕ, List, map, ap, sym, moves_of, spans_of, on_given, GivenPass, bans_of}
 use Rattle.cal_tables.proofs.PassClocks.{clocks_given}
-use Rattle.cal_tables.proofs.Planning.{on_given}
-use Rattle.cal_trace.specs.declared.arrivals.GivenPass.{GivenPass}
-use Rattle.cal_facts.specs.Bans.{bans_of}
 use Rattle.cal_facts.proofs.spans.facts.SpanFacts.of_run.Goals as goal
 
 pub returns-clause-facts : goal.returns-clause-facts

@@ -1,6 +1,4 @@
-use Rattle.std.proofs.Common.{◌∙◌, ◌++◌, ap}
-use Rattle.cal_measure.specs.Spans.{open_of}
-use Rattle.cal_facts.specs.Bans.{open_bans}
+use Rattle.cal_facts.proofs.Common.{◌∙◌, ◌++◌, ap, open_of, open_bans}
 use Rattle.cal_facts.proofs.spans.gathering.Gathering.into_lists.Goals as goal
 
 pub returns-clause-spans : goal.returns-clause-spans

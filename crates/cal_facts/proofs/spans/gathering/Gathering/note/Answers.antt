@@ -1,9 +1,6 @@
-use Rattle.std.proofs.Common.{◌∙◌, ◌++◌, ap, sym}
+use Rattle.cal_facts.proofs.Common.{◌∙◌, ◌++◌, ap, sym, ended_of, made_in, each_of_push, lifted_in, lifted_of}
 use Rattle.cal_measure.proofs.SpanLemmas.StaysKept.{ended_push}
-use Rattle.cal_measure.specs.Spans.{ended_of, made_in}
 use Rattle.cal_measure.specs.Turns.{one_of}
-use Rattle.cal_policy.proofs.ListLemmas.OneMore.{each_of_push}
-use Rattle.cal_facts.specs.Bans.{lifted_in, lifted_of}
 use Rattle.cal_facts.proofs.spans.gathering.Gathering.note.Goals as goal
 
 pub returns : goal.returns

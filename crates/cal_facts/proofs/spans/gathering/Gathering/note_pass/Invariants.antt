@@ -1,6 +1,4 @@
-use Rattle.std.proofs.Common.{take, map, List, ◌++◌}
-use Rattle.cal_measure.specs.Spans.{Move, made_in}
-use Rattle.cal_facts.specs.Stretches.{Gathers}
+use Rattle.cal_facts.proofs.Common.{take, map, List, ◌++◌, Move, made_in, Gathers}
 use Rattle.cal_facts.proofs.spans.gathering.Gathering.note_pass.Given as goal
 
 abbrev pub invariant-loop-action : goal.invariant-loop-action

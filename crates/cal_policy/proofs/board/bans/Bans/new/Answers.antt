@@ -1,5 +1,4 @@
-use Rattle.std.proofs.Common.{None, Option}
-use Rattle.cal_policy.specs.declared.board.bans.BannedFor.{BannedFor}
+use Rattle.cal_policy.proofs.Common.{None, Option, BannedFor}
 use Rattle.cal_policy.proofs.ListLemmas.OneMore.{get_or_same}
 use Rattle.cal_policy.proofs.board.bans.Bans.new.Goals as goal
 

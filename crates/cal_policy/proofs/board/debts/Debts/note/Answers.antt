@@ -1,5 +1,4 @@
-use Rattle.std.proofs.Common.{rules, ap}
-use Rattle.cal_policy.specs.Board.{core_changed}
+use Rattle.cal_policy.proofs.Common.{rules, ap, core_changed}
 use Rattle.cal_policy.proofs.BoardLemmas.DebtsKept.{Debts_free, Debts_revoke, Debts_grant, Debts_same, owed_push}
 use Rattle.cal_policy.proofs.board.debts.Debts.note.Goals as goal
 

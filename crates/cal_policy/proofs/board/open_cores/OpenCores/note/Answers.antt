@@ -1,8 +1,5 @@
 -- The sets are kept up with the core that the action names, and with its sibling.
-use Rattle.std.proofs.Common.{◌≡◌, ℕ, eqb, cond, sym, ◌∙◌, subst}
-use Rattle.cal_machine.specs.CoreSet.{has}
-use Rattle.cal_policy.specs.Board.{holder_in}
-use Rattle.cal_policy.specs.Board.OpenCores.{is_alone_by, is_beside_held_by}
+use Rattle.cal_policy.proofs.Common.{◌≡◌, ℕ, eqb, cond, sym, ◌∙◌, subst, has, holder_in, is_alone_by, is_beside_held_by}
 use Rattle.cal_policy.proofs.BoardLemmas.OpenCores.{opens_one}
 use Rattle.cal_policy.proofs.board.open_cores.OpenCores.note.Goals as goal
 

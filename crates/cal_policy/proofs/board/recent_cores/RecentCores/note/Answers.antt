@@ -1,6 +1,4 @@
-use Rattle.std.proofs.Common.{refl}
-use Rattle.cal_machine.specs.TableTasks.{threads_of_table}
-use Rattle.cal_policy.specs.Board.{granted_in}
+use Rattle.cal_policy.proofs.Common.{refl, threads_of_table, granted_in}
 use Rattle.cal_policy.proofs.BoardLemmas.RecentCores.{thread_below}
 use Rattle.cal_policy.proofs.board.recent_cores.RecentCores.note.Goals as goal
 

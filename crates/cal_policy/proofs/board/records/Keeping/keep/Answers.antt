@@ -1,5 +1,4 @@
-use Rattle.std.proofs.Common.{◌∙◌}
-use Rattle.cal_policy.specs.Board.KeepingSets.{kept_in}
+use Rattle.cal_policy.proofs.Common.{◌∙◌, kept_in}
 use Rattle.cal_policy.proofs.BoardLemmas.Unshown.{shows_kept}
 use Rattle.cal_policy.proofs.board.records.Keeping.keep.Goals as goal
 

@@ -1,9 +1,5 @@
 -- Each look is taken in turn, and then each thread is as its look says.
-use Rattle.std.proofs.Common.{◌<◌, ◌∙◌, ap, sym, arith}
-use Rattle.std.proofs.lemmas.Option.{slice_get-get_or, slice_get_past}
-use Rattle.std.specs.Option.{option_and_then, unwrap_or}
-use Rattle.cal_policy.specs.History.Looks.{to_keep_at, shown_at, record_to_keep, shown_by}
-use Rattle.cal_policy.specs.Board.KeepingSets.{kept_in, shown_in}
+use Rattle.cal_policy.proofs.Common.{◌<◌, ◌∙◌, ap, sym, arith, slice_get-get_or, slice_get_past, option_and_then, unwrap_or, to_keep_at, shown_at, record_to_keep, shown_by, kept_in, shown_in}
 use Rattle.cal_policy.proofs.HistoryLemmas.OneMore.{kept_push, shown_push}
 use Rattle.cal_policy.proofs.ListLemmas.OneLookMore.{done_one_more, left_one_less, all_done}
 use Rattle.cal_policy.proofs.board.records.Keeping.look.Goals as goal

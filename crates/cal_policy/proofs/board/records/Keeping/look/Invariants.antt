@@ -1,9 +1,4 @@
-use Rattle.std.proofs.Common.{◌≡◌, ℕ, ◌<◌, ◌≤◌, slice_index}
-use Rattle.std.specs.Option.{unwrap_or}
-use Rattle.cal_policy.specs.History.Looks.{to_keep_at, shown_at}
-use Rattle.cal_policy.specs.Board.KeepingSets.{KeepsSets, kept_in, shown_in}
-use Rattle.cal_policy.specs.declared.board.holders.Holder.{Holder}
-use Rattle.cal_policy.specs.Board.Unshown.{Shows}
+use Rattle.cal_policy.proofs.Common.{◌≡◌, ℕ, ◌<◌, ◌≤◌, slice_index, unwrap_or, to_keep_at, shown_at, KeepsSets, kept_in, shown_in, Holder, Shows}
 use Rattle.cal_policy.proofs.board.records.Keeping.look.Given as goal
 
 abbrev pub invariant-loop-k : goal.invariant-loop-k

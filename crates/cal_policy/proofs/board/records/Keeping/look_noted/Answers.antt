@@ -1,7 +1,4 @@
-use Rattle.std.proofs.Common.{◌≡◌, ℕ, ◌<◌, ◌≤◌, refl, rules}
-use Rattle.std.specs.Prelude.{false}
-use Rattle.cal_machine.specs.ThreadSet.{has_thread}
-use Rattle.cal_policy.specs.Board.KeepingSets.{kept_in, shown_in}
+use Rattle.cal_policy.proofs.Common.{◌≡◌, ℕ, ◌<◌, ◌≤◌, refl, rules, false, has_thread, kept_in, shown_in}
 use Rattle.cal_policy.proofs.JudgementLemmas.OpenPass.{gives_kept, gives_shown, noted_agrees, noted_kept, all_taken}
 use Rattle.cal_policy.proofs.board.records.Keeping.look_noted.Goals as goal
 

@@ -1,8 +1,4 @@
-use Rattle.std.proofs.Common.{◌≡◌, ℕ, ◌-◌, ◌<◌, ◌≤◌, slice_index}
-use Rattle.std.specs.Option.{unwrap_or}
-use Rattle.cal_policy.specs.Board.KeepingSets.{KeepsSets, kept_in, shown_in}
-use Rattle.cal_policy.specs.declared.board.holders.Holder.{Holder}
-use Rattle.cal_policy.specs.Board.Unshown.{Shows}
+use Rattle.cal_policy.proofs.Common.{◌≡◌, ℕ, ◌-◌, ◌<◌, ◌≤◌, slice_index, unwrap_or, KeepsSets, kept_in, shown_in, Holder, Shows}
 use Rattle.cal_policy.proofs.JudgementLemmas.OpenPass.{gives_kept, gives_shown}
 use Rattle.cal_policy.proofs.board.records.Keeping.look_noted.Given as goal
 

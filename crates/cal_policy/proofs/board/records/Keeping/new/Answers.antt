@@ -1,7 +1,4 @@
-use Rattle.std.proofs.Common.{◌∙◌, ℕ, ap, sym, refl, false}
-use Rattle.cal_signal.specs.Records.{zero_record}
-use Rattle.cal_signal.specs.declared.record.Record.{Record}
-use Rattle.cal_policy.specs.Board.KeepingSets.{shows_waiting}
+use Rattle.cal_policy.proofs.Common.{◌∙◌, ℕ, ap, sym, refl, false, zero_record, Record, shows_waiting}
 use Rattle.cal_policy.proofs.ListLemmas.OneMore.{get_or_same}
 use Rattle.cal_policy.proofs.board.records.Keeping.new.Goals as goal
 

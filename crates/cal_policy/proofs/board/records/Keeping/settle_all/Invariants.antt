@@ -1,5 +1,4 @@
-use Rattle.std.proofs.Common.{◌≡◌, ℕ, ◌<◌, slice_index}
-use Rattle.cal_policy.specs.Board.KeepingSets.{kept_in}
+use Rattle.cal_policy.proofs.Common.{◌≡◌, ℕ, ◌<◌, slice_index, kept_in}
 use Rattle.cal_policy.proofs.board.records.Keeping.settle_all.Given as goal
 
 abbrev pub invariant-loop-k : goal.invariant-loop-k

@@ -1,6 +1,4 @@
-use Rattle.std.proofs.Common.{subst}
-use Rattle.cal_policy.specs.Explain.Asked.{IsBanReason}
-use Rattle.cal_policy.specs.Setting.{Setting, so_far}
+use Rattle.cal_policy.proofs.Common.{subst, IsBanReason, Setting, so_far}
 use Rattle.cal_policy.proofs.explain.walk.PassWalk.ban_reason.Goals as goal
 
 pub returns-clause-reason : goal.returns-clause-reason

@@ -1,10 +1,4 @@
-use Rattle.std.proofs.Common.{◌≡◌, ℕ, List, [], Option, None, sym, ap, subst, ◌∙◌, arith, rules}
-use Rattle.std.proofs.lemmas.Grind.{common_steps}
-use Rattle.cal_policy.specs.Explain.Walks.{begun_on}
-use Rattle.cal_policy.specs.Setting.{Begun, setting_at}
-use Rattle.cal_policy.specs.State.{Stands}
-use Rattle.cal_policy.specs.declared.history.action.Action.{Action}
-use Rattle.cal_policy.specs.declared.pass.terms.Terms.{Terms}
+use Rattle.cal_policy.proofs.Common.{◌≡◌, ℕ, List, [], Option, None, sym, ap, subst, ◌∙◌, arith, rules, common_steps, begun_on, Begun, setting_at, Stands, Action, Terms}
 use Rattle.cal_policy.proofs.ExplainLemmas.Assured.{begun_made, begun_order}
 use Rattle.cal_policy.proofs.ListLemmas.OneMore.{get_or_same}
 use Rattle.cal_policy.proofs.explain.walk.PassWalk.begin_by.Goals as goal

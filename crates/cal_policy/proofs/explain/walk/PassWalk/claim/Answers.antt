@@ -1,6 +1,4 @@
-use Rattle.std.proofs.Common.{subst}
-use Rattle.cal_policy.specs.Explain.Claims.{IsClaim}
-use Rattle.cal_policy.specs.Setting.{Setting, so_far}
+use Rattle.cal_policy.proofs.Common.{subst, IsClaim, Setting, so_far}
 use Rattle.cal_policy.proofs.explain.walk.PassWalk.claim.Goals as goal
 
 pub returns : goal.returns

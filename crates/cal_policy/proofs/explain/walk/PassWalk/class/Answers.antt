@@ -1,6 +1,4 @@
-use Rattle.std.proofs.Common.{◌≡◌, subst}
-use Rattle.cal_policy.specs.Pass.Grants.{class_of}
-use Rattle.cal_policy.specs.Setting.{Setting}
+use Rattle.cal_policy.proofs.Common.{◌≡◌, subst, class_of, Setting}
 use Rattle.cal_policy.proofs.explain.walk.PassWalk.class.Goals as goal
 
 pub returns : goal.returns

@@ -1,6 +1,4 @@
-use Rattle.std.proofs.Common.{subst}
-use Rattle.cal_policy.specs.Explain.Asked.{IsCoreState}
-use Rattle.cal_policy.specs.Setting.{Setting}
+use Rattle.cal_policy.proofs.Common.{subst, IsCoreState, Setting}
 use Rattle.cal_policy.proofs.explain.walk.PassWalk.core.Goals as goal
 
 pub returns-clause-state : goal.returns-clause-state

@@ -1,6 +1,4 @@
-use Rattle.std.proofs.Common.{◌≡◌, subst}
-use Rattle.cal_policy.specs.Pass.Grants.{choice_of}
-use Rattle.cal_policy.specs.Setting.{Setting}
+use Rattle.cal_policy.proofs.Common.{◌≡◌, subst, choice_of, Setting}
 use Rattle.cal_policy.proofs.explain.walk.PassWalk.core_choice.Goals as goal
 
 pub returns-clause-choice : goal.returns-clause-choice

@@ -1,6 +1,4 @@
-use Rattle.std.proofs.Common.{◌≡◌, subst}
-use Rattle.cal_policy.specs.Assured.Taking.{choice_for}
-use Rattle.cal_policy.specs.Setting.{Setting}
+use Rattle.cal_policy.proofs.Common.{◌≡◌, subst, choice_for, Setting}
 use Rattle.cal_policy.proofs.explain.walk.PassWalk.core_taken.Goals as goal
 
 pub returns-clause-choice : goal.returns-clause-choice

@@ -1,6 +1,4 @@
-use Rattle.std.proofs.Common.{◌≡◌, subst}
-use Rattle.cal_policy.specs.Pass.Bandwidth.{core_to_lose}
-use Rattle.cal_policy.specs.Setting.{Setting, so_far}
+use Rattle.cal_policy.proofs.Common.{◌≡◌, subst, core_to_lose, Setting, so_far}
 use Rattle.cal_policy.proofs.explain.walk.PassWalk.core_to_lose.Goals as goal
 
 pub returns : goal.returns

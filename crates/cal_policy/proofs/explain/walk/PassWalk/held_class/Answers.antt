@@ -1,7 +1,4 @@
-use Rattle.std.proofs.Common.{◌≡◌, subst}
-use Rattle.cal_policy.specs.Assured.Taking.{held_class}
-use Rattle.cal_policy.specs.History.{holder_of}
-use Rattle.cal_policy.specs.Setting.{Setting, so_far}
+use Rattle.cal_policy.proofs.Common.{◌≡◌, subst, held_class, holder_of, Setting, so_far}
 use Rattle.cal_policy.proofs.explain.walk.PassWalk.held_class.Goals as goal
 
 pub returns : goal.returns

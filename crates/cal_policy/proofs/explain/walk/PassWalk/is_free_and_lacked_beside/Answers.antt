@@ -1,9 +1,4 @@
-use Rattle.std.proofs.Common.{◌≡◌, ◌&&◌, subst}
-use Rattle.cal_machine.specs.Machine.{sibling_of}
-use Rattle.cal_policy.specs.Assured.Short.{are_lacked}
-use Rattle.cal_policy.specs.Board.Counts.{is_free}
-use Rattle.cal_policy.specs.History.{holder_of}
-use Rattle.cal_policy.specs.Setting.{Setting, so_far}
+use Rattle.cal_policy.proofs.Common.{◌≡◌, ◌&&◌, subst, sibling_of, are_lacked, is_free, holder_of, Setting, so_far}
 use Rattle.cal_policy.proofs.explain.walk.PassWalk.is_free_and_lacked_beside.Goals as goal
 
 pub returns : goal.returns

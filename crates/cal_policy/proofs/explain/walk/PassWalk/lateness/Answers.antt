@@ -1,6 +1,4 @@
-use Rattle.std.proofs.Common.{subst}
-use Rattle.cal_policy.specs.Explain.Claims.{IsLateness}
-use Rattle.cal_policy.specs.Setting.{Setting, so_far}
+use Rattle.cal_policy.proofs.Common.{subst, IsLateness, Setting, so_far}
 use Rattle.cal_policy.proofs.explain.walk.PassWalk.lateness.Goals as goal
 
 pub returns : goal.returns

@@ -1,6 +1,4 @@
-use Rattle.std.proofs.Common.{◌≡◌, subst}
-use Rattle.cal_policy.specs.Pass.Bandwidth.{task_misses}
-use Rattle.cal_policy.specs.Setting.{Setting}
+use Rattle.cal_policy.proofs.Common.{◌≡◌, subst, task_misses, Setting}
 use Rattle.cal_policy.proofs.explain.walk.PassWalk.misses.Goals as goal
 
 pub returns : goal.returns

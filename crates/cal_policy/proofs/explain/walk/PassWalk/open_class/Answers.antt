@@ -1,6 +1,4 @@
-use Rattle.std.proofs.Common.{◌≡◌, subst}
-use Rattle.cal_policy.specs.Assured.Taking.{open_class}
-use Rattle.cal_policy.specs.Setting.{Setting, so_far}
+use Rattle.cal_policy.proofs.Common.{◌≡◌, subst, open_class, Setting, so_far}
 use Rattle.cal_policy.proofs.explain.walk.PassWalk.open_class.Goals as goal
 
 pub returns : goal.returns

@@ -1,6 +1,4 @@
-use Rattle.std.proofs.Common.{subst}
-use Rattle.cal_policy.specs.Explain.Claims.{IsShortage}
-use Rattle.cal_policy.specs.Setting.{Setting, so_far}
+use Rattle.cal_policy.proofs.Common.{subst, IsShortage, Setting, so_far}
 use Rattle.cal_policy.proofs.explain.walk.PassWalk.shortage.Goals as goal
 
 pub returns : goal.returns

@@ -1,8 +1,6 @@
 -- What the turn makes stands after the actions before it, and the next turn after that.
-use Rattle.std.proofs.Common.{refl, sym, subst, ◌∙◌}
+use Rattle.cal_policy.proofs.Common.{refl, sym, subst, ◌∙◌, Setting, Stands}
 use Rattle.cal_policy.specs.Explain.Walks.{setting_of}
-use Rattle.cal_policy.specs.Setting.{Setting}
-use Rattle.cal_policy.specs.State.{Stands}
 use Rattle.cal_policy.proofs.ExplainLemmas.Assured.{due_here, order_here, taken_by}
 use Rattle.cal_policy.proofs.explain.walk.PassWalk.take.Goals as goal
 

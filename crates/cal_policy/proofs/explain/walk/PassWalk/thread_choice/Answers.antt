@@ -1,6 +1,4 @@
-use Rattle.std.proofs.Common.{◌≡◌, subst}
-use Rattle.cal_policy.specs.Pass.Grants.{thread_choice}
-use Rattle.cal_policy.specs.Setting.{Setting, so_far}
+use Rattle.cal_policy.proofs.Common.{◌≡◌, subst, thread_choice, Setting, so_far}
 use Rattle.cal_policy.proofs.explain.walk.PassWalk.thread_choice.Goals as goal
 
 pub returns-clause-choice : goal.returns-clause-choice

@@ -1,6 +1,4 @@
-use Rattle.std.proofs.Common.{◌≡◌, subst}
-use Rattle.cal_policy.specs.Pass.Bandwidth.{victim_of}
-use Rattle.cal_policy.specs.Setting.{Setting, so_far}
+use Rattle.cal_policy.proofs.Common.{◌≡◌, subst, victim_of, Setting, so_far}
 use Rattle.cal_policy.proofs.explain.walk.PassWalk.victim.Goals as goal
 
 pub returns-clause-victim : goal.returns-clause-victim

@@ -1,7 +1,4 @@
-use Rattle.std.proofs.Common.{◌≡◌, ◌++◌, ◌∷◌, [], length, ap, ◌∙◌, rules}
-use Rattle.cal_policy.specs.declared.history.look.Seen.{Seen}
-use Rattle.cal_policy.specs.History.{actions_of}
-use Rattle.cal_policy.specs.Judgement.Judging.{judged}
+use Rattle.cal_policy.proofs.Common.{◌≡◌, ◌++◌, ◌∷◌, [], length, ap, ◌∙◌, rules, Seen, actions_of, judged}
 use Rattle.cal_policy.proofs.JudgementLemmas.OpenInput.{found_push, length-judged_looks}
 use Rattle.cal_policy.proofs.judgement.open_input.InputLists.take.Goals as goal
 

@@ -1,16 +1,5 @@
 -- Look by look the lists are those of what was found.
-use Rattle.std.proofs.Common.{◌≡◌, ◌+◌, ◌<◌, ◌++◌, ◌∷◌, [], List, Bool, length, take, sym, ap, subst, ◌∙◌, arith, length-append, length-take}
-use Rattle.std.proofs.lemmas.List.{take_all}
-use Rattle.cal_machine.proofs.Last.{take_next}
-use Rattle.cal_machine.proofs.Places.{slice_get_at}
-use Rattle.cal_machine.specs.TableTasks.{threads_of_table}
-use Rattle.cal_policy.specs.declared.history.entry.PassEntry.{PassEntry}
-use Rattle.cal_policy.specs.declared.history.look.Seen.{Seen}
-use Rattle.cal_policy.specs.declared.judgement.open_input.FoundLook.{FoundLook}
-use Rattle.cal_policy.specs.History.{actions_of}
-use Rattle.cal_policy.specs.Judgement.Judging.{judged}
-use Rattle.cal_policy.specs.Judgement.OpenInput.{IsOfFound, judged_input}
-use Rattle.cal_policy.specs.State.{KeepingAgrees}
+use Rattle.cal_policy.proofs.Common.{◌≡◌, ◌+◌, ◌<◌, ◌++◌, ◌∷◌, [], List, Bool, length, take, sym, ap, subst, ◌∙◌, arith, length-append, length-take, take_all, take_next, slice_get_at, threads_of_table, PassEntry, Seen, FoundLook, actions_of, judged, IsOfFound, judged_input, KeepingAgrees}
 use Rattle.cal_policy.proofs.BoardLemmas.Replayed.{looks_push}
 use Rattle.cal_policy.proofs.JudgementLemmas.OpenInput.{found_push}
 use Rattle.cal_policy.proofs.JudgementLemmas.OpenPass.{seen_after, room_at}

@@ -1,11 +1,4 @@
-use Rattle.std.proofs.Common.{◌≡◌, ◌++◌, ◌∷◌, [], List, length, take}
-use Rattle.cal_machine.specs.TableTasks.{threads_of_table}
-use Rattle.cal_policy.specs.declared.history.entry.PassEntry.{PassEntry}
-use Rattle.cal_policy.specs.declared.judgement.open_input.FoundLook.{FoundLook}
-use Rattle.cal_policy.specs.History.{looks_of}
-use Rattle.cal_policy.specs.Judgement.OpenInput.{IsOfFound, judged_looks}
-use Rattle.cal_policy.specs.Judgement.OpenPass.{IsOpenAt}
-use Rattle.cal_policy.specs.State.{KeepingAgrees}
+use Rattle.cal_policy.proofs.Common.{◌≡◌, ◌++◌, ◌∷◌, [], List, length, take, threads_of_table, PassEntry, FoundLook, looks_of, IsOfFound, judged_looks, IsOpenAt, KeepingAgrees}
 use Rattle.cal_policy.proofs.judgement.open_pass.OpenPass.input.Given as goal
 
 abbrev pub invariant-loop-k : goal.invariant-loop-k

@@ -1,7 +1,4 @@
-use Rattle.std.proofs.Common.{◌≡◌, sym, ◌∙◌, None}
-use Rattle.cal_policy.specs.History.{actions_of, looks_of}
-use Rattle.cal_policy.specs.History.Looks.{last_shown}
-use Rattle.cal_policy.specs.Judgement.OneByOne.{misfit_of}
+use Rattle.cal_policy.proofs.Common.{◌≡◌, sym, ◌∙◌, None, actions_of, looks_of, last_shown, misfit_of}
 use Rattle.cal_policy.proofs.JudgementLemmas.OneByOne.{misfits_do_not_fit}
 use Rattle.cal_policy.proofs.judgement.open_pass.OpenPass.look.Goals as goal
 

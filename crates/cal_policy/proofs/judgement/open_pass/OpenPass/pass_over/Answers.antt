@@ -1,5 +1,4 @@
-use Rattle.std.proofs.Common.{◌≡◌, ℕ, ◌+◌, ◌<◌, length, true, subst, refl, arith, rules}
-use Rattle.cal_policy.specs.Judgement.OpenPass.{IsAgain}
+use Rattle.cal_policy.proofs.Common.{◌≡◌, ℕ, ◌+◌, ◌<◌, length, true, subst, refl, arith, rules, IsAgain}
 use Rattle.cal_policy.proofs.JudgementLemmas.OpenPass.{one_look_more, again_adds}
 use Rattle.cal_policy.proofs.judgement.open_pass.OpenPass.pass_over.Goals as goal
 

@@ -1,7 +1,4 @@
-use Rattle.std.proofs.Common.{ℕ, subst, ap, ◌∙◌}
-use Rattle.cal_policy.specs.History.{actions_of, looks_of}
-use Rattle.cal_policy.specs.History.Looks.{last_shown}
-use Rattle.cal_policy.specs.Judgement.Judging.{judged, IsFitLook}
+use Rattle.cal_policy.proofs.Common.{ℕ, subst, ap, ◌∙◌, actions_of, looks_of, last_shown, judged, IsFitLook}
 use Rattle.cal_policy.proofs.JudgementLemmas.OpenPass.{one_look_more, noted_adds}
 use Rattle.cal_policy.proofs.judgement.open_pass.OpenPass.take.Goals as goal
 

@@ -1,6 +1,4 @@
-use Rattle.std.proofs.Common.{◌≡◌, ap, ◌∙◌, arith}
-use Rattle.cal_policy.specs.Assured.Owed.{is_task, owed_to}
-use Rattle.cal_policy.specs.Pass.Choice.{count_below}
+use Rattle.cal_policy.proofs.Common.{◌≡◌, ap, ◌∙◌, arith, is_task, owed_to, count_below}
 use Rattle.cal_policy.proofs.AssuredLemmas.Counting.{counted_more}
 use Rattle.cal_policy.proofs.pass.assured.kept.owed_below.Goals as goal
 

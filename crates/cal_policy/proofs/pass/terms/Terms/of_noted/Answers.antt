@@ -1,5 +1,4 @@
-use Rattle.std.proofs.Common.{sym}
-use Rattle.cal_policy.specs.declared.policy.Policy.TheVariants.{Caladan}
+use Rattle.cal_policy.proofs.Common.{sym, Caladan}
 use Rattle.cal_policy.proofs.PassLemmas.Rooms.{noted_setting}
 use Rattle.cal_policy.proofs.pass.terms.Terms.of_noted.Goals as goal
 

@@ -1,7 +1,5 @@
-use Rattle.std.proofs.Common.{◌++◌, ◌∷◌, [], List, ap, ◌∙◌}
-use Rattle.std.proofs.lemmas.List.{replicate_more}
+use Rattle.cal_run.proofs.Common.{◌++◌, ◌∷◌, [], List, ap, ◌∙◌, replicate_more, NONE}
 use Rattle.cal_trace.specs.declared.report.tally.Tally.{Tally}
-use Rattle.cal_trace.specs.declared.report.tally.TheConstants.Tally.{NONE}
 use Rattle.cal_run.proofs.collector.tallies.Tallies.new.Goals as goal
 
 pub loop-preserved : goal.loop-preserved

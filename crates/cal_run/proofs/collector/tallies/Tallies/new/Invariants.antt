@@ -1,5 +1,4 @@
-use Rattle.std.proofs.Common.{◌≡◌, replicate}
-use Rattle.cal_trace.specs.declared.report.tally.TheConstants.Tally.{NONE}
+use Rattle.cal_run.proofs.Common.{◌≡◌, replicate, NONE}
 use Rattle.cal_run.proofs.collector.tallies.Tallies.new.Given as goal
 
 abbrev pub invariant-loop : goal.invariant-loop

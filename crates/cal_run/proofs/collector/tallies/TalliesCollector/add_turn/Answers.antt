@@ -1,8 +1,6 @@
-use Rattle.std.proofs.Common.{◌≡◌, ◌<◌, ◌+◌, ◌^◌, ◌++◌, ℕ, length, get_or, sym, subst, arith, length-append}
-use Rattle.std.proofs.lemmas.Option.{slice_get_within}
+use Rattle.cal_run.proofs.Common.{◌≡◌, ◌<◌, ◌+◌, ◌^◌, ◌++◌, ℕ, length, get_or, sym, subst, arith, length-append, slice_get_within, IsTallyOf}
 use Rattle.std.proofs.lemmas.Slice.Zip.{AllZip-long}
 use Rattle.cal_kthread.specs.Turn.Entries.{entries_of}
-use Rattle.cal_trace.specs.Report.Summary.{IsTallyOf}
 use Rattle.cal_trace.specs.declared.report.tally.Tally.{Tally}
 use Rattle.cal_run.proofs.CollectorLemmas.HeldOfEach.{held_after, held_at}
 use Rattle.cal_run.proofs.collector.tallies.TalliesCollector.add_turn.Goals as goal

@@ -1,11 +1,6 @@
-use Rattle.std.proofs.Common.{◌≡◌, ◌+◌, ℕ, List, sym, ap, subst, ◌∙◌, refl, slice_index_or, Some, arith}
-use Rattle.std.specs.List.{slice_get}
-use Rattle.std.proofs.lemmas.Option.{slice_get-get_or}
+use Rattle.cal_run.proofs.Common.{◌≡◌, ◌+◌, ℕ, List, sym, ap, subst, ◌∙◌, refl, slice_index_or, Some, arith, slice_get, slice_get-get_or, request_at, IsNext, Worker}
 use Rattle.cal_machine.specs.CoreSet.{has}
 use Rattle.cal_kthread.specs.Turn.OnCores.{turned_on, work_in_turn}
-use Rattle.cal_run.specs.Workers.GivenTurns.{request_at}
-use Rattle.cal_run.specs.Workers.{IsNext}
-use Rattle.cal_run.specs.declared.workers.worker.Worker.{Worker}
 use Rattle.cal_run.proofs.WorkersLemmas.OneTurn.{has_room, made_more}
 use Rattle.cal_run.proofs.workers.worker.Worker.turn_on.Goals as goal
 

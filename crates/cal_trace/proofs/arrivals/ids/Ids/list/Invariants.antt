@@ -1,7 +1,6 @@
-use Rattle.std.proofs.Common.{◌≡◌, ℕ, take}
+use Rattle.cal_trace.proofs.Common.{◌≡◌, ℕ, take, is_given}
 use Rattle.std.specs.BTreeSet as sets
 use Rattle.std.specs.Ordering.{nat_cmp}
-use Rattle.cal_trace.specs.Arrivals.{is_given}
 use Rattle.cal_trace.proofs.arrivals.ids.Ids.list.Given as goal
 
 abbrev pub invariant-loop-one : goal.invariant-loop-one

@@ -1,8 +1,5 @@
-use Rattle.std.proofs.Common.{◌≡◌, ◌∙◌, ap}
-use Rattle.cal_trace.specs.History.Reading.{still_gives, HasGiven, KeepsHistory}
-use Rattle.cal_trace.specs.declared.history.action_rows.Extent.{Extent}
+use Rattle.cal_trace.proofs.Common.{◌≡◌, ◌∙◌, ap, still_gives, HasGiven, KeepsHistory, Extent, Version}
 use Rattle.cal_trace.specs.declared.history.file.HistoryRows.{HistoryRows}
-use Rattle.cal_trace.specs.declared.rows.version.Version.{Version}
 use Rattle.cal_trace.proofs.RowLemmas.Passes.{given_next}
 use Rattle.cal_trace.proofs.history.file.HistoryRows.next.Goals as goal
 

@@ -1,11 +1,5 @@
-use Rattle.std.proofs.Common.{◌∙◌, refl, ap, codes}
-use Rattle.std.proofs.lemmas.Result.{err_from_is_err_and}
-use Rattle.cal_trace.specs.Rows.Header.{header_of}
-use Rattle.cal_trace.specs.Rows.{rest_of, rows_of}
-use Rattle.cal_trace.specs.Rows.SoFar.{at_start, whole}
+use Rattle.cal_trace.proofs.Common.{◌∙◌, refl, ap, codes, err_from_is_err_and, header_of, rest_of, rows_of, at_start, whole, extent_of, Extent}
 use Rattle.cal_trace.specs.History.{take_row}
-use Rattle.cal_trace.specs.History.Reading.{extent_of}
-use Rattle.cal_trace.specs.declared.history.action_rows.Extent.{Extent}
 use Rattle.cal_trace.proofs.HistoryLemmas.GivenPasses.{HasGiven-none}
 use Rattle.cal_trace.proofs.RowLemmas.Readings.{no_header}
 use Rattle.cal_trace.proofs.history.file.HistoryRows.open.Goals as goal

@@ -1,6 +1,5 @@
-use Rattle.std.proofs.Common.{rules, ◌≡◌, ◌+◌, ◌-◌, ◌^◌, ◌<◌, ◌≤◌, ◌++◌, ◌∷◌, ◌∙◌, List, ℕ, decimal, drop, length, length-append, ap, arith}
+use Rattle.cal_trace.proofs.Common.{rules, ◌≡◌, ◌+◌, ◌-◌, ◌^◌, ◌<◌, ◌≤◌, ◌++◌, ◌∷◌, ◌∙◌, List, ℕ, decimal, drop, length, length-append, ap, arith, drop-set, length-drop}
 use Rattle.std.proofs.lemmas.Fmt.{length-decimal-le}
-use Rattle.std.proofs.lemmas.List.{drop-set, length-drop}
 use Rattle.cal_trace.proofs.history.row_text.RowText.put.Goals as goal
 
 -- a number has no more digits than there is room for

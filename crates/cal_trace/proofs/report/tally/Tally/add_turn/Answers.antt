@@ -1,8 +1,6 @@
-use Rattle.std.proofs.Common.{◌≤◌, ◌+◌, List, length, arith, subst}
+use Rattle.cal_trace.proofs.Common.{◌≤◌, ◌+◌, List, length, arith, subst, Entry, IsTallyOf}
 use Rattle.cal_kthread.specs.Turn.{noted}
-use Rattle.cal_kthread.specs.declared.journal.entry.Entry.{Entry}
 use Rattle.cal_kthread.proofs.TurnLemmas.Turns.{noted-turn}
-use Rattle.cal_trace.specs.Report.Summary.{IsTallyOf}
 use Rattle.cal_trace.proofs.Tallies.{noted_short}
 use Rattle.cal_trace.proofs.report.tally.Tally.add_turn.Goals as goal
 

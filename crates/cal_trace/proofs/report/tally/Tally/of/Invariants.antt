@@ -1,5 +1,4 @@
-use Rattle.std.proofs.Common.{take}
-use Rattle.cal_trace.specs.Report.Summary.{IsTallyOf}
+use Rattle.cal_trace.proofs.Common.{take, IsTallyOf}
 use Rattle.cal_trace.proofs.report.tally.Tally.of.Given as goal
 
 -- the tally is that of the entries so far

@@ -1,6 +1,4 @@
-use Rattle.std.proofs.Common.{◌<◌, ◌+◌, refl, ap, sym}
-use Rattle.csv.specs.Records.{fields_of}
-use Rattle.cal_policy.specs.declared.history.entry.TheConstants.{MOST_PASSES}
+use Rattle.cal_trace.proofs.Common.{◌<◌, ◌+◌, refl, ap, sym, fields_of, MOST_PASSES}
 use Rattle.cal_trace.proofs.RowLemmas.Passes.{counted-begun, pass_below}
 use Rattle.cal_trace.proofs.rows.so_far.PassesSoFar.take_pass.Goals as goal
 

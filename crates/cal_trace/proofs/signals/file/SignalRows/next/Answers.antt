@@ -1,6 +1,5 @@
-use Rattle.std.proofs.Common.{◌≡◌, ◌∙◌, ℕ, ap}
-use Rattle.cal_trace.specs.Signals.Reading.{still_gives, HasGiven, KeepsFittingSignals}
-use Rattle.cal_trace.specs.declared.rows.version.Version.{Version}
+use Rattle.cal_trace.proofs.Common.{◌≡◌, ◌∙◌, ℕ, ap, KeepsFittingSignals, Version}
+use Rattle.cal_trace.specs.Signals.Reading.{still_gives, HasGiven}
 use Rattle.cal_trace.specs.declared.signals.file.SignalRows.{SignalRows}
 use Rattle.cal_trace.proofs.RowLemmas.Passes.{given_next}
 use Rattle.cal_trace.proofs.signals.file.SignalRows.next.Goals as goal

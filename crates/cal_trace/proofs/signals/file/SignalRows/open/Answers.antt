@@ -1,9 +1,4 @@
-use Rattle.std.proofs.Common.{◌∙◌, ℕ, refl, ap, codes}
-use Rattle.std.proofs.lemmas.Result.{err_from_is_err_and}
-use Rattle.cal_machine.specs.Tasks.{threads_in}
-use Rattle.cal_trace.specs.Rows.Header.{header_of}
-use Rattle.cal_trace.specs.Rows.{rest_of, rows_of}
-use Rattle.cal_trace.specs.Rows.SoFar.{at_start, whole}
+use Rattle.cal_trace.proofs.Common.{◌∙◌, ℕ, refl, ap, codes, err_from_is_err_and, threads_in, header_of, rest_of, rows_of, at_start, whole}
 use Rattle.cal_trace.specs.Signals.{take_row}
 use Rattle.cal_trace.proofs.GivenSignals.{HasGiven-none}
 use Rattle.cal_trace.proofs.RowLemmas.Readings.{no_header}

@@ -1,7 +1,4 @@
-use Rattle.std.proofs.Common.{refl}
-use Rattle.csv.specs.Records.{fields_of}
-use Rattle.cal_trace.specs.Signals.Reading.{so_far}
-use Rattle.cal_trace.specs.declared.signals.reading.SignalReading.{SignalReading}
+use Rattle.cal_trace.proofs.Common.{refl, fields_of, so_far, SignalReading}
 use Rattle.cal_trace.proofs.GivenSignals.{kept-closed, shown-added, shown-ended}
 use Rattle.cal_trace.proofs.signals.reading.SignalReading.take_form.Goals as goal
 

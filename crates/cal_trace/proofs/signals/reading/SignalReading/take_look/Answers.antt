@@ -1,16 +1,6 @@
-use Rattle.std.proofs.Common.{◌≡◌, ◌<◌, ◌∙◌, ℕ, Ok, List, get_or, sym, ap, refl, length, []}
-use Rattle.std.proofs.lemmas.List.{get_or_default}
-use Rattle.csv.specs.Records.{fields_of}
-use Rattle.cal_signal.specs.Shown.{nothing_shown}
-use Rattle.cal_signal.specs.declared.shown.Shown.{Shown}
-use Rattle.cal_trace.specs.declared.signals.SignalPass.{SignalPass}
-use Rattle.cal_trace.specs.declared.signals.reading.SignalReading.{SignalReading}
-use Rattle.cal_trace.specs.Rows.SoFar.{SoFar, passes_of, next_thread}
-use Rattle.cal_trace.specs.Signals.{last_shown, looks_in}
-use Rattle.cal_trace.specs.Signals.Reading.{so_far, HasPlaces, KeepsSignals}
+use Rattle.cal_trace.proofs.Common.{◌≡◌, ◌<◌, ◌∙◌, ℕ, Ok, List, get_or, sym, ap, refl, length, [], get_or_default, fields_of, nothing_shown, Shown, SignalPass, SignalReading, SoFar, passes_of, next_thread, last_shown, looks_in, so_far, HasPlaces, KeepsSignals, Version}
 use Rattle.cal_trace.proofs.SignalLemmas.LastShown.{next_below}
 use Rattle.cal_trace.proofs.SignalLemmas.NextLook.{takes-look, keeps-look}
-use Rattle.cal_trace.specs.declared.rows.version.Version.{Version}
 use Rattle.cal_trace.proofs.signals.reading.SignalReading.take_look.Goals as goal
 
 pub index-requires : goal.index-requires

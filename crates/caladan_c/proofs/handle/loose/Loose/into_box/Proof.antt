@@ -1,9 +1,9 @@
 -- `into_box` hands what the parts own to `from_raw`.
-use mathlib.Core.Path.{◌≡◌, refl, sym, subst, ap}
+use Rattle.caladan_c.proofs.Common.{refl, sym, subst, ap, Fn, Body, place, copy, assign, rv_opd, seq, return, plain, Bx, D, R, P, B, args, box_ty, word, box_typed}
+use mathlib.Core.Path.{◌≡◌}
 use mathlib.Core.List.{List, [], ◌∷◌, ◌++◌}
 use lib.Dec.{T}
 use seplogic.Ra.Ura.{Ura}
-use mir.Syntax.{Fn, Body, place, copy, assign, rv_opd, seq, return}
 use mir.MapTy.{inst_fn}
 use mir.Val.{Val, vptr, has_ty, WT}
 use base.Logic.{SProp, ent, id⊢}
@@ -23,7 +23,6 @@ use types.ByLocal.{alloc_all, pass_all, free_all, look_at, get, get_in, sets, la
 use denote.RattleType.{RattleType}
 use denote.Exit.{no}
 use denote.RawPtr.{block_ptr}
-use denote.Signature.{plain}
 use denote.Steps.{heard, nothing, only}
 use denote.Triple.Call.{calls_at_last}
 use denote.Triple.Clauses.{Ended, Clauses}
@@ -33,7 +32,6 @@ use denote.Triple.Table.{entered}
 use denote.Triple.Walked.{says, Stays, stay_dropped, walk_of, ends_at, walk_Meets}
 use Rattle.std.proofs.alloc.Calls.{token, Goes-blank}
 use Rattle.std.specs.Box.Ownership.{box_owns}
-use Rattle.std.proofs.BoxSteps.Form.{Bx, D, R, P, B, args, box_ty, word, box_typed}
 use Rattle.std.proofs.BoxSteps.Steps.{box_out, box_in}
 use Rattle.caladan_c.specs.contracts.handle.loose.Loose as parts
 use Rattle.std.specs.contracts.boxed.Box.from_raw as Fr

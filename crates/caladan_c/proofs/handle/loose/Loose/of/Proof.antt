@@ -1,8 +1,8 @@
 -- `of` takes the box apart, and the parts own what it owned.
-use mathlib.Core.Path.{◌≡◌, refl, sym, subst, ap, ◌∙◌}
+use Rattle.caladan_c.proofs.Common.{refl, sym, subst, ap, ◌∙◌, Fn, Args, Dict, a_type, dcons, dnil, plain, Bx, D, τ, R, P, B, word, box_typed}
+use mathlib.Core.Path.{◌≡◌}
 use mathlib.Core.List.{List, [], ◌∷◌, ◌++◌}
 use seplogic.Ra.Ura.{Ura}
-use mir.Syntax.{Fn, Args, Dict, a_type, dcons, dnil}
 use mir.MapTy.{inst_fn}
 use mir.Raw.{raw as bare}
 use mir.Val.{Val, vstruct, of_list}
@@ -24,7 +24,6 @@ use denote.RattleType.{RattleType}
 use denote.Exit.{no}
 use denote.Param.{bounded}
 use denote.RawPtr.{Ptr, RawPtr, block_ptr, null_ptr, ptr_val, in_a_block}
-use denote.Signature.{plain}
 use denote.Steps.{heard, nothing, only}
 use denote.Struct.Tuple.{Tuple}
 use denote.Triple.Call.{calls_at}
@@ -35,7 +34,6 @@ use denote.Triple.Table.{entered}
 use denote.Triple.Walked.{says, Stays, stay_dropped, walk_of, ends_at, walk_Meets}
 use Rattle.std.proofs.alloc.Calls.{token, handle_tells, Goes-blank}
 use Rattle.std.specs.Box.Ownership.{box_owns}
-use Rattle.std.proofs.BoxSteps.Form.{Bx, D, τ, R, P, B, word, box_typed}
 use Rattle.std.proofs.BoxSteps.Steps.{box_out, box_in}
 use Rattle.caladan_c.specs.contracts.handle.loose.Loose as parts
 use Rattle.std.specs.contracts.boxed.Box.into_raw_with_allocator as Ra

@@ -1,9 +1,6 @@
-use Rattle.std.proofs.Common.{◌≡◌, List, length, sym, ap, subst, ◌∙◌}
+use Rattle.cal_engine.proofs.Common.{◌≡◌, List, length, sym, ap, subst, ◌∙◌, IsInput, PassEntry, input_of}
 use Rattle.cal_policy.specs.Judgement.OpenInput.{judged_input}
-use Rattle.cal_policy.specs.Judgement.Judging.{IsInput}
 use Rattle.cal_policy.specs.declared.history.action.Action.{Action}
-use Rattle.cal_policy.specs.declared.history.entry.PassEntry.{PassEntry}
-use Rattle.cal_engine.specs.Deciding.{input_of}
 use Rattle.cal_engine.proofs.Decided.{made_pass}
 use Rattle.cal_engine.proofs.jobs.deciding.decider.Decider.decide.Goals as goal
 

@@ -1,6 +1,4 @@
-use Rattle.std.proofs.Common.{[], ◌∷◌, ◌++◌, subst}
-use Rattle.std.proofs.lemmas.Result.{on_ok_weaker}
-use Rattle.cal_policy.specs.declared.history.entry.PassEntry.{PassEntry}
+use Rattle.cal_engine.proofs.Common.{[], ◌∷◌, ◌++◌, subst, on_ok_weaker, PassEntry}
 use Rattle.cal_engine.proofs.jobs.deciding.decider.Decider.hand_on.Goals as goal
 
 pub returns-clause-decided : goal.returns-clause-decided

@@ -1,7 +1,4 @@
-use Rattle.std.proofs.Common.{◌++◌, sym, ap, ◌∙◌}
-use Rattle.cal_trace.specs.History.Text.{begun_text, end_fields}
-use Rattle.cal_trace.specs.Rows.Text.{line_of}
-use Rattle.cal_trace.proofs.HistoryLemmas.Lines.{begun_ends}
+use Rattle.cal_engine.proofs.Common.{◌++◌, sym, ap, ◌∙◌, begun_text, end_fields, line_of, begun_ends}
 use Rattle.cal_engine.proofs.jobs.deciding.history_text.HistoryText.end.Goals as goal
 
 pub returns-in-Ok-clause-text : goal.returns-in-Ok-clause-text

@@ -1,7 +1,4 @@
-use Rattle.std.proofs.Common.{◌≡◌, refl, sym, ◌∙◌, rules}
-use Rattle.std.proofs.lemmas.List.{append-nil}
-use Rattle.cal_trace.specs.History.Text.{header_row}
-use Rattle.cal_trace.specs.Rows.Text.{line_of}
+use Rattle.cal_engine.proofs.Common.{◌≡◌, refl, sym, ◌∙◌, rules, append-nil, header_row, line_of}
 use Rattle.cal_engine.proofs.jobs.deciding.history_text.HistoryText.open.Goals as goal
 
 pub returns-in-Ok-clause-rows : goal.returns-in-Ok-clause-rows

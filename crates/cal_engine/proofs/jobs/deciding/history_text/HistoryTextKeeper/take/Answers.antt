@@ -1,6 +1,4 @@
-use Rattle.std.proofs.Common.{◌++◌, ◌∷◌, [], length-append, sym, ap, ◌∙◌, arith}
-use Rattle.cal_trace.specs.History.Text.{entry_rows, lines_of}
-use Rattle.cal_trace.proofs.HistoryLemmas.Lines.{begun_more}
+use Rattle.cal_engine.proofs.Common.{◌++◌, ◌∷◌, [], length-append, sym, ap, ◌∙◌, arith, entry_rows, lines_of, begun_more}
 use Rattle.cal_engine.proofs.jobs.deciding.history_text.HistoryTextKeeper.take.Goals as goal
 
 pub returns-in-Ok-clause-keeps : goal.returns-in-Ok-clause-keeps
