@@ -24,4 +24,5 @@ pub use fault::PaceFault;
 pub use pacing::paced_arrivals;
 pub use plan::{Figure, Plan, WHOLE};
 pub use planned::{have_misses, planned_arrivals};
+pub use rounds::{Keeping, make_turns, show_figure};
 pub use run::{paced_collected_by, paced_end_by};

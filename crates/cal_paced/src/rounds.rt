@@ -38,7 +38,7 @@ use std::mem::replace;
 
 /// What a paced run keeps from round to round beside its parts.
 #[derive(Drop)]
-pub(crate) struct Keeping {
+pub struct Keeping {
     /// What each thread has left over of a turn's work, in thousandths, in thread order.
     pub(crate) saved: Vec<u16>,
     /// All cores.
@@ -49,7 +49,7 @@ pub(crate) struct Keeping {
 
 impl Keeping {
     /// Nothing left over, of so many threads, and no misses. Fails only when out of memory.
-    pub(crate) fn new(alloc: Global, threads: usize) -> Result<Keeping, AllocError>
+    pub fn new(alloc: Global, threads: usize) -> Result<Keeping, AllocError>
         ensures saved { IfOk result (λ keeping. keeping.saved.items ≡ replicate threads 0) }
         ensures cores { IfOk result (λ keeping. AreAllCores keeping.all) }
         ensures misses { IfOk result (λ keeping. keeping.misses ≡ 0) }
@@ -188,7 +188,7 @@ fn make_passes<C: Collector>(
 }
 
 /// Turn `r` of each thread, in thread order.
-fn make_turns<C: Collector>(
+pub fn make_turns<C: Collector>(
     workers: &mut [Worker],
     given: &Arrivals,
     plan: &Plan,
@@ -366,7 +366,7 @@ fn watch_passes(watch: &mut Watch, pace: u16)
 
 /// Gives the passes before turn `r` the misses by which the records rose in the turns before, where
 /// the figures are those that the records show.
-fn show_figure(
+pub fn show_figure(
     alloc: Global,
     workers: &[Worker],
     given: &mut Arrivals,

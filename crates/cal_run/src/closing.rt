@@ -1,6 +1,6 @@
 //! A run ends in its outcome.
 
-mod pages_and_rings;
+pub mod pages_and_rings;
 mod thread_ends;
 
 ghost use Rattle.std.specs.Prelude.{◌≡◌, IfErr, IfOk, length};

@@ -17,6 +17,7 @@ mod parts;
 mod rounds;
 mod workers;
 
+pub use closing::pages_and_rings::close_threads;
 pub use closing::{RunRest, close_parts, end_parts, end_run};
 pub use collector::Collector;
 pub use collector::collected::{Collected, OpenCollection};
@@ -34,7 +35,7 @@ pub use parts::Parts;
 pub use parts::opening::{
     MOST_ROUNDS, open_parts, open_parts_by, open_unwatched, open_unwatched_by,
 };
-pub use rounds::make_rounds;
 pub use rounds::passes::{pass_given, step_given};
 pub use rounds::watch::watch_of_round;
+pub use rounds::{make_rounds, turns_of_round};
 pub use workers::worker::Worker;

@@ -148,7 +148,7 @@ fn pass_of_round<C: Collector>(
 }
 
 /// Turn `r` of each thread, in thread order, if there is one.
-fn turns_of_round<C: Collector>(
+pub fn turns_of_round<C: Collector>(
     workers: &mut [Worker],
     arrivals: &Arrivals,
     r: usize,

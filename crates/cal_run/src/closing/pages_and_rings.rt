@@ -19,7 +19,7 @@ use std::alloc::{AllocError, Global};
 
 /// Ends each thread, hands out what was left with them, and closes each page and ring. Asks for the
 /// threads of one team and the other ends of each. Gives what each had left, in thread order.
-pub(crate) fn close_threads(
+pub fn close_threads(
     alloc: Global,
     config: &Config,
     workers: Vec<Worker>,
