@@ -4,26 +4,20 @@
 
 For the log as it is, and at 1.3 times its load, it prints the p99 of the service and the cores that it held: under each
 delay, and how much more it is under the second. A column `40 bound` would say that a rank was not answered.
-The log is that of docs/TUTORIAL.md; its columns get the names that `caladan_view arrivals --log` reads."""
+The log is that of docs/TUTORIAL.md."""
 import sys
-import tempfile
 from pathlib import Path
 
 import caladan
-import pandas
 
 EXAMPLES = Path(__file__).resolve().parents[1]
 GIVEN = sys.argv[1:3] if sys.argv[2:] else (EXAMPLES / "sweep/which_delay/input", EXAMPLES / "tutorial/requests.csv")
-# A turn is 5 us long and has 5 ticks: so a tick is 1 us, as the table's delays are meant.
-HOW = {"unit": "us", "turn": "5us", "ticks": 5}
 ROWS = ["kv response 99 of 100 [us]", "kv mean cores held"]
 
 table = caladan.Table.read(GIVEN[0], names=["kv", "search", "batch"], tick="us")
-log = pandas.read_csv(GIVEN[1]).rename(columns={"arrived_us": "time", "service_us": "service"})
+log = caladan.Log.read(GIVEN[1], unit="us", columns={"time": "arrived_us", "service": "service_us"})
 for times in (1, 1.3):
-    with tempfile.NamedTemporaryFile("w", suffix=".csv") as file:
-        log.assign(time=(log["time"] / times).round(3)).to_csv(file.name, index=False)
-        run = table.run(log=file.name, **HOW)
+    run = table.run_log(log.scaled(times), turn="5us")
     print(f"{times} times the load")
     frame = caladan.compare(run, vary={"kv.delay": [10, 40]}).frame
     print(frame.set_index(frame.columns[0]).loc[ROWS].dropna(axis="columns", how="all"))

@@ -72,7 +72,7 @@ def test_objectives() -> None:
     assert objective_of("kv.max=1", ("web", "kv"), [1]).task == 1
     assert refused(objective_of, "kv.max=1", ("web",), [0]) == "--slo kv.max=1: the tasks are called web"
     assert refused(objective_of, "1.max=1", (), [0]).endswith("the objective is of a task that has no load")
-    assert refused(objective_of, "0.p42=1", (), [0]).endswith("a task, p50, p90, p99, p99.9 or max, and ticks")
+    assert refused(objective_of, "0.p42=1", (), [0]).endswith("a task, p50, p90, p95, p99, p99.9 or max, and ticks")
 
 
 def test_keys_and_settings() -> None:

@@ -2,12 +2,14 @@
 several."""
 from __future__ import annotations
 
+import os
 import signal
+import subprocess
 from pathlib import Path
 from typing import Callable
 
 import pytest
-from conftest import Run
+from conftest import TOP, Run
 
 from caladan import __version__, programs
 from caladan.refusal import Refusal
@@ -76,3 +78,20 @@ def test_a_program_that_a_signal_ends(lab: Run, tmp_path: Path) -> None:
 ])
 def test_words_that_are_like_others(lab: Run, words: list[str], said: str) -> None:
     assert lab(*words) == (2, "", said)
+
+
+@pytest.mark.parametrize("program, words, said", [
+    ("caladan_lab", ["compare"], "caladan_lab: input read: Is a directory (os error 21)\n"),
+    ("caladan_lab", ["sweep", "--load", "1"], "caladan_lab: input read: Is a directory (os error 21)\n"),
+    ("caladan_lab", ["timeline"], "caladan_lab: input read: Is a directory (os error 21)\n"),
+    ("caladan_lab", ["run", "-o", "run.svg"], "caladan_lab: -: Is a directory\n"),
+    ("caladan_draw", ["run", "-o", "run.svg"], "caladan_draw: -: Is a directory\n")])
+def test_a_folder_is_no_input(program: str, words: list[str], said: str, tmp_path: Path) -> None:
+    """Python itself would not begin with one as its standard input."""
+    folder = os.open(tmp_path, os.O_RDONLY)
+    try:
+        ran = subprocess.run([TOP / program, *words], stdin=folder, capture_output=True, text=True, cwd=tmp_path,
+                             check=False)
+    finally:
+        os.close(folder)
+    assert (ran.returncode, ran.stdout, ran.stderr) == (2, "", said) and not os.listdir(tmp_path)

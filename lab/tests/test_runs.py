@@ -19,6 +19,11 @@ NUMBERS = {"response median": "11", "response 90 of 100": "22", "response 99 of 
            "response 99.9 of 100": "44", "response mean": "5.555", "mean cores held": "1.234", "requests far": "2",
            "machine clock of passes": "80"}
 SWEEP = ["sweep", "--load", "0.5", "--turns", "9"]
+# The rows of requests: of 1,000 ten take 34 ticks and the others 20.
+REQUESTS = """if words[0] == "requests":
+    print("id,task,thread,arrived,work,by thread,begun,answered,worked,pending")
+    for it in range(1000):
+        print(f"{it},0,0,{15 + it % 90},1,0,1,{15 + it % 90 + (34 if it % 100 == 7 else 20)},1,")"""
 
 
 def test_a_sweep_shows_what_the_program_tells(lab: Run, stub: Stub) -> None:
@@ -44,11 +49,30 @@ def test_the_head_names_what_is_offered(lab: Run, stub: Stub) -> None:
     assert lab(*words[:6], given=TABLE, view=stub(NUMBERS)).out.startswith("offered,p50,")
 
 
+def test_each_seed_has_its_row_where_that_is_asked_for(lab: Run, stub: Stub) -> None:
+    words = [*SWEEP, "--seeds", "2", "--seed", "7", "--csv", "--vary", "task.0.delay=10,20"]
+    told = lab(*words, "--by-seed", given=TABLE, view=stub(NUMBERS)).out.splitlines()
+    assert told[0].startswith("load,task.0.delay,seed,p50,p50 bound,")
+    rest = "11,,,22,,,33,,,44,,,5.555,,,41,3,2,0,40,1.234,0.000"
+    assert told[1:] == [f"0.500,{delay},{seed},{rest}" for delay in (10, 20) for seed in (7, 8)]
+    three = lab(*words, given=TABLE, view=stub(NUMBERS)).out.splitlines()
+    assert three[0].startswith("load,task.0.delay,of 2 seeds,p50,")
+    rows = ["least", "lower median", "greatest"]
+    assert [it.split(",")[2] for it in three[1:]] == [*rows, *rows, "beats the first"]
+    alone = lab(*SWEEP, "--csv", "--by-seed", given=TABLE, view=stub(NUMBERS)).out.splitlines()
+    assert alone[0].startswith("load,seed,p50,") and alone[1:] == [f"0.500,1,{rest}"]
+
+
 def test_a_missed_objective(lab: Run, stub: Stub) -> None:
-    told = lab(*SWEEP, "--slo", "task.0.p99=32", given=TABLE, view=stub(NUMBERS))
-    assert told.status == 1
-    assert told.err == ("caladan_lab: task.0.p99=32 is missed at load 0.500: p99 is 33 ticks; kept at no load\n")
-    assert lab(*SWEEP, "--slo", "task.0.p99=33", given=TABLE, view=stub(NUMBERS)).status == 0
+    for rules in ("4", "5"):
+        words = [*SWEEP, "--rules", rules, "--slo"]
+        told = lab(*words, "task.0.p99=32", given=TABLE, view=stub(NUMBERS, REQUESTS))
+        assert told.status == 1
+        assert told.err == ("caladan_lab: task.0.p99=32 is missed at load 0.500: p99 is 33 ticks; kept at no load\n")
+        assert lab(*words, "task.0.p99=33", given=TABLE, view=stub(NUMBERS, REQUESTS)) == (0, told.out, "")
+    # Without the rows of requests nothing is kept, whatever the ranks say.
+    assert lab(*SWEEP, "--slo", "task.0.p99=33", given=TABLE, view=stub(NUMBERS)).err == (
+        "caladan_lab: task.0.p99=33 is undecided at load 0.500: no requests came, run longer; kept at no load\n")
 
 
 def test_a_program_that_is_not_there(lab: Run) -> None:

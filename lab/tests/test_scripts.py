@@ -1,5 +1,5 @@
 """The scripts of examples/lab: what they print is what the program says where it is asked in another way, by its own
-words and without the package; of own_policy.py what was worked out by hand."""
+words and without the package. That of own_policy.py is in core/."""
 from __future__ import annotations
 
 import csv
@@ -10,7 +10,7 @@ import runpy
 import subprocess
 import sys
 from pathlib import Path
-from typing import Iterator
+from typing import Any, Iterator
 
 import pytest
 from conftest import TOP
@@ -53,6 +53,12 @@ def input_of(view: str, table: bytes, *words: str) -> bytes:
     return asked(view, "arrivals", *words, "--table", "--came", "came", given=table).encode()
 
 
+def middle(given: bytes) -> list[str]:
+    """The words of the middle eight tenths of the turns of an input."""
+    turns = len(re.findall(rb"^turn,", given, re.M))
+    return ["--from", str(turns // 10), "--to", str(turns - turns // 10)]
+
+
 def measured(view: str, given: bytes, *words: str) -> dict[str, str]:
     """The number of the first task at each label, as `measure --csv` has them."""
     rows = csv.reader(asked(view, "measure", "--csv", "--came", "came", *words, given=given).splitlines())
@@ -83,7 +89,7 @@ def test_first_frame(view: str) -> None:
     slowest = [row for _, _, row in sorted(waits)[:3]]
     assert [list(map(float, it.split()[1:])) for it in lines[1:4]] == [
         [float(row[0]), float(row[2]), float(row[3]), float(row[6]), float(row[6]) - float(row[3])] for row in slowest]
-    assert lines[4] == f"p99 {float(measured(view, given)['response 99 of 100'])} us\n"
+    assert lines[4] == f"p99 {float(measured(view, given, *middle(given))['response 99 of 100'])} us\n"
     clocks = [int(row.split(",")[1]) for row in given.decode().splitlines() if row.startswith("pass,")]
     last = max(number for number, clock in enumerate(clocks) if clock < int(slowest[0][6]))
     simulator = os.environ.get("CALADAN_SIM") or view.replace("caladan_view", "caladan_sim")
@@ -124,7 +130,7 @@ def test_more_load(view: str) -> None:
         for column, delay in enumerate((10, 40)):
             given = input_of(view, with_delay(TABLE.read_bytes(), delay), "--log", "log.csv", "--unit", "us", "--turn",
                              "5us", "--ticks", "5")
-            told = measured(view, given)
+            told = measured(view, given, *middle(given))
             assert p99[place][column] == int(told["response 99 of 100"])
             assert cores[place][column] == pytest.approx(float(told["mean cores held"]))
 
@@ -136,10 +142,30 @@ def test_ten_draws(view: str) -> None:
     assert found == [[seed, one, other, other - one] for seed, one, other in zip(range(1, 11), short, long)]
 
 
-def test_own_policy() -> None:
-    core = pytest.importorskip("caladan.core")
-    try:
-        core.library_of()
-    except core.NoLibrary as fault:
-        pytest.skip(str(fault))
-    assert said("own_policy.py", "") == (SCRIPTS / "own_policy.txt").read_text()
+def test_load_step(view: str, monkeypatch: pytest.MonkeyPatch) -> None:
+    pytest.importorskip("pandas")
+    pytest.importorskip("matplotlib")
+    monkeypatch.setenv("CALADAN_VIEW", view)
+    monkeypatch.setattr(sys, "argv", ["load_step.py", "step.svg"])
+    made = runpy.run_path(str(SCRIPTS / "load_step.py"))
+    assert Path("step.svg").read_text().startswith("<?xml")
+    run, service, batch = made["run"], made["service"], made["batch"]
+    assert list(service["from [us]"]) == list(batch["from [us]"]) == [0, 500, 1000, 1500, 2000, 2500, 3000]
+    clocks = [int(it.split(b",")[1]) for it in run.input.splitlines() if it.startswith(b"turn,")]
+    rows = [it for it in csv.DictReader(asked(view, "requests", "--came", "came", given=came(run)).splitlines())
+            if it["task"] == "0"]
+    for place, first in enumerate(range(0, 3000, 500)):
+        own = [it for it in rows if first <= int(it["arrived [ticks]"]) < first + 500]
+        assert service["came"][place] == len(own) and service["p99 bound"].isna()[place]
+        part = [str(sum(clock < it for clock in clocks)) for it in (first, first + 500)]
+        told = measured(view, run.input, "--from", part[0], "--to", part[1])
+        assert service["p99 [us]"][place] == int(told["response 99 of 100"])
+    # Where ten times as many come, the service holds more cores, and the batch job fewer.
+    held, left = service["held [cores]"], batch["held [cores]"]
+    assert held[2:4].min() > 2 * held[0:2].max() and left[2:4].max() < left[0:2].min()
+
+
+def came(run: Any) -> bytes:
+    """The input of a run, of which the file `came` has when its requests came."""
+    Path("came").write_bytes(run.came)
+    return bytes(run.input)

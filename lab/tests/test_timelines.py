@@ -2,10 +2,12 @@
 from __future__ import annotations
 
 import json
+import subprocess
+from pathlib import Path
 from typing import Any, Callable
 
 import pytest
-from conftest import TABLE, Run
+from conftest import TABLE, TOP, Run
 from hypothesis import given
 from hypothesis import strategies as some
 
@@ -178,3 +180,39 @@ def test_tables_before_the_last_line() -> None:
     one = TABLE.encode()
     assert tasks_at_most(View(), one + b"---\nx") == 2  # type: ignore[arg-type]
     assert tasks_at_most(View(), one + b"---\nbad\n---\nx") is None  # type: ignore[arg-type]
+
+
+@pytest.mark.parametrize("words, command", [
+    ([], "caladan_sim lockstep --table < {} | caladan_view explain --pass {} --core {}"),
+    (["--policy", "assured"],
+     "caladan_sim lockstep --table --policy assured < {} | caladan_view explain --policy assured --pass {} --core {}")])
+def test_slices_of_cores_have_the_command_that_explains_them(lab: Run, stub: Stub, tmp_path: Path, words: list[str],
+                                                              command: str) -> None:
+    file = tmp_path / 'a "run"'
+    file.write_text(f"{TABLE}---\n{ARRIVALS}")
+    view = stub({}, telling())
+    told = events_of(lab("timeline", "--commands", *words, str(file), view=view).out)
+    without = events_of(lab("timeline", *words, str(file), view=view).out)
+    asked = {(it["cat"], it["tid"]): it["args"].pop("explain") for it in told if "explain" in it.get("args", {})}
+    assert told == without
+    passes = {("span", 1): 0, ("leaving", 1): 1, ("span", 0): 1, ("ban", 3): 0}
+    assert asked == {it: command.format(f"'{file}'", number, it[1]) for it, number in passes.items()}
+
+
+def test_of_a_history_the_command_is_explain_alone(lab: Run, view: str, tmp_path: Path) -> None:
+    given = TOP / "examples" / "audit" / "tour" / "input"
+    told = events_of(lab("timeline", "--commands", str(given), view=view).out)
+    commands = [it["args"]["explain"] for it in told if "explain" in it.get("args", {})]
+    assert commands and all(it.startswith("caladan_view explain --pass ") for it in commands)
+    assert all(it.endswith(f" {given}") for it in commands)
+    words = [it.split()[1:-1] for it in commands[:3]]
+    for it in words:
+        assert subprocess.run([view, *it, str(given)], capture_output=True, check=False).returncode == 0
+    piped = lab("timeline", "--commands", given=given.read_text(), view=view).out
+    assert events_of(piped)[-1]["args"].get("explain", " INPUT").endswith(" INPUT")
+
+
+def test_a_run_by_a_plan_has_no_such_command(lab: Run, stub: Stub) -> None:
+    told = lab("timeline", "--commands", "--pace", "2", given=f"{TABLE}---\n{ARRIVALS}", view=stub({}, telling()))
+    assert told == (2, "", "caladan_lab: --commands: a run by --pace is not explained by any command; leave one of the "
+                           "two out\n")

@@ -36,14 +36,27 @@ def help_text(words: str) -> str:
 
 @pytest.mark.parametrize("word", ["compare", "sweep", "timeline"])
 @pytest.mark.parametrize("flag", ["-h", "--help"])
-def test_help_is_that_of_the_program(word: str, flag: str) -> None:
+def test_help_has_each_line_of_the_program_in_its_order(word: str, flag: str) -> None:
     with pytest.raises(Shown) as it:
         asked(word, flag)
     said = str(it.value)
-    if "Pictures:\n" in said:
-        front, _, rest = said.partition("Pictures:\n")
-        said = front + rest.partition("\n\nInput:")[1].lstrip("\n") + rest.partition("\n\nInput:")[2]
-    assert said == help_text(f"{word} {flag}").replace(f"caladan_view {word}", f"caladan_lab {word}")
+    if "Logs:\n" in said:
+        front, _, rest = said.partition("Logs:\n")
+        said = f"{front}Pictures:\n" + rest.partition("Pictures:\n")[2]
+    before = help_text(f"{word} {flag}").replace(f"caladan_view {word}", f"caladan_lab {word}")
+    # The options of pictures are of the lab alone, and its texts say more; all options that there were are there.
+    if word == "timeline" or flag == "-h":
+        lines = iter(said.splitlines())
+        assert [it for it in before.splitlines() if it not in lines] == []
+        return
+    said, before = (front_of(it) for it in (said, before))
+    blocks = said.split("\n\n")
+    assert [it for it in before.split("\n\n") if it not in blocks] == []
+
+
+def front_of(text: str) -> str:
+    """A long help as far as its options go."""
+    return text.partition("Pictures:\n")[0].partition("\n\nInput:")[0]
 
 
 def test_options_have_their_words() -> None:
@@ -52,6 +65,18 @@ def test_options_have_their_words() -> None:
     assert it.has("quiet") and it.all("policy") == ["caladan", "assured"]
     assert it.one("output") == "file" and it.one("input") == "table"
     assert it.all("service") == ["1"] and not it.has("service") and it.number("turns") == 1000
+
+
+def test_a_report_and_what_goes_with_it() -> None:
+    it = asked("report", "--explain", "changes", "--came", "came", "-qj2", "-o", "x.html", "run")
+    assert it.one("explain") == "changes" and it.number("jobs") == 2 and it.has("quiet")
+    assert asked("sweep", "--load", "1", "--seeds", "3", "--by-seed").has("by-seed")
+    assert asked("timeline", "--commands", "run").has("commands")
+    assert asked("run", "--responses", "-o", "x.svg").has("responses")
+    for words, named in ((["report", "--explain", "some"], "--explain <WHICH>"), (["report", "a", "b"], "'b'"),
+                         (["report", "-j0"], "--jobs <N>"), (["timeline", "--commands=1"], "--commands"),
+                         (["sweep", "--load", "1", "--by-seed", "--by-seed"], "--by-seed")):
+        assert named in refusal(*words)
 
 
 def test_files_stand_after_two_dashes() -> None:

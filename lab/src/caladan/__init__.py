@@ -13,6 +13,9 @@ seeds, tables and policies side by side, are asked here.
     answer = caladan.sweep(table, [0.3, 0.6, 0.9], task="kv", seeds=10, slo="kv.p99=400")
     answer.frame, answer.is_kept, answer.misses
     run.picture("run.svg"), answer.picture("sweep.svg")
+    log = caladan.Log.read("requests.csv", unit="us", columns={"time": "arrived_us", "service": "took_us"})
+    run = table.run_log(log, turn="5us", batch="batch")
+    caladan.sweep(table, log=log, turn="5us", batch="batch", scale=[0.8, 1, 1.3], seeds=10, slo="kv.p99=250")
 
 A Table knows what its tasks are called and what a tick is, a Run also its seed and the words that made it; frames say
 the unit with each time, and are made once each. What the program refuses is a caladan.Refusal with its line. The
@@ -26,13 +29,16 @@ from __future__ import annotations
 from typing import TYPE_CHECKING, Any
 
 __version__ = "5"
-__all__ = ["Answer", "Refusal", "Run", "Table", "compare", "core", "sweep"]
+__all__ = ["Answer", "LeftOut", "Log", "Refusal", "Run", "Table", "compare", "core", "sweep"]
+OF_LOGS = {"Log": ".logs.log", "LeftOut": ".logs.running"}
 # Functions of caladan.core which, as its classes and constants, go by `caladan.` too for a version more.
 OF_CORE = ("action_row", "machine_of", "recorded", "taken", "text_of", "text_of_rows", "written")
 
 if TYPE_CHECKING:
     from . import core
     from .lab import Answer, Run, Table, compare, sweep
+    from .logs.log import Log
+    from .logs.running import LeftOut
     from .refusal import Refusal
 
 
@@ -43,6 +49,8 @@ def __getattr__(name: str) -> Any:
         return importlib.import_module(".core", __name__)
     if name == "Refusal":
         return importlib.import_module(".refusal", __name__).Refusal
+    if name in OF_LOGS:
+        return getattr(importlib.import_module(OF_LOGS[name], __name__), name)
     if name in __all__:
         return getattr(importlib.import_module(".lab", __name__), name)
     if name[:1].isupper() or name in OF_CORE:

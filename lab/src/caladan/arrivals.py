@@ -77,6 +77,11 @@ def comings_of(text: bytes) -> Comings:
     return Comings(tuple(turns), left_out)
 
 
+def turns_of(text: bytes) -> list[int]:
+    """The clocks of the turns of arrivals."""
+    return [int(row[1]) for row in rows_of(text, ("turn",))]
+
+
 def is_some_within(comings: Comings, first: Optional[int], after: Optional[int]) -> bool:
     """Whether a request came from one turn on and before another."""
     return any((first or 0) <= it and (after is None or it < after) for it in comings.turns)

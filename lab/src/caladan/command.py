@@ -1,4 +1,4 @@
-"""The command line: `caladan_lab compare`, `sweep`, `timeline`, `run` and `seeds`; and that of `caladan_draw`."""
+"""The command line: `caladan_lab` with its words, and that of `caladan_draw`."""
 from __future__ import annotations
 
 import os
@@ -25,16 +25,23 @@ def answer(asked: Asked) -> int:
     if asked.is_picture or word in ("run", "seeds"):
         from .pictures.asked import draw, picture_of
         return draw(picture_of(asked))
-    refuse_picture(asked)
+    if not asked.command.is_text:
+        refuse_picture(asked)
     if word == "sweep":
         from .sweeps.command import sweep
         return sweep(asked)
     if word == "compare":
         from .comparisons.command import compare
         return compare(asked)
+    if word == "log":
+        from .logs.command import log
+        return log(asked)
     if word == "timeline":
         from .timelines.command import timeline
         return timeline(asked)
+    if word == "report":
+        from .reports.command import report
+        return report(asked)
     say(help_of(LAB, False))
     return 2
 

@@ -45,11 +45,11 @@ class Source:
         except OSError as fault:
             raise of_file(name, fault, READ) from None
 
-    def read(self, front: bytes = b"") -> bytes:
-        """All of it, with what stands in front; both together have the limit of an input."""
+    def read(self, front: bytes = b"", limit: int = INPUT_LIMIT) -> bytes:
+        """All of it, with what stands in front; both together have the limit of an input, or another."""
         parts, size = [front], len(front)
         try:
-            while size <= INPUT_LIMIT:
+            while size <= limit:
                 part = os.read(self.file, CHUNK)
                 if not part:
                     return b"".join(parts)

@@ -6,25 +6,30 @@ import functools
 import io
 import os
 from dataclasses import dataclass, field, replace
-from typing import TYPE_CHECKING, Iterable, Mapping, Optional, Sequence, Union
+from typing import TYPE_CHECKING, Callable, Iterable, Mapping, Optional, Sequence, Union
 
+from .arrivals import arrivals_of, turns_of
 from .comparisons.command import runs_of, sheet_of
 from .comparisons.given import Reading, parts_of
-from .comparisons.runs import Runs
-from .files import read_named
+from .comparisons.runs import NONE_CAME, Runs
+from .figures import as_csv
+from .files import Output, read_named
 from .labels import Labels, names_of
 from .programs import Came, Text, Viewer, Word, simulator, viewer
 from .refusal import Refusal
+from .stamps import tick_of
 from .sweeps.command import answer as swept
 from .sweeps.command import asked_of, table_of
-from .tables import KEYS, SEPARATOR, UNKNOWN_KEY, Machine, table_part
+from .tables import KEYS, SEPARATOR, UNKNOWN_KEY, Machine, names_in, table_part
 from .varying import key_of, variations_of
+from .windows import MIDDLE, Window
 from .words.asked import LAB
 from .words.parsing import Asked, read_words
 
 if TYPE_CHECKING:
     import pandas
 
+    from .logs.log import Log
     from .pictures.asked import Look
     from .pictures.picture import File, Picture
 
@@ -88,8 +93,10 @@ class Table:
     @classmethod
     def read(cls, file: Union[str, "os.PathLike[str]"], names: Sequence[str] = (), tick: str = "",
              program: str = "") -> "Table":
-        """The table of a file; of an input what stands before its first line ---."""
-        return cls(table_part(read_named(os.fspath(file))), tuple(names), tick, program)
+        """The table of a file; of an input what stands before its first line ---. A line such as `# A tick is 1 us.`
+        says the unit of a tick too. Refusal of another one."""
+        text = table_part(read_named(os.fspath(file)))
+        return cls(text, tuple(names), tick_of(text, tick), program)
 
     @functools.cached_property
     def view(self) -> Viewer:
@@ -129,6 +136,17 @@ class Table:
         ran = self.view.told([*words, "--came", Came()], self.text)
         return Run(self, ran.out, ran.came, tuple(words), policy, tuple(words_of(plan or {})))
 
+    def run_log(self, log: Log, turn: str, policy: str = "caladan", plan: Optional[Mapping[str, Option]] = None,
+                **options: Option) -> "Run":
+        """The run of a log, with turns as long as `turn` says, as "5us". Options are those of `caladan_lab log`, as
+        batch="batch", task=0, turns=2000, tick="ns". A tick is that of the table, else the unit of the log. A warning,
+        caladan.LeftOut, says that more than one request in a hundred is left out."""
+        from .logs.running import run_of
+        more = words_of({"names": ",".join(self.names) or None, "tick": self.tick or None, **options})
+        ran = run_of(self.view, log, self.text, self.machine, turn, more)
+        return Run(replace(self, text=ran.text, tick=ran.tick), ran.arrivals, ran.came, ran.words, policy,
+                   tuple(words_of(plan or {})))
+
     def run_of(self, arrivals: Union[str, "os.PathLike[str]"], policy: str = "caladan",
                plan: Optional[Mapping[str, Option]] = None) -> "Run":
         """The run on the arrivals of a file."""
@@ -158,7 +176,7 @@ class Run:
     @property
     def seed(self) -> Optional[int]:
         """The seed of the arrivals; none where they are not made by one."""
-        if not self.words or "--log" in self.words:
+        if not self.words or "--log" in self.words or self.words[0] == "log":
             return None
         return int(self.words[self.words.index("--seed") + 1]) if "--seed" in self.words else 1
 
@@ -192,10 +210,50 @@ class Run:
     @functools.cached_property
     def numbers(self) -> pandas.DataFrame:
         """The numbers of the run: a row for each measure, and for each task its number, whether there is more than
-        that, and of how many times a rank is."""
+        that, and of how many times a rank is. Times are of the requests that came in the middle eight tenths of the
+        turns, as in a sweep; where none did, of all. `measured` has those of another window."""
+        return self.measured()
+
+    def measured(self, window: str = MIDDLE, first: Optional[int] = None,
+                 after: Optional[int] = None) -> pandas.DataFrame:
+        """The numbers, with the times of the requests that came within a window: "middle" or "whole", from turn `first`
+        on and before turn `after` where these are given. Refusal where no request came then."""
+        words = Window(window, first, after).words(len(turns_of(self.arrivals)))
+        return self.measured_by(words, is_needed=first is not None or after is not None)
+
+    def measured_by(self, window: Sequence[str], is_needed: bool) -> pandas.DataFrame:
+        """The numbers with these words for a window; of all requests where none came and that is not needed."""
         names: list[Word] = ["--names", ",".join(self.table.names)] if self.table.names else []
         tick: list[Word] = ["--tick", self.tick] if self.tick else []
-        return frame_of(self.told("measure", "--csv", *self.counted(), *names, *tick), "", "measure")
+        try:
+            told = self.told("measure", "--csv", *self.counted(), *window, *names, *tick)
+        except Refusal as refusal:
+            if is_needed or NONE_CAME not in refusal.line:
+                raise
+            told = self.told("measure", "--csv", *self.counted(), *names, *tick)
+        return frame_of(told, "", "measure")
+
+    def numbers_by(self, by: Union[int, str]) -> pandas.DataFrame:
+        """The run in slices of time, of so many ticks or as "1ms": for each slice and task how many requests came and
+        were answered, the responses of those that came, and the cores held in the mean. Refusal of a plan's run without
+        turns, of more than 1,000 slices, and of a time where the table does not say what a tick is."""
+        from .slices import Counted, heading, rows_by, ticks_of
+        ticks = ticks_of(by, self.tick)
+        words: list[Word] = ["measure", "--policy", self.policy, *self.plan, "--csv", *self.counted()]
+        counted = Counted(self.told("requests", *self.counted()), self.told("series"))
+        rows = rows_by(arrivals_of(self.arrivals).turns, ticks,
+                       [self.table.labels.task(it) for it in range(len(self.table.machine.tasks))], counted,
+                       lambda more: self.table.view.ask([*words, *more], self.input))
+        return read_frame(as_csv([heading(self.tick or "ticks"), *([str(it) for it in row] for row in rows)]))
+
+    def report(self, file: Union[str, "os.PathLike[str]"], explain: str = "") -> None:
+        """Writes the run as one page of HTML to click through, as `caladan_lab report` does: explain="all", "changes"
+        or "none" says which passes are explained. Refusal of a run by a plan, and where the page cannot be written."""
+        from .reports.command import report_of
+        if self.plan:
+            raise Refusal(f"a run by {self.plan[0]} cannot be explained, so it has no report")
+        page = report_of(self.table.view, self.input, self.table.labels, self.policy, explain, came=self.came)
+        Output(os.fspath(file)).keep(page)
 
     def explain(self, number: int, task: Optional[int] = None, core: Optional[int] = None) -> str:
         """Why a pass, from 0, does what it does."""
@@ -203,25 +261,29 @@ class Run:
         history = simulator(self.table.view).told(["lockstep", "--table", "--policy", self.policy], self.input).out
         return self.table.view.told(["explain", "--policy", self.policy, *more], history).out.decode()
 
-
     def picture(self, file: File = None, first: int = 0, passes: Optional[int] = None, task: Optional[int] = None,
-                width: int = 800, dark: bool = False) -> Picture:
+                width: int = 800, dark: bool = False, responses: bool = False) -> Picture:
         """The lanes of the run, as `caladan_lab run` draws them: so many passes from one on, of a task alone where one
-        is named, so many pixels wide. It is written to the file, if one is named: SVG, PNG or PDF by its ending."""
+        is named, so many pixels wide, with a lane for the responses of each task where these are asked for. It is
+        written to the file, if one is named: SVG, PNG or PDF by its ending."""
         from .pictures.picture import of_run
-        return of_run(self.told, self.table.machine, self.table.look(width, dark), file, first, passes, task)
+        requests = self.told("requests", *self.counted()).decode() if responses else ""
+        return of_run(self.told, self.table.machine, self.table.look(width, dark), file, first, passes, task, requests)
 
 
 @dataclass(frozen=True)
 class Answer:
     """What came of many runs: the CSV, the words that asked for it, its table, the lines about objectives that are not
-    kept, and of a comparison its runs."""
+    kept; of a comparison its runs, and the CSV of all requests, which is drawn; and of a sweep the number of the task
+    that is swept."""
 
     csv: str
     words: tuple[str, ...]
     table: Table
     misses: tuple[str, ...] = ()
     runs: Optional[Runs] = field(default=None, repr=False, compare=False)
+    drawn: Optional[Callable[[], str]] = field(default=None, repr=False, compare=False)
+    swept: int = 0
 
     @property
     def tick(self) -> str:
@@ -246,10 +308,10 @@ class Answer:
         SVG, PNG or PDF by its ending."""
         from .pictures.picture import of_compare, of_sweep
         look, csv = self.table.look(width, dark), self.csv.partition("\n\n")[0]
-        if self.runs is not None:
-            return of_compare(csv, self.runs, look, file)
+        if self.runs is not None and self.drawn is not None:
+            return of_compare(self.drawn(), self.runs, look, file)
         asked = read_words(LAB, self.words)
-        return of_sweep(csv, self.table.machine, asked_of(asked).loads.task, asked.all("slo"), look, file)
+        return of_sweep(csv, self.table.machine, self.swept, asked.all("slo"), look, file)
 
 
 def _asked(word: str, table: Table, vary: Optional[Keys], options: Mapping[str, Option]) -> tuple[list[str], Asked]:
@@ -265,23 +327,39 @@ def compare(runs: Union[Run, Sequence[Run]], vary: Optional[Keys] = None, **opti
     given = [runs] if isinstance(runs, Run) else list(runs)
     first = given[0]
     words, asked = _asked("compare", first.table, vary, options)
-    variations = variations_of(asked.all("vary"), first.table.names)
+    variations = variations_of(asked.all("vary"), first.table.names or names_in(first.table.text), first.table.tick)
     tables = b"".join(it.table.machine.text() + SEPARATOR for it in given)
     text = tables + first.arrivals
     reading = Reading(first.table.view, text, parts_of(text, bool(variations)), bool(variations))
     came = None if first.came is None else ("the comings", first.came)
     labels = first.table.labels
     made = runs_of(asked, reading, variations, labels, came)
-    csv = sheet_of(made, variations, labels, came is not None, True).decode()
-    return Answer(csv, tuple(words), first.table, runs=made)
+
+    def csv_of(runs: Runs) -> str:
+        return sheet_of(runs, variations, labels, came is not None, True).decode()
+    return Answer(csv_of(made), tuple(words), first.table, runs=made, drawn=lambda: csv_of(made.of_whole()))
+
+
+def listed(values: Union[Value, Sequence[Value], None]) -> Optional[str]:
+    """Values as a word has them, with commas between."""
+    if values is None or isinstance(values, str):
+        return values
+    return ",".join(map(str, each_of(values)))
 
 
 def sweep(table: Table, load: Union[Value, Sequence[Value], None] = None, vary: Optional[Keys] = None,
-          **options: Option) -> Answer:
-    """The response of a task at rising loads. Options are those of `caladan_lab sweep`, as task=0, service=10,
-    turns=2000, seeds=5, slo="task.0.p99=400"."""
-    loads = None if load is None else str(load) if isinstance(load, (str, int, float)) else ",".join(map(str, load))
-    words, asked = _asked("sweep", table, vary, {"load": loads, **options})
+          log: Union[Log, str, "os.PathLike[str]", None] = None, scale: Union[Value, Sequence[Value], None] = None,
+          rate: Union[Value, Sequence[Value], None] = None, **options: Option) -> Answer:
+    """The response of a task at rising loads, or of the requests of a log, which is a Log or a file, at times its load
+    (`scale`) or at requests a second (`rate`). Options are those of `caladan_lab sweep`, as task=0, service=10,
+    turns=2000, seeds=5, slo="task.0.p99=400"; of a log turn="5us", batch="batch", seeds=10."""
+    from .logs.log import Log as Read
+    read = log if isinstance(log, Read) else None
+    file = None if log is None else log.name if isinstance(log, Read) else os.fspath(log)
+    of_log: dict[str, Option] = {"log": file, "scale": listed(scale), "rate": listed(rate)}
+    unit: dict[str, Option] = {} if read is None else {"unit": read.unit}
+    words, asked = _asked("sweep", table, vary, {"load": listed(load), **of_log, **unit, **options})
     names_of(asked.one("names"))
-    csv, lines = swept(asked_of(asked), table.text, table.view)
-    return Answer(csv, tuple(words), table, tuple(lines.splitlines()))
+    of_words = asked_of(asked, read, names_in(table.text))
+    csv, lines = swept(of_words, table.text, table.view)
+    return Answer(csv, tuple(words), table, tuple(lines.splitlines()), swept=of_words.loads.task)

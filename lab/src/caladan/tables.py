@@ -56,14 +56,23 @@ class Machine:
         return tuple(it.limit for it in self.tasks)
 
     @property
+    def owners(self) -> list[int]:
+        """The task of each thread."""
+        return [task for task, limit in enumerate(self.limits) for _ in range(limit)]
+
+    @property
     def best_effort(self) -> list[int]:
         """The numbers of the best-effort tasks."""
         return [n for n, it in enumerate(self.tasks) if it.kind == "be"]
 
     def has_key(self, key: str) -> bool:
         """Whether the table has a key: `cores`, `bandwidth_limit`, or of task 1 one like `task.1.delay`."""
-        fields = (f"task.{n}.{it}" for n in range(len(self.tasks)) for it in FIELDS)
-        return key in ("cores", "bandwidth_limit") or key in fields
+        return key in self.keys
+
+    @property
+    def keys(self) -> list[str]:
+        """All keys of the table."""
+        return ["cores", "bandwidth_limit", *(f"task.{n}.{it}" for n in range(len(self.tasks)) for it in FIELDS)]
 
     def text(self, values: Optional[Mapping[str, str]] = None) -> bytes:
         """The table as the program writes it, with these values at their keys."""
@@ -80,6 +89,23 @@ def table_part(given: bytes) -> bytes:
     """The table of an input: what stands before its first separator line, or all."""
     cut = separator(given)
     return given[:cut[0]] if cut else given
+
+
+NAMED = re.compile(r"#\s*([^\s#,.=]{1,40})\s*")
+
+
+def names_in(table: bytes) -> tuple[str, ...]:
+    """The names of the tasks of a table, where each has a word as the comment beside its line [[task]], or in the line
+    above that, and no two are the same; else none."""
+    names: list[str] = []
+    above = ""
+    for line in table.decode("utf-8", "replace").splitlines():
+        front, _, comment = line.partition("#")
+        if front.strip() == "[[task]]":
+            name = NAMED.fullmatch(f"#{comment}") or NAMED.fullmatch(above)
+            names.append(name[1] if name else "")
+        above = line.strip()
+    return tuple(names) if all(names) and len(set(names)) == len(names) else ()
 
 
 def machine_of(text: bytes) -> Machine:

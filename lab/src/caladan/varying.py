@@ -2,6 +2,7 @@
 from __future__ import annotations
 
 import math
+import re
 from dataclasses import dataclass
 from typing import Callable, Iterable, Optional, Sequence
 
@@ -9,6 +10,8 @@ from .numbers import number_of, task_named
 from .programs import Viewer
 from .refusal import Refusal
 from .tables import KEYS, UNKNOWN_KEY, Machine, accepted, is_of_table, machine_of, wanted_at
+from .times import is_with_unit, ticks_of
+from .words.likeness import tip
 
 FLAG = "--vary"
 MOST_TABLES = 1000
@@ -16,11 +19,13 @@ MOST_TABLES = 1000
 
 @dataclass(frozen=True)
 class Variation:
-    """A key of a table, what it is called where it is shown, and its values, each as a table has it."""
+    """A key of a table, what it is called where it is shown, and its values, each as a table has it; and how they are
+    shown, where that is otherwise."""
 
     key: str
     shown: str
     values: tuple[str, ...]
+    said: tuple[str, ...] = ()
 
 
 Variations = Sequence[Variation]
@@ -38,9 +43,9 @@ def key_of(said: str, names: Sequence[str]) -> str:
     return said if task is None else f"task.{task}.{name_of_field}"
 
 
-def variations_of(words: Sequence[str], names: Sequence[str]) -> list[Variation]:
+def variations_of(words: Sequence[str], names: Sequence[str], tick: str = "") -> list[Variation]:
     """What words vary, each a key with its values. The first that has none, that has a key of one before it, or with
-    which there would be too many tables is refused."""
+    which there would be too many tables is refused. A tick is of this unit, where that is said."""
     found: list[Variation] = []
     for word in words:
         said, equals, values = word.partition("=")
@@ -49,10 +54,39 @@ def variations_of(words: Sequence[str], names: Sequence[str]) -> list[Variation]
         key = key_of(said, names)
         if any(it.key == key for it in found):
             raise Refusal(f"{FLAG} {word}: this key is varied already")
-        found.append(Variation(key, said, tuple(values.split(","))))
+        told = tuple(filled(values.split(","), word))
+        found.append(Variation(key, said, tuple(in_ticks(key, it, tick, word) for it in told), told))
         if len(found) > 1 and settings_in(found) > MOST_TABLES:
             raise Refusal(f"{FLAG} {word}: the keys make more than {MOST_TABLES} tables")
     return found
+
+
+NUMBER = re.compile(r"([0-9]{1,19})(ns|us|ms|s|)")
+
+
+def filled(values: Sequence[str], word: str) -> list[str]:
+    """The values with what `..` stands for between two numbers and the last, in equal steps."""
+    if ".." not in values:
+        return list(values)
+    place = values.index("..")
+    near = [NUMBER.fullmatch(it) for it in [*values[max(place - 2, 0):place], *values[place + 1:place + 2]]]
+    numbers = [int(it[1]) for it in near if it]
+    units = {it[2] for it in near if it}
+    step = numbers[1] - numbers[0] if len(numbers) == 3 else 0
+    if not step or len(units) != 1 or (numbers[2] - numbers[1]) * step <= 0:
+        raise Refusal(f"{FLAG} {word}: .. stands between two numbers and the last, as in task.0.delay=10,20,..,80")
+    between = range(numbers[1] + step, numbers[2], step)
+    if len(between) > MOST_TABLES:
+        raise Refusal(f"{FLAG} {word}: the keys make more than {MOST_TABLES} tables")
+    rest = filled([f"{numbers[2]}{units.pop()}", *values[place + 2:]], word)
+    return [*values[:place], *(f"{it}{near[0][2] if near[0] else ''}" for it in between), *rest]
+
+
+def in_ticks(key: str, value: str, tick: str, word: str) -> str:
+    """A value as a table has it: of a key that is a time, one with a unit in ticks."""
+    if key.rpartition(".")[2] not in ("delay", "request") or not is_with_unit(value):
+        return value
+    return str(ticks_of(value, tick, f"{FLAG} {word}"))
 
 
 def settings_in(variations: Variations) -> int:
@@ -60,13 +94,18 @@ def settings_in(variations: Variations) -> int:
     return math.prod(len(it.values) for it in variations)
 
 
-def setting_at(variations: Variations, place: int) -> list[str]:
-    """The values of the setting at a place, from 0, in the order of the keys: the first key changes slowest."""
-    values: list[str] = []
+def places_at(variations: Variations, place: int) -> list[int]:
+    """Which value of each key the setting at a place has, from 0: the first key changes slowest."""
+    places: list[int] = []
     for variation in reversed(variations):
         place, own = divmod(place, len(variation.values))
-        values.insert(0, variation.values[own])
-    return values
+        places.insert(0, own)
+    return places
+
+
+def setting_at(variations: Variations, place: int) -> list[str]:
+    """The values of the setting at a place as they are shown, in the order of the keys."""
+    return [(it.said or it.values)[own] for it, own in zip(variations, places_at(variations, place))]
 
 
 def setting_text(variations: Variations, place: int) -> str:
@@ -76,14 +115,22 @@ def setting_text(variations: Variations, place: int) -> str:
 
 def varied_text(machine: Machine, variations: Variations, place: int) -> bytes:
     """The table with the values of a setting."""
-    return machine.text(dict(zip((it.key for it in variations), setting_at(variations, place))))
+    own = zip(variations, places_at(variations, place))
+    return machine.text({it.key: it.values[value] for it, value in own})
 
 
-def refused_setting(view: Viewer, variations: Variations, place: int, refusal: Refusal) -> Refusal:
-    """Why the table of a setting is refused, with what is wanted at each key that is varied."""
+def key_tip(machine: Machine, variations: Variations) -> str:
+    """Which key was meant by the first that the table lacks."""
+    lacks = next((it for it in variations if not machine.has_key(it.key)), None)
+    return tip(lacks.key, machine.keys) if lacks else ""
+
+
+def refused_setting(view: Viewer, variations: Variations, place: int, refusal: Refusal, close: str = "") -> Refusal:
+    """Why the table of a setting is refused, with what is wanted at each key that is varied; and which key was meant,
+    where that is said."""
     if not is_of_table(refusal):
         return refusal
-    below = KEYS if refusal.line == UNKNOWN_KEY else "".join(wanted_at(view, it.key) for it in variations)
+    below = KEYS + close if refusal.line == UNKNOWN_KEY else "".join(wanted_at(view, it.key) for it in variations)
     return Refusal(f"{setting_text(variations, place)} {refusal.line}", refusal.status, below)
 
 
@@ -92,7 +139,7 @@ def varied(view: Viewer, machine: Machine, variations: Variations, each: Each) -
     lacks a key is so in its first setting."""
     many = settings_in(variations)
     if not all(machine.has_key(it.key) for it in variations):
-        raise refused_setting(view, variations, 0, Refusal(UNKNOWN_KEY))
+        raise refused_setting(view, variations, 0, Refusal(UNKNOWN_KEY), key_tip(machine, variations))
     texts = [varied_text(machine, variations, place) for place in range(many)]
     for place, refusal in enumerate(each(lambda it: accepted(view, texts[it]), range(many))):
         if refusal is not None:

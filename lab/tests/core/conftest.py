@@ -2,11 +2,13 @@
 from __future__ import annotations
 
 import os
+import shutil
 from pathlib import Path
 
 import pytest
 
 from caladan.core import Action, Kind, Look
+from caladan.core import library as of_library
 
 TOP = Path(__file__).resolve().parents[3]
 TABLE = """cores = 2
@@ -23,13 +25,34 @@ request = 50
 PAIR = TABLE + TABLE[TABLE.index("[[task]]"):]
 
 
-@pytest.fixture
+PACKAGE = TOP / "lab" / "src" / "caladan"
+
+
+@pytest.fixture(scope="session")
 def library() -> str:
     """The file of the C library, which CALADAN_LIBRARY names."""
     file = os.environ.get("CALADAN_LIBRARY", "")
     if not file:
         pytest.skip("CALADAN_LIBRARY names no C library; tools/c_library runs these tests with one")
     return os.path.abspath(file)
+
+
+@pytest.fixture(autouse=True)
+def nothing_beside(monkeypatch: pytest.MonkeyPatch) -> None:
+    """The library of these tests is the one that they name, also in a checkout that has one in out/lib."""
+    monkeypatch.setattr(of_library, "places", list)
+
+
+def package_in(folder: Path) -> str:
+    """The folder for PYTHONPATH of a copy of the package in this one."""
+    shutil.copytree(PACKAGE, folder / "caladan", ignore=shutil.ignore_patterns("__pycache__"))
+    return str(folder)
+
+
+@pytest.fixture(scope="session")
+def alone(tmp_path_factory: pytest.TempPathFactory) -> str:
+    """The folder of a package beside which there is no library."""
+    return package_in(tmp_path_factory.mktemp("alone") / "share" / "caladan" / "python")
 
 
 @pytest.fixture

@@ -6,6 +6,7 @@ import os
 import subprocess
 import sys
 from pathlib import Path
+from typing import Callable
 
 import pytest
 
@@ -17,12 +18,19 @@ BEFORE = [str(TOP / "clients" / "python" / "caladan.py"), LIBRARY]
 NOW = ["-m", "caladan.core"]
 
 
-def ran(words: list[str], given: bytes = b"", library: str = "") -> tuple[int, str, str]:
-    """The status and both outputs."""
-    environment = {**os.environ, "PYTHONPATH": str(TOP / "lab" / "src"), "CALADAN_LIBRARY": library}
-    words = [library if it == LIBRARY else it for it in words]
-    it = subprocess.run([sys.executable, "-B", *words], input=given, capture_output=True, env=environment, check=False)
-    return it.returncode, it.stdout.decode(), it.stderr.decode()
+Ran = Callable[..., tuple[int, str, str]]
+
+
+@pytest.fixture
+def ran(alone: str) -> Ran:
+    """What runs it with these words: the status and both outputs."""
+    def runs(words: list[str], given: bytes = b"", library: str = "") -> tuple[int, str, str]:
+        environment = {**os.environ, "PYTHONPATH": alone, "CALADAN_LIBRARY": library}
+        words = [library if it == LIBRARY else it for it in words]
+        it = subprocess.run([sys.executable, "-B", *words], input=given, capture_output=True, env=environment,
+                            check=False)
+        return it.returncode, it.stdout.decode(), it.stderr.decode()
+    return runs
 
 
 def of(example: str) -> bytes:
@@ -30,7 +38,7 @@ def of(example: str) -> bytes:
 
 
 @pytest.mark.parametrize("words", [NOW, [*NOW, LIBRARY], BEFORE])
-def test_signals_are_decided(library: str, words: list[str]) -> None:
+def test_signals_are_decided(ran: Ran, library: str, words: list[str]) -> None:
     wanted = (EXAMPLES / "decide" / "tour" / "output").read_text()
     assert ran(words, of("decide/tour"), library) == (0, wanted, "")
     if words is not BEFORE:
@@ -38,7 +46,7 @@ def test_signals_are_decided(library: str, words: list[str]) -> None:
 
 
 @pytest.mark.parametrize("words", [NOW, [*NOW, LIBRARY], BEFORE])
-def test_a_history_is_audited_and_guarded(library: str, words: list[str], tmp_path: Path) -> None:
+def test_a_history_is_audited_and_guarded(ran: Ran, library: str, words: list[str], tmp_path: Path) -> None:
     tour = of("audit/tour")
     assert ran([*words, "audit"], tour, library) == (0, "legal\n", "")
     assert ran([*words, "guard"], tour, library) == (0, "permitted\n", "")
@@ -59,7 +67,7 @@ def test_a_history_is_audited_and_guarded(library: str, words: list[str], tmp_pa
     assert (status, out) == (2, f"legal\nillegal pass {len(passes) - 1}\nrefused\n")
 
 
-def test_a_policy_is_named(library: str) -> None:
+def test_a_policy_is_named(ran: Ran, library: str) -> None:
     example = next(it.parent for it in sorted((EXAMPLES / "decide").glob("*/args")) if "assured" in it.read_text())
     given, wanted = (example / "input").read_bytes(), (example / "output").read_text()
     assert ran([*NOW, "--policy", "assured"], given, library) == (0, wanted, "")
@@ -68,25 +76,26 @@ def test_a_policy_is_named(library: str) -> None:
 
 @pytest.mark.parametrize("given, why", [
     (b"", "no separator, or too long"), (b"cores = 2\n---\ncaladan-history,2\nend,0\n", "the table lacks a key")])
-def test_an_input_that_is_none_is_refused(library: str, given: bytes, why: str) -> None:
+def test_an_input_that_is_none_is_refused(ran: Ran, library: str, given: bytes, why: str) -> None:
     status, out, err = ran([*NOW, "audit"], given, library)
     assert (status, out) == (2, "") and err.startswith(f"caladan.core: refused: {why}")
 
 
-def test_words_that_there_are_not_are_refused(library: str) -> None:
+def test_words_that_there_are_not_are_refused(ran: Ran, library: str) -> None:
     for words in (["--frob"], ["audit", "-x"], [LIBRARY, "sweep"]):
         status, out, err = ran([*NOW, *words], b"", library)
         assert (status, out) == (2, "") and err.startswith("caladan.core: ")
 
 
-def test_help_needs_no_library() -> None:
+def test_help_needs_no_library(ran: Ran) -> None:
     status, out, err = ran([*NOW, "--help"], library="/nowhere")
     assert (status, err) == (0, "") and "[decide|audit|guard]" in out
 
 
-def test_a_library_that_is_not_there_is_a_line() -> None:
+def test_a_library_that_is_not_there_is_a_line(ran: Ran) -> None:
     status, out, err = ran([*NOW, "audit"], library="/nowhere/x.so")
     assert (status, out) == (2, "") and err.startswith("caladan.core: /nowhere/x.so: ") and err.count("\n") == 1
+    assert err.endswith("; CALADAN_LIBRARY names another\n")
 
 
 def test_the_module_is_the_package(library: str) -> None:

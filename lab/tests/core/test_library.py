@@ -15,9 +15,8 @@ from caladan import core
 from caladan.core import NoLibrary, Scheduler
 from caladan.core import library as of_library
 
-from .conftest import TABLE, TOP
+from .conftest import TABLE, package_in
 
-PACKAGE = TOP / "lab" / "src" / "caladan"
 ASKS = "from caladan.core import Scheduler; print(Scheduler(open(0).read()).library._name)"
 
 
@@ -25,7 +24,6 @@ ASKS = "from caladan.core import Scheduler; print(Scheduler(open(0).read()).libr
 def none(monkeypatch: pytest.MonkeyPatch) -> None:
     """No library is found."""
     monkeypatch.delenv("CALADAN_LIBRARY", raising=False)
-    monkeypatch.setattr(of_library, "places", list)
     monkeypatch.setattr(of_library, "NAME", "libcaladan_of_nowhere.so")
 
 
@@ -40,6 +38,14 @@ def test_where_there_is_none_it_is_said_what_to_do(none: None) -> None:
 def test_a_file_that_is_not_there_is_named(monkeypatch: pytest.MonkeyPatch) -> None:
     monkeypatch.setenv("CALADAN_LIBRARY", "/nowhere/libcaladan_c.so")
     with pytest.raises(NoLibrary, match="^/nowhere/libcaladan_c.so: .*; CALADAN_LIBRARY names another$"):
+        Scheduler(TABLE)
+
+
+def test_a_file_beside_that_is_no_library_is_named(monkeypatch: pytest.MonkeyPatch, tmp_path: Path) -> None:
+    (tmp_path / "libcaladan_c.so").write_text("no library")
+    monkeypatch.setattr(of_library, "places", lambda: [str(tmp_path / "libcaladan_c.so")])
+    monkeypatch.setenv("CALADAN_LIBRARY", "/nowhere/libcaladan_c.so")
+    with pytest.raises(NoLibrary, match=f"^{tmp_path}/libcaladan_c.so: .*; `library` names another$"):
         Scheduler(TABLE)
 
 
@@ -75,14 +81,24 @@ def test_the_variable_names_it(library: str, monkeypatch: pytest.MonkeyPatch, no
 @pytest.mark.parametrize("at, lib", [
     ("share/caladan/python", "lib"), ("lib/python3.11/site-packages", "lib"),
     ("lib/python3/dist-packages", f"lib/{sysconfig.get_config_var('MULTIARCH')}"), ("lab/src", "out/lib")])
-def test_it_is_found_beside_what_is_installed(library: str, tmp_path: Path, at: str, lib: str) -> None:
-    """In a prefix, in a venv, in Debian's places and in a checkout."""
-    (tmp_path / at).mkdir(parents=True)
+@pytest.mark.parametrize("named", ["", "/nowhere/libcaladan_c.so"])
+def test_it_is_found_beside_what_is_installed(library: str, tmp_path: Path, at: str, lib: str, named: str) -> None:
+    """In a prefix, in a venv, in Debian's places and in a checkout; and before the one that CALADAN_LIBRARY names."""
+    path = package_in(tmp_path / at)
     (tmp_path / lib).mkdir(parents=True, exist_ok=True)
-    shutil.copytree(PACKAGE, tmp_path / at / "caladan")
     shutil.copy(library, tmp_path / lib / "libcaladan_c.so")
+    assert opened_with(path, named) == str(tmp_path / lib / "libcaladan_c.so")
+
+
+def test_where_none_is_beside_the_variable_names_it(library: str, alone: str) -> None:
+    assert opened_with(alone, library) == library
+
+
+def opened_with(path: str, named: str) -> str:
+    """The library that the package in a folder opens, where CALADAN_LIBRARY names this one, if it names any."""
     environment = {name: it for name, it in os.environ.items() if name != "CALADAN_LIBRARY"}
-    environment["PYTHONPATH"] = str(tmp_path / at)
+    environment |= {"PYTHONPATH": path, **({"CALADAN_LIBRARY": named} if named else {})}
     ran = subprocess.run([sys.executable, "-B", "-W", "ignore", "-c", ASKS], input=TABLE, text=True,
                          capture_output=True, env=environment, check=False)
-    assert (ran.stdout.strip(), ran.stderr) == (str(tmp_path / lib / "libcaladan_c.so"), "")
+    assert ran.stderr == ""
+    return ran.stdout.strip()

@@ -16,9 +16,10 @@ A case to which no answer is kept yet is passed over, and counted; `write --miss
 A case has words, files and a standard input, made from seeds by the modules of frozen/, and runs in a folder of its
 own. Its answer is the exit status, both outputs, and each file that is new, changed or gone. `check` compares all to
 the byte, but for the name of the program: a line that begins with `caladan_view:`, or with `Usage: caladan_view`, must
-begin so with NAME (else the file name of the program's last word); within a line either name may stand. The last line
-is 'N passed, M failed', and above it stands the first difference of each case that failed. A case that is made
-otherwise than the kept one fails too: freeze it again."""
+begin so with NAME (else the file name of the program's last word); within a line either name may stand. Another program
+than caladan_view is asked to count and judge as that did (frozen/changed.py; README.md says what is otherwise). The
+last line is 'N passed, M failed', and above it stands the first difference of each case that failed. A case that is
+made otherwise than the kept one fails too: freeze it again."""
 import argparse
 import os
 import shlex
@@ -29,6 +30,7 @@ from typing import Sequence
 
 sys.dont_write_bytecode = True
 from frozen.case import Answer, Case  # noqa: E402
+from frozen.changed import asked_as_before, said_as_before  # noqa: E402
 from frozen.comparing import KEPT_NAME, differences  # noqa: E402
 from frozen.coverage import table_of_options, table_of_statuses, table_of_texts  # noqa: E402
 from frozen.every import cases, chosen  # noqa: E402
@@ -89,8 +91,14 @@ def check(given: argparse.Namespace) -> int:
     name = given.name or os.path.basename(shlex.split(given.program)[-1])
     kept, failed = kept_answers(given.answers), 0
     waiting = [it for it in asked if it.name not in kept]
-    for case, answer in answers_of(program, [it for it in asked if it.name in kept], given.jobs):
-        found = faults(case, answer, kept, name)
+    named = {it.name: it for it in asked if it.name in kept}
+    # Another program than the one whose answers are kept is asked to count and judge as that did.
+    run = [*named.values()] if name == KEPT_NAME else [asked_as_before(it, kept[it.name].answer)
+                                                       for it in named.values()]
+    for ran, answer in answers_of(program, run, given.jobs):
+        case = named[ran.name]
+        then = answer if name == KEPT_NAME else said_as_before(answer, kept[case.name].answer)
+        found = faults(case, then, kept, name)
         passed, failed = passed + (not found), failed + bool(found)
         if found:
             print(f"differs: {case.name}: {shlex.join(case.words)[:300]}", *found, sep="\n  ", flush=True)

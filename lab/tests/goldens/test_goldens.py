@@ -11,7 +11,8 @@ from pathlib import Path
 sys.dont_write_bytecode = True
 sys.path.insert(0, str(Path(__file__).resolve().parent))
 import make  # noqa: E402
-from frozen.case import Answer  # noqa: E402
+from frozen.case import Answer, Case  # noqa: E402
+from frozen.changed import asked_as_before, said_as_before  # noqa: E402
 from frozen.chance import Chance  # noqa: E402
 from frozen.comparing import differences  # noqa: E402
 from frozen.every import cases, chosen, sample  # noqa: E402
@@ -80,6 +81,29 @@ class Kept(unittest.TestCase):
         for text in (said, other.replace("caladan_lab:", "caladan_view:"),
         other.replace("Usage: caladan_lab", "Usage: it")):
             self.assertNotEqual(differences(kept, Answer(2, "", text, {}), "caladan_lab"), [])
+
+
+class Changed(unittest.TestCase):
+    """What is asked as before, and what is said more now."""
+
+    def test_options_stand_behind_the_word(self) -> None:
+        done, refused = Answer(0, "x", "", {}), Answer(2, "", "error: unexpected argument", {})
+        for kind, words in (("sweep", ("--rules", "4")), ("compare", ("--window", "whole")), ("timeline", ())):
+            case = Case(f"{kind}-0", (kind, "--tick", "us"))
+            self.assertEqual(asked_as_before(case, done).words, (kind, *words, "--tick", "us"))
+            self.assertEqual(asked_as_before(case, refused), case)
+
+    def test_only_what_is_said_more_is_passed_over(self) -> None:
+        then = Answer(2, "1\n", "caladan_view: --slo x: a task, p50, p90, p99, p99.9 or max, and ticks\n", {})
+        tip = "  did you mean `p99`?\n"
+        now = dataclasses.replace(then, said=then.said.replace("p90, p99,", "p90, p95, p99,") + tip)
+        self.assertEqual(said_as_before(now, then), then)
+        for other in (dataclasses.replace(now, said=now.said + "  no\n"), dataclasses.replace(now, wrote="2\n")):
+            self.assertNotEqual(said_as_before(other, then), then)
+        tipped = dataclasses.replace(then, said=f"caladan_view: config 2\n{tip}")
+        self.assertEqual(said_as_before(tipped, tipped), tipped)
+        untipped = dataclasses.replace(tipped, said="caladan_view: config 2\n")
+        self.assertNotEqual(said_as_before(untipped, tipped), tipped)
 
 
 class Checked(unittest.TestCase):

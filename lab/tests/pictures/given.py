@@ -54,9 +54,10 @@ def viewed(*words: str, given: str = "") -> str:
 
 @functools.lru_cache(maxsize=None)
 def compared(*words: str, given: str = "") -> str:
-    """What caladan_lab compare prints."""
-    ran = subprocess.run(["/usr/bin/python3", f"{TOP}/caladan_lab", "compare", *words, "--program", VIEW], input=given,
-                         capture_output=True, text=True, check=False)
+    """What caladan_lab compare prints of all requests, as a picture has them."""
+    program = ["/usr/bin/python3", f"{TOP}/caladan_lab", "compare", "--window", "whole"]
+    ran = subprocess.run([*program, *words, "--program", VIEW], input=given, capture_output=True, text=True,
+                         check=False)
     assert ran.returncode == 0, ran.stderr
     return ran.stdout
 

@@ -2,12 +2,13 @@
 from __future__ import annotations
 
 import math
+import re
 import unittest
 
 import numpy
 
-from .given import (DELAYS, compared, drawn, example, file, input_of, named, pairs, rows_in, task_values, viewed,
-                    words_of)
+from .given import (DELAYS, compared, drawn, example, file, input_of, named, pairs, rows_in, task_values, text_of,
+                    viewed, words_of)
 
 
 class Compared:
@@ -65,12 +66,13 @@ class Compared:
         words, told = " ".join(words_of(self.paper)), []
         for task in range(3):
             curves = [pairs(self.part(f"shares-{task}-{it}").get_xydata()) for it in range(3)]
-            first = [curves.index(it) for it in curves]
-            told += [f"{label} the same as {self.TABLES[at]}" for n, (label, at) in enumerate(zip(self.TABLES, first))
-                     if at < n]
+            for curve in {tuple(it) for it in curves}:
+                own = [label for label, it in zip(self.TABLES, curves) if tuple(it) == curve]
+                told += [own] if own[1:] else []
         self.assertTrue(told)
-        self.assertEqual(words.count(" the same as "), len(told))
-        self.assertEqual([it for it in told if it not in words], [])
+        said = ["all tables: the same curve" if len(it) == 3 else f"the same curve: {', '.join(it)}" for it in told]
+        self.assertEqual(words.count("the same curve"), len(told))
+        self.assertEqual([it for it in said if it not in words], [])
 
     def test_strips_are_the_cores_held(self):
         for task in range(3):
@@ -125,6 +127,34 @@ class Tables(Compared, unittest.TestCase):
     """Three tables in one input."""
 
     NAME, TABLES = "compare/tour", ("table 0", "table 1", "table 2")
+
+
+class Unanswered(unittest.TestCase):
+    """A batch job that answers nothing with any table."""
+
+    WORDS = ["--vary", "task.0.delay=10,30"]
+
+    @classmethod
+    def setUpClass(cls):
+        table, _, arrivals = text_of(example("lockstep/tour")).partition("---\n")
+        long = re.sub(r"^(request,[456],\d+,\d+),\d+", r"\1,1000", arrivals, flags=re.M)
+        cls.given = f"{table}---\n{long}"
+        cls.paper = drawn("compare", *cls.WORDS, file("unanswered", cls.given))
+        cls.answered = drawn("compare", *cls.WORDS, example("lockstep/tour"))
+
+    def test_it_takes_no_half_page(self):
+        self.assertFalse(named(self.paper, "shares-2"))
+        self.assertIn("None of its requests was answered by the end.", words_of(self.paper))
+        self.assertLess(self.paper.height, self.answered.height - 150)
+
+    def test_its_cores_are_shown(self):
+        told = viewed("series", given=compared(*self.WORDS, "--write-input", "1", given=self.given))
+        self.assertEqual(list(named(self.paper, "strip-2-1")["strip-2-1"].get_data().values),
+                         task_values(rows_in(told), 2, "held [cores]")[:-1])
+
+    def test_the_others_have_their_plots(self):
+        self.assertEqual(len(named(self.paper, "shares-")), 4)
+        self.assertNotIn("None of its requests was answered by the end.", words_of(self.answered))
 
 
 class Shares(unittest.TestCase):

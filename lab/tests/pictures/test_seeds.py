@@ -94,3 +94,59 @@ class Refused(unittest.TestCase):
             with self.subTest(line), self.assertRaises(Refusal) as refused:
                 drawn_of(asked("seeds", file("wrong.csv", text)))
             self.assertIn(line, str(refused.exception))
+
+
+class OfASweep(unittest.TestCase):
+    """What `sweep --csv` writes with several seeds."""
+
+    HEAD = ("load of kv,task.0.delay,{},p50 [us],p50 bound,p50 of,p90 [us],p90 bound,p90 of,p99 [us],p99 bound,p99 of,"
+            "p99.9 [us],p99.9 bound,p99.9 of,mean [us],mean bound,mean of,came,later,far,left out,served,mean cores,"
+            "best-effort share\n")
+
+    @staticmethod
+    def row(load, delay, which, p50, p99, share):
+        bound = ">" if str(p99).startswith(">") else ""
+        p99 = str(p99).lstrip(">")
+        return (f"{load},{delay},{which},{p50},,,{p50},,,{p99},{bound},,{p99},{bound},,{p50}.000,,,9,0,0,0,9,1.000,"
+                f"{share}\n")
+
+    def check(self, text):
+        """What is drawn of a sweep of two loads and two delays with three seeds."""
+        paper = drawn("seeds", file("of_a_sweep.csv", text))
+        medians = {name: [y for _, y in curve(paper, name)] for name in named(paper, "median-")}
+        self.assertEqual(medians, {
+            "median-0-0-0": [20, 40], "median-0-0-1": [21, 41], "median-0-1-0": [50, None], "median-0-1-1": [51, 71],
+            "median-0-2-0": [50, None], "median-0-2-1": [51, 71], "median-0-3-0": [0.3, 0.2],
+            "median-0-3-1": [0.31, 0.21]})
+        self.assertEqual([y for _, y in curve(paper, "spread-0-0-0-0")], [10, 30])
+        words = words_of(paper)
+        for it in ("p50, us", "p99, us", "p99.9, us", "best-effort share", "load of kv", "task.0.delay=10",
+                   "task.0.delay=40", "Points: the median of 3 seeds. Bars: from the least to the greatest."):
+            self.assertIn(it, " ".join(words))
+
+    def test_a_row_for_each_seed(self):
+        rows = [self.row(load, delay, seed, p50 + more, f"{sign}{p99 + more}" if delay == 10 else p99 + more,
+                         round(share + more / 100, 3))
+                for load, each in (("0.100", ((10, 40, "", 0.2), (30, 60, "", 0.4), (20, 50, "", 0.3))),
+                                   ("0.200", ((40, 70, ">", 0.2), (35, 60, "", 0.1), (45, 80, ">", 0.4))))
+                for delay, more in ((10, 0), (40, 1))
+                for seed, (p50, p99, sign, share) in enumerate(each, 1)]
+        self.check(self.HEAD.format("seed") + "".join(rows))
+
+    def test_three_rows_of_all(self):
+        given = {("0.100", 10): ((10, 40, 0.2), (20, 50, 0.3), (30, 60, 0.4)),
+                 ("0.100", 40): ((11, 41, 0.21), (21, 51, 0.31), (31, 61, 0.41)),
+                 ("0.200", 10): ((35, 60, 0.1), (40, ">70", 0.2), (45, ">80", 0.4)),
+                 ("0.200", 40): ((36, 61, 0.11), (41, 71, 0.21), (46, 81, 0.41))}
+        rows = [self.row(*setting, which, *numbers) for setting, own in given.items()
+                for which, numbers in zip(("least", "median", "greatest"), own)]
+        self.check(self.HEAD.format("of 3 seeds") + "".join(rows))
+
+    def test_what_is_no_sweep_of_several_seeds_is_refused(self):
+        one = self.HEAD.replace("{},", "") + self.row("0.100", 10, "x", 1, 2, 0).replace(",x,", ",")
+        few = self.HEAD.format("of 3 seeds") + "".join(self.row(load, delay, which, 1, 2, 0.1) for load, delay in (
+            ("0.1", 10), ("0.1", 40), ("0.2", 10)) for which in ("least", "median", "greatest"))
+        for text, said in ((one, "the sweep has one seed; wanted: the CSV of `sweep --seeds N --csv`"),
+                           (few, "not each load has the rows of each setting; wanted: all that `sweep --csv` wrote")):
+            with self.assertRaisesRegex(Refusal, said):
+                drawn("seeds", file("refused_sweep.csv", text))

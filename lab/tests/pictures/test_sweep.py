@@ -7,6 +7,7 @@ import unittest
 import numpy
 
 from caladan.pictures.colours import LIGHT
+from caladan.refusal import Refusal
 
 from .given import as_csv, drawn, example, file, named, pairs, rows_in, table_of, text_of, words_of
 
@@ -179,14 +180,54 @@ class Units(unittest.TestCase):
 
 
 class Seeds(unittest.TestCase):
-    """Three rows of several seeds for each load."""
+    """Several seeds: three rows for each load."""
 
-    def test_each_row_has_its_curve(self):
-        paper, told = drawn("sweep", example("sweep/seeds_undecided", "output")), {}
-        for it in rows_in(text_of(example("sweep/seeds_undecided", "output"))):
-            told.setdefault(it["of 4 seeds"], []).append(it)
-        self.assertEqual(list(told), ["least", "median", "greatest"])
-        for number, (which, rows_of_it) in enumerate(told.items()):
-            self.assertIn(f"{which} of 4 seeds", words_of(paper))
-            asked = [(float(it["load"]), math.nan if it["p50"] == "-" else answered(it, "p50")) for it in rows_of_it]
-            self.assertEqual(repr(pairs(named(paper, f"p50-{number}")[f"p50-{number}"].get_xydata())), repr(asked))
+    GIVEN = example("sweep/seeds_undecided", "output")
+
+    @classmethod
+    def setUpClass(cls):
+        cls.paper, cls.rows = drawn("sweep", cls.GIVEN), {}
+        for it in rows_in(text_of(cls.GIVEN)):
+            cls.rows.setdefault(it["of 4 seeds"], []).append(it)
+
+    def times(self, which, rank):
+        return [math.nan if it[rank] == "-" else answered(it, rank) for it in self.rows[which]]
+
+    def test_the_median_has_the_only_curve(self):
+        self.assertEqual(list(self.rows), ["least", "median", "greatest"])
+        loads = [float(it["load"]) for it in self.rows["median"]]
+        for rank in ("p50", "p99"):
+            line = named(self.paper, f"{rank}-0")[f"{rank}-0"]
+            self.assertEqual(repr(pairs(line.get_xydata())), repr(list(zip(loads, self.times("median", rank)))))
+        self.assertFalse(named(self.paper, "p50-1"))
+        self.assertNotIn("least", "".join(it for it in words_of(self.paper) if "seeds" not in it))
+        self.assertIn("the median of 4 seeds", " ".join(words_of(self.paper)))
+
+    def test_the_band_goes_from_the_least_to_the_greatest(self):
+        self.check_band(self.paper, "p50", 0.3, {30.0})
+
+    def check_band(self, paper, rank, load, edges):
+        """At a load the band of the first table has these edges."""
+        corners = [it for path in named(paper, f"band-{rank}-0")[f"band-{rank}-0"].get_paths() for it in path.vertices]
+        self.assertEqual({float(y) for x, y in corners if abs(x - load) < 1e-9}, edges)
+
+    def test_a_row_for_each_seed_has_the_same_picture(self):
+        head = "load,seed," + text_of(self.GIVEN).partition("\n")[0].split(",", 2)[2]
+        rest = "3,0,0,0,3,1.000,0.000"
+        rows = [f"{load},{seed},{p},,,{p},,,{p},{bound},3,{p},{bound},3,{p}.000,,,{rest}"
+                for load, seeds in (("0.1", ((30, ""), (10, ""), (20, ""))), ("0.2", ((40, ""), (50, ">"), (70, ""))))
+                for seed, (p, bound) in enumerate(seeds, 1)]
+        paper = drawn("sweep", file("by_seed.csv", "\n".join([head, *rows]) + "\n"))
+        line = named(paper, "p99-0")["p99-0"]
+        self.assertEqual(pairs(line.get_xydata()), [(0.1, 20.0), (0.2, 70.0)])
+        self.check_band(paper, "p50", 0.1, {10.0, 30.0})
+        self.check_band(paper, "p50", 0.2, {40.0, 70.0})
+        # The greatest of the second load is pending, so that its band is open at the top.
+        axes = next(it for it in paper.figure.axes if it.get_label() == "response over load")
+        self.check_band(paper, "p99", 0.2, {40.0, float(axes.get_ylim()[1])})
+        self.assertIn("the median of 3 seeds", " ".join(words_of(paper)))
+
+    def test_a_row_that_is_none_of_the_three_is_refused(self):
+        told = text_of(self.GIVEN).replace("0.300,median,", "0.300,middle,")
+        with self.assertRaisesRegex(Refusal, "middle.csv: line 6: `of 4 seeds` is `middle`; wanted: least, median or"):
+            drawn("sweep", file("middle.csv", told))

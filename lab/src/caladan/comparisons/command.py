@@ -4,16 +4,19 @@ from __future__ import annotations
 from dataclasses import replace
 from typing import Optional, Sequence
 
-from ..arrivals import is_some_within
-from ..files import STANDARD, Output, Source, joined, read_named
+from ..arrivals import is_some_within, turns_of
+from ..files import STANDARD, Output, Source, is_terminal, joined, read_named, separator
 from ..labels import Labels, names_of, table_names
 from ..moving import Given, NoTask, ProgramMover
 from ..plans import plan_of
 from ..pool import each
 from ..programs import viewer
 from ..refusal import Refusal
-from ..tables import SEPARATOR, Machine
+from ..stamps import tick_of
+from ..sweeps.command import names_needed
+from ..tables import SEPARATOR, Machine, names_in, table_part
 from ..varying import Variations, setting_text, varied, variations_of
+from ..windows import MIDDLE, Window
 from ..words.parsing import Asked
 from ..words.refusals import Mistake, with_usage
 from .given import Reading, parts_of
@@ -22,6 +25,10 @@ from .sheet import CompareSheet
 
 VARY = "--vary <KEY=V1,V2,..>"
 ARRIVALS = "--arrivals <FILE>"
+ALONE = """\
+  --arrivals names arrivals without a table, as `caladan_view arrivals` writes
+  them without --table; each table is a file of its own
+"""
 NONE_CAME = "no request came within the turns of --from and --to"
 
 
@@ -71,26 +78,35 @@ class Comparison:
 
     def text(self) -> bytes:
         """The answer."""
-        variations = variations_of(self.asked.all("vary"), self.names)
-        given = self.source.read(self.front)
+        tick = self.asked.one("tick") or ""
+        early = self.source.read(self.front) if names_needed(self.asked) else None
+        names = self.names or (names_in(table_part(early)) if early is not None else ())
+        variations = variations_of(self.asked.all("vary"), names, tick)
+        given = self.source.read(self.front) if early is None else early
+        if self.files and separator(given[len(self.front):]):
+            raise Refusal(f"{self.input_name or 'the standard input'}: a line --- in arrivals", below=ALONE)
         came = None if self.came_name is None else (self.came_name, read_named(self.came_name))
         parts = parts_of(given, bool(variations), self.files, self.input_name)
-        labels = Labels(self.names, self.asked.one("tick") or "", table_names(self.files))
+        labels = Labels(self.names, tick_of(given, tick or None), table_names(self.files))
         return answer(self.asked, Reading(viewer(self.asked.one("program")), given, parts, bool(variations)),
                       variations, labels, came)
 
 
 def terms_of(asked: Asked) -> Terms:
     """By what runs are made and counted."""
-    return Terms(tuple(asked.all("policy") or ["caladan"]), plan_of(asked), asked.one("from"), asked.one("to"))
+    return Terms(tuple(asked.all("policy") or ["caladan"]), plan_of(asked), window_of(asked))
+
+
+def window_of(asked: Asked) -> Window:
+    """Which requests are ranked."""
+    return Window(asked.one("window") or MIDDLE, asked.number("from"), asked.number("to"))
 
 
 def refuse_empty_window(asked: Asked, given: Given) -> None:
     """Refuses turns to which no request came."""
-    first, after = asked.number("from"), asked.number("to")
-    if first is None and after is None:
+    if not asked.has("from") and not asked.has("to"):
         return
-    if not is_some_within(given.comings, first, after):
+    if not is_some_within(given.comings, *window_of(asked).turns(len(turns_of(given.text)))):
         raise Refusal(NONE_CAME)
 
 
@@ -111,13 +127,15 @@ def runs_of(asked: Asked, reading: Reading, variations: Variations, labels: Labe
         arrivals = replace(arrivals, came=came[1])
     refuse_empty_window(asked, arrivals)
     names = [table_name(variations, it) for it in range(len(machines))]
-    return Runs(reading.view, terms_of(asked), machines, ProgramMover(reading.view, arrivals), names)
+    mover = ProgramMover(reading.view, arrivals)
+    return Runs(reading.view, terms_of(asked), machines, mover, names, turns_of(arrivals.text))
 
 
-def sheet_of(runs: Runs, variations: Variations, labels: Labels, has_came: bool, is_csv: bool) -> bytes:
+def sheet_of(runs: Runs, variations: Variations, labels: Labels, has_came: bool, is_csv: bool,
+             is_shown: bool = False) -> bytes:
     """What is written of the runs of a comparison, which are made; in all rows where the file of when requests came is
     given."""
-    sheet = CompareSheet(runs.all(), runs.terms.policies, variations, labels, has_came, is_csv)
+    sheet = CompareSheet(runs.all(is_shown), runs.terms.policies, variations, labels, has_came, is_csv)
     return sheet.written().encode("utf-8", "surrogateescape")
 
 
@@ -129,7 +147,7 @@ def answer(asked: Asked, reading: Reading, variations: Variations, labels: Label
         machines, arrivals = tables_of(asked, reading, variations, labels)
         return input_text(ProgramMover(reading.view, arrivals), machines, variations, table)
     runs = runs_of(asked, reading, variations, labels, came)
-    return sheet_of(runs, variations, labels, came is not None, asked.has("csv"))
+    return sheet_of(runs, variations, labels, came is not None, asked.has("csv"), is_terminal())
 
 
 def table_name(variations: Variations, table: int) -> str:

@@ -2,8 +2,8 @@
 from __future__ import annotations
 
 import itertools
-from dataclasses import dataclass
-from typing import Optional, Sequence
+from dataclasses import dataclass, field, replace
+from typing import Sequence
 
 from .. import pool
 from ..figures import MaybeFigure
@@ -11,8 +11,11 @@ from ..measured import CROWD, TIMES, Measured, measured_of
 from ..moving import Moved, Mover, NoTask
 from ..plans import Plan
 from ..programs import Ran, Text, Viewer, Word, refused
+from ..progress import Progress
 from ..refusal import Refusal
+from ..samples import PER_MILLE, Sample, raised, samples_of
 from ..tables import SEPARATOR, Machine
+from ..windows import WHOLE, Window
 
 NONE_CAME = "no request came within the turns"
 # The rows of the requests that came within the window.
@@ -22,19 +25,21 @@ RANKED = {it for it in TIMES if not it.startswith("machine")} | {
 
 @dataclass(frozen=True)
 class ComparedRun:
-    """A run: its numbers, whether these say which requests found their turns taken, and whether a request came within
-    the window."""
+    """A run: its numbers, whether these say which requests found their turns taken, whether a request came within the
+    window, how many tasks there are, and the samples of those with a rank whose request is pending."""
 
     measured: Measured
     has_crowd: bool
     is_ranked: bool
     tasks: int
+    samples: dict[int, Sample] = field(default_factory=dict)
 
     def of(self, label: str, task: int) -> MaybeFigure:
         """What a row says of a task, which the table may not have."""
         if task >= self.tasks or (label in RANKED and not self.is_ranked):
             return None
-        return self.measured.of(label, task)
+        figure = self.measured.of(label, task)
+        return raised(figure, self.samples[task], label) if task in self.samples else figure
 
     def crowd(self, label: str, task: int) -> int:
         """How many requests of a task found their turns taken, by a row."""
@@ -48,25 +53,26 @@ class ComparedRun:
 
 @dataclass(frozen=True)
 class Terms:
-    """By what runs are made and counted: the policies, the plan, and the turns of the window."""
+    """By what runs are made and counted: the policies, the plan, and the window."""
 
     policies: tuple[str, ...]
     plan: Plan
-    first: Optional[str]
-    after: Optional[str]
-
-    @property
-    def window(self) -> list[str]:
-        words = [("--from", self.first), ("--to", self.after)]
-        return [it for flag, word in words if word is not None for it in (flag, word)]
+    window: Window
 
 
 class Runs:
     """What makes the runs."""
 
     def __init__(self, view: Viewer, terms: Terms, machines: Sequence[Machine], mover: Mover,
-                 names: Sequence[str]) -> None:
+                 names: Sequence[str], turns: Sequence[int]) -> None:
         self.view, self.terms, self.machines, self.mover, self.names = view, terms, machines, mover, names
+        # The clocks of the turns, which all tables have in common.
+        self.turns = turns
+
+    def of_whole(self) -> "Runs":
+        """The same runs, counted whole."""
+        return Runs(self.view, replace(self.terms, window=Window(WHOLE)), self.machines, self.mover, self.names,
+                    self.turns)
 
     def moved(self, table: int) -> Moved:
         """What a table gets."""
@@ -88,7 +94,7 @@ class Runs:
         given = self.machines[table].text() + SEPARATOR + moved.arrivals
         words = ["measure", "--csv", "--policy", policy, *self.plan_for(moved).words()]
         came: list[Word] = [] if moved.came is None else ["--came", Text(moved.came)]
-        ran = self.view.ask([*words, *came, *terms.window], given)
+        ran = self.view.ask([*words, *came, *terms.window.words(len(self.turns))], given)
         if ran.status == 2 and NONE_CAME in ran.err:
             return self.view.ask([*words, *came], given), moved, False
         return ran, moved, True
@@ -99,13 +105,36 @@ class Runs:
         ran, moved, is_ranked = self.asked(table, policy)
         if ran.status:
             raise refused(ran)
-        return ComparedRun(measured_of(ran.out), moved.came is not None, is_ranked, len(self.machines[table].tasks))
+        measured, tasks = measured_of(ran.out), len(self.machines[table].tasks)
+        samples = self.samples(measured, table, policy, moved) if is_ranked else {}
+        return ComparedRun(measured, moved.came is not None, is_ranked, tasks, samples)
 
-    def all(self) -> list[ComparedRun]:
+    def samples(self, measured: Measured, table: int, policy: str, moved: Moved) -> dict[int, Sample]:
+        """The samples of the tasks with a rank whose request is pending. The window of all requests shows what the
+        program says."""
+        tasks = [task for task in range(len(self.machines[table].tasks)) for label in PER_MILLE
+                 if (figure := measured.of(label, task)) is not None and figure.is_bound]
+        if self.terms.window.which == WHOLE or not tasks:
+            return {}
+        given = self.machines[table].text() + SEPARATOR + moved.arrivals
+        came: list[Word] = [] if moved.came is None else ["--came", Text(moved.came)]
+        words = ["requests", "--policy", policy, *self.plan_for(moved).words()]
+        return samples_of(self.view.told([*words, *came], given).out, tasks, *self.terms.window.clocks(self.turns))
+
+    def all(self, is_shown: bool = False) -> list[ComparedRun]:
         """The runs of each table by each policy: of the first table by each, then of the next. The refusal is that of
-        the first table by the first policy that has one."""
+        the first table by the first policy that has one. On a terminal it may be shown how many are made."""
         policies = self.terms.policies
         units = list(itertools.product(range(len(self.machines)), policies))
         places = [place * len(self.machines) + table for table in range(len(self.machines))
                   for place in range(len(policies))]
-        return pool.all_of(self.run, units, pool.at_a_time(), places)
+        progress = Progress(len(units), is_shown)
+
+        def made(unit: tuple[int, str]) -> ComparedRun:
+            run = self.run(unit)
+            progress.made()
+            return run
+        try:
+            return pool.all_of(made, units, pool.at_a_time(), places)
+        finally:
+            progress.ended()

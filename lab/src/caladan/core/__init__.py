@@ -5,7 +5,7 @@ policy, an Audit judges recorded ones.
         judged, actions = scheduler.run_each(now, bandwidth, looks)
 
 Clocks are in ticks of the caller's. A table is bytes, or a str, which is read as UTF-8; text_of_rows makes one of rows.
-The library is the file that CALADAN_LIBRARY names, else the one installed beside this package, else the system's of
+The library is the one installed beside this package, else the file that CALADAN_LIBRARY names, else the system's of
 this version; each class also takes one as `library`, by its file or as a ctypes.CDLL. Constants have the header's names
 without CALADAN_. `python3 -m caladan.core` decides, audits and guards what docs/FORMATS.md describes."""
 from __future__ import annotations

@@ -26,9 +26,9 @@ Usage: python3 -m caladan.core [LIBRARY] [decide|audit|guard] [--policy NAME] [F
             the first pass and action that are not, and why
 
 With FILEs it reads each as such an input, and prints its line; of one that is
-refused 'refused'. LIBRARY is libcaladan_c as a shared object, else that of
-CALADAN_LIBRARY, or the installed one. Passes are made and audited by the policy
-caladan, or by --policy assured.
+refused 'refused'. LIBRARY is libcaladan_c as a shared object, else the
+installed one, or that of CALADAN_LIBRARY. Passes are made and audited by the
+policy caladan, or by --policy assured.
 
 Exit status: 0 done, 1 a pass that is not legal or not permitted, 2 words or an
 input that is refused, or no library."""

@@ -31,10 +31,10 @@ def places() -> list[str]:
 
 
 def found() -> str:
-    """The file: the one that CALADAN_LIBRARY names, one that is installed beside this package, or the one of this
-    version that the system finds."""
-    asked = os.environ.get("CALADAN_LIBRARY", "")
-    return asked or next((it for it in places() if os.path.isfile(it)), f"{NAME}.{VERSION}")
+    """The file: one that is installed beside this package, else the one that CALADAN_LIBRARY names, else the one of
+    this version that the system finds."""
+    beside = next((it for it in places() if os.path.isfile(it)), "")
+    return beside or os.environ.get("CALADAN_LIBRARY", "") or f"{NAME}.{VERSION}"
 
 
 def checked(library: Library, name: str) -> Library:
@@ -45,7 +45,7 @@ def checked(library: Library, name: str) -> Library:
         raise NoLibrary(f"{name} is no {NAME}") from None
     if version_of(library) != VERSION:
         raise NoLibrary(f"{name} is of version {version_of(library)}, and this package of {VERSION}: install both of "
-                        "one version, or name another in CALADAN_LIBRARY")
+                        "one version, or give the file of another as `library`")
     return library
 
 
@@ -58,7 +58,8 @@ def opened(name: str) -> Library:
         if "/" not in name:
             raise NoLibrary(f"there is no {name}: install it (the package libcaladan-dev, or make install_library), or "
                             "name its file in CALADAN_LIBRARY") from None
-        raise NoLibrary(f"{fault}; CALADAN_LIBRARY names another") from None
+        names = "CALADAN_LIBRARY" if name == os.environ.get("CALADAN_LIBRARY") else "`library`"
+        raise NoLibrary(f"{fault}; {names} names another") from None
     return checked(library, name)
 
 

@@ -8,6 +8,7 @@ from typing import Callable, Optional
 from ..files import say
 from ..labels import names_of
 from ..refusal import Refusal
+from ..windows import WHOLE
 from ..words.asked import LAB
 from ..words.drawn import PICTURE, TEXT_ALONE, WIDTH, format_of, refuse_text
 from ..words.parsing import Asked, check, read_words
@@ -28,8 +29,8 @@ class Look:
 @dataclass(frozen=True)
 class PictureAsked:
     """A picture: the word for its kind, its file, its look, and the files that are read, where - is the standard input;
-    the program and the file of a task table. Of a run the first pass shown, how many are, and which task alone; of what
-    makes runs their words, and the file of the arrivals."""
+    the program and the file of a task table. Of a run the first pass shown, how many are, which task alone, and
+    whether responses have lanes; of what makes runs their words, and the file of the arrivals."""
 
     word: str
     output: str
@@ -41,6 +42,7 @@ class PictureAsked:
     passes: Optional[int] = None
     task: Optional[int] = None
     runs: Optional[Asked] = None
+    has_responses: bool = False
 
     @property
     def arrivals(self) -> Optional[str]:
@@ -64,11 +66,13 @@ class RunsRefused(Refusal):
 
 
 def runs_for(asked: PictureAsked) -> Asked:
-    """The words for runs that are made of an input: that none is lacking is checked, and the answer is CSV."""
+    """The words for runs that are made of an input: that none is lacking is checked, and the answer is CSV, of a
+    comparison that of all requests."""
     words = asked.runs or read_words(LAB, [asked.word])
     kept = {name: it for name, it in words.found.items() if name != "output"}
     check(replace(words, found=kept))
-    return replace(words, found={**kept, "csv": []})
+    whole = {"window": [WHOLE]} if asked.word == "compare" else {}
+    return replace(words, found={**kept, "csv": [], **whole})
 
 
 def look_of(asked: Asked) -> Look:
@@ -86,7 +90,7 @@ def picture_of(asked: Asked) -> PictureAsked:
     program, table = asked.one("program") or "", asked.one("table")
     if word == "run":
         return PictureAsked(word, output, look_of(asked), files, program, table, asked.number("from") or 0,
-                            asked.number("passes"), asked.number("task"))
+                            asked.number("passes"), asked.number("task"), has_responses=asked.has("responses"))
     return PictureAsked(word, output, look_of(asked), files, program, table, runs=asked if word != "seeds" else None)
 
 

@@ -21,6 +21,8 @@ from .scales import ShareScale, TimeScale, core_scale
 from .tables import Task, count
 
 MARGIN, LABELS, SHARES, STRIP, GAP = 14, 112, 170, 18, 34
+# The room of a task that answers nothing, above its strips.
+UNANSWERED = 22.0
 SHARE_OF = (("response least", 0.0), ("response median", 0.5), ("response 90 of 100", 0.9),
             ("response 99 of 100", 0.99), ("response 99.9 of 100", 0.999), ("response greatest", 1.0))
 COST_RANK, MOST_COLUMNS, FEW_REQUESTS, MOST_LINES = "p99", 300, 20, 10
@@ -89,6 +91,12 @@ class CompareScene:
         """The tasks to which requests came."""
         return [it for it in self.tasks if any(cell.value for cell in self.row(it, "requests given"))]
 
+    def is_answered(self, task: Task) -> bool:
+        """Whether a task has plots of its answers: a best-effort one that answers nothing with any table has none."""
+        tables = range(len(self.numbers.tables))
+        served = any(it.value for it in self.row(task, "requests served"))
+        return served or any(self.kind(task.number, it) != "be" for it in tables)
+
     def kind(self, task: int, table: int) -> str:
         """The kind of a task with a table, by its caps; by the tasks where no run is known."""
         if self.runs and self.runs[table].passes:
@@ -125,6 +133,13 @@ def curve_by_ranks(cells: Sequence[Cell], requests: int) -> Curve:
     return Curve(tuple(found), tuple(found.values()), requests)
 
 
+def name_task(paper: Paper, task: Task, top: float) -> None:
+    """The name of a task at the left, and its kind."""
+    paper.text(MARGIN, top + 6, cut(task.label, LABELS - 30, weight="bold"), weight="bold")
+    paper.text(MARGIN, top + 23, {"lc": "latency-critical", "be": "best-effort"}.get(task.kind, ""), SMALL,
+               color=paper.palette.second)
+
+
 class SharePlot:
     """Which share of a task's requests was answered within how long: a line of steps for each table, over the task's
     own times."""
@@ -136,25 +151,21 @@ class SharePlot:
         self.times = TimeScale([time for it in self.curves for time in it.times] or pending, is_tight=True)
         self.shares = ShareScale(max(it.requests for it in self.curves))
 
-    def same(self) -> list[str]:
-        """Which tables have the curve of an earlier one, in words for each."""
-        first: dict[tuple[tuple[float, ...], tuple[float, ...]], str] = {}
-        words = []
+    def same(self) -> list[list[str]]:
+        """The tables that have one curve, for each curve that several have."""
+        found: dict[tuple[tuple[float, ...], tuple[float, ...]], list[str]] = {}
         for curve, label in zip(self.curves, self.scene.shorts):
-            earlier = first.setdefault((curve.times, curve.shares), label)
-            if earlier != label:
-                words.append(f"{label} the same as {earlier}")
-        return words
+            found.setdefault((curve.times, curve.shares), []).append(label)
+        return [it for it in found.values() if it[1:]]
 
     def notes(self) -> list[str]:
-        """The same in lines: of as many as have room, and how many more there are."""
-        words, lines = self.same(), [""]
-        for told in range(len(words), -1, -1):
-            more = [f"and {len(words) - told} more"] if told < len(words) else []
-            lines = wrapped("; ".join([*words[:told], *more]), LABELS - 30, SMALL)
-            if len(lines) <= MOST_LINES:
-                break
-        return lines
+        """The same in lines, a curve after the other: of as many tables as have room, and how many more there are."""
+        room = LABELS - 8
+        if len(self.same()) == 1 and len(self.same()[0]) == len(self.curves):
+            return wrapped("all tables: the same curve", room, SMALL)
+        lines = [line for labels in self.same()
+                 for line in ("the same curve:", *wrapped(", ".join(labels), room, SMALL))]
+        return lines if len(lines) <= MOST_LINES else [*lines[:MOST_LINES - 1], "and more"]
 
     def line(self, axes: Axes, number: int, curve: Curve) -> None:
         """One table's steps, with a marker at each request of a few, else at the shares that are named."""
@@ -173,9 +184,7 @@ class SharePlot:
 
     def draw(self, paper: Paper, left: float, top: float, across: float) -> None:
         colours, task = paper.palette, self.task
-        paper.text(MARGIN, top + 6, cut(task.label, LABELS - 30, weight="bold"), weight="bold")
-        paper.text(MARGIN, top + 23, {"lc": "latency-critical", "be": "best-effort"}.get(task.kind, ""), SMALL,
-                   color=colours.second)
+        name_task(paper, task, top)
         for place, words in enumerate(self.notes()):
             paper.text(MARGIN, top + 48 + 14 * place, words, SMALL, color=colours.second)
         axes = paper.axes(left, top, across, SHARES, f"shares {task.number}")
@@ -304,7 +313,8 @@ def draw_comparison(scene: CompareScene) -> Paper:
     lines = lines_of(scene)
     top = 44.0 + 17 * len(lines) + 20 * sample_rows(scene.width, MARGIN, tables) + 30
     strips = [Strips(scene, it) for it in scene.asked]
-    each = [SHARES + 40 + it.height + GAP for it in strips]
+    rooms = [SHARES + 40.0 if scene.is_answered(it) else UNANSWERED for it in scene.asked]
+    each = [room + it.height + GAP for room, it in zip(rooms, strips)]
     paper = Paper(scene.width, top + sum(each), scene.palette, scene.title)
     below = heading(paper, MARGIN, scene.title, lines)
     looks = [look(number, len(tables), scene.palette) for number in range(len(tables))]
@@ -312,10 +322,15 @@ def draw_comparison(scene: CompareScene) -> Paper:
     left = MARGIN + LABELS + 20
     cost = 170.0 if scene.has_cost else 0.0
     across = scene.width - left - MARGIN - (cost + 68 if cost else 70)
-    for task, strip, high in zip(scene.asked, strips, each):
-        SharePlot(scene, task).draw(paper, left, top, across)
+    for task, strip, room, high in zip(scene.asked, strips, rooms, each):
+        if room > UNANSWERED:
+            SharePlot(scene, task).draw(paper, left, top, across)
+        else:
+            name_task(paper, task, top)
+            paper.text(left, top + 6, "None of its requests was answered by the end.", SMALL,
+                       color=paper.palette.second)
         if cost and any(scene.kind(task.number, it) == "lc" for it in range(len(tables))):
             CostPlot(scene, task).draw(paper, scene.width - MARGIN - cost, top, cost)
-        strip.draw(paper, left, top + SHARES + 40, across)
+        strip.draw(paper, left, top + room, across)
         top += high
     return paper

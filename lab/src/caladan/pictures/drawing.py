@@ -4,6 +4,7 @@ from __future__ import annotations
 from dataclasses import replace
 from typing import Callable, NamedTuple, Optional, Sequence
 
+from ..stamps import tick_of
 from ..words.drawn import format_of
 from .asked import Look, PictureAsked
 from .bands import Scene
@@ -41,6 +42,12 @@ def maybe(file: Optional[str]) -> Optional[Given]:
     return read_file(file) if file else None
 
 
+def look_at(asked: PictureAsked, given: Sequence[Given]) -> Look:
+    """The look of a picture of some files, the first of which may say what a tick is."""
+    tick = tick_of(given[0].text.encode("utf-8", "surrogateescape"), asked.look.tick) if given else asked.look.tick
+    return replace(asked.look, tick=tick)
+
+
 def run_paper(run: Run, look: Look, first: int = 0, passes: Optional[int] = None, task: Optional[int] = None) -> Paper:
     """The picture of a run: from a pass on so many, and of one task alone where one is asked for."""
     tasks = named_tasks(run.table.tasks, look.names)
@@ -61,7 +68,7 @@ def compare_paper(got: Compared, look: Look) -> Paper:
 def sweep_paper(sweep: Sweep, table: Optional[Table], swept: Optional[int], goals: Sequence[str], look: Look) -> Paper:
     """The picture of a sweep: of the task that is swept, where that is known, with the first objective of these words
     that is of it."""
-    goal = goal_in(goals, look.names, swept)
+    goal = goal_in(goals, look.names, swept, look.tick)
     task = goal.task if goal and swept is None else swept
     names = [it.label for it in named_tasks(table.tasks, look.names)] if table else look.names
     name = names[task] if task is not None and task < len(names) else ""
@@ -70,12 +77,14 @@ def sweep_paper(sweep: Sweep, table: Optional[Table], swept: Optional[int], goal
 
 
 def of_run(asked: PictureAsked) -> Drawn:
-    run = run_from(read_all(asked), maybe(asked.table), asked.program)
-    return Drawn(run_paper(run, asked.look, asked.first, asked.passes, asked.task))
+    given = read_all(asked)
+    run = run_from(given, maybe(asked.table), asked.program, asked.has_responses)
+    return Drawn(run_paper(run, look_at(asked, given), asked.first, asked.passes, asked.task))
 
 
 def of_compare(asked: PictureAsked) -> Drawn:
-    return Drawn(compare_paper(compared_from(read_all(asked), asked, maybe(asked.table)), asked.look))
+    given = read_all(asked)
+    return Drawn(compare_paper(compared_from(given, asked, maybe(asked.table)), look_at(asked, given)))
 
 
 def of_sweep(asked: PictureAsked) -> Drawn:

@@ -58,11 +58,12 @@ class Standing:
 
 @dataclass(frozen=True)
 class Request:
-    """A request: when it came, and when it was answered, if it was."""
+    """A request: when it came; when it was answered, if it was; else how long it is pending."""
 
     task: int
     arrived: int
     answered: Optional[int]
+    pending: Optional[int] = None
 
 
 def kind_of(text: str) -> str:
@@ -115,7 +116,8 @@ def standing_of(row: Row) -> Standing:
 
 
 def request_of(row: Row) -> Request:
-    return Request(task=row.number("task"), arrived=row.number("arrived"), answered=row.maybe("answered"))
+    return Request(task=row.number("task"), arrived=row.number("arrived"), answered=row.maybe("answered"),
+                   pending=row.maybe("pending"))
 
 
 def read_facts(text: str, name: str, kind: str, make: Callable[[Row], Made]) -> list[Made]:
@@ -127,12 +129,14 @@ def read_facts(text: str, name: str, kind: str, make: Callable[[Row], Made]) -> 
 
 @dataclass(frozen=True)
 class Run:
-    """A run: its table, its spans, and for each pass how each task stands after it."""
+    """A run: its table, its spans, for each pass how each task stands after it, and its requests, where their responses
+    are shown."""
 
     table: Table
     spans: tuple[Span, ...]
     passes: tuple[tuple[Standing, ...], ...]
     illegal_from: Optional[int] = None
+    requests: tuple[Request, ...] = ()
 
     def clock(self, in_pass: int) -> int:
         return self.passes[in_pass][0].clock
@@ -169,7 +173,7 @@ def table_in(spans: Sequence[Span], standings: Sequence[Standing]) -> Table:
 
 
 def run_of(spans: Sequence[Span], standings: Sequence[Standing], table: Optional[Table], name: str,
-           illegal_from: Optional[int] = None) -> Run:
+           illegal_from: Optional[int] = None, requests: Sequence[Request] = ()) -> Run:
     """A run of its facts, and of its table where that is known."""
     passes = by_pass(standings, name)
     if not passes:
@@ -181,4 +185,4 @@ def run_of(spans: Sequence[Span], standings: Sequence[Standing], table: Optional
         if it.core >= table.cores or max(it.task, it.for_task or 0) >= len(table.tasks):
             raise Refusal(f"{name}: core {it.core} of task {it.task} is not of a table of {table.cores} cores and "
                           f"{len(table.tasks)} tasks")
-    return Run(table, tuple(spans), passes, illegal_from)
+    return Run(table, tuple(spans), passes, illegal_from, tuple(requests))

@@ -8,16 +8,16 @@ from ..refusal import Refusal
 from ..sweeps.objectives import Objective, parts_of
 
 
-def goal_of(word: str, names: Sequence[str]) -> Objective:
+def goal_of(word: str, names: Sequence[str], tick: str = "") -> Objective:
     """The objective of a word as task.0.p99=250."""
-    parts = parts_of(word)
+    parts = parts_of(word, tick)
     task = task_named(names, parts[0]) if parts else None
     if parts is None or task is None:
-        raise Refusal(f"--slo {word}: an objective is task.T.R=N, and R is p50, p90, p99, p99.9 or max")
+        raise Refusal(f"--slo {word}: an objective is task.T.R=N, and R is p50, p90, p95, p99, p99.9 or max")
     return Objective(word, task, parts[1], parts[2])
 
 
-def goal_in(words: Sequence[str], names: Sequence[str], swept: Optional[int]) -> Optional[Objective]:
+def goal_in(words: Sequence[str], names: Sequence[str], swept: Optional[int], tick: str = "") -> Optional[Objective]:
     """The first objective that is of the task that is swept; where that is not known, the first."""
-    goals = [goal_of(it, names) for it in words]
+    goals = [goal_of(it, names, tick) for it in words]
     return next((it for it in goals if swept in (None, it.task)), None)

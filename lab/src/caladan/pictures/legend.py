@@ -12,6 +12,7 @@ from .colours import Palette
 from .cores import joined
 from .marks import cause_mark
 from .paper import SMALL, Paper, width_of, words_on
+from .responses import ANSWERED, PENDING, point_look, response_lanes
 from .tasks import DASHES, HATCH
 
 LINE, SIGN, WIDE, HIGH = 19.0, 34.0, 28.0, 14.0
@@ -62,6 +63,13 @@ def upright(lw: float) -> Draw:
     return draw
 
 
+def point(marker: str) -> Draw:
+    """The point of a response."""
+    def draw(axes: Axes, x: float, y: float, palette: Palette) -> None:
+        axes.plot([x + WIDE / 2], [y], **point_look(marker, palette.shade(0).line))
+    return draw
+
+
 def not_to_scale(axes: Axes, x: float, y: float, palette: Palette) -> None:
     """The sign of a column that is not as wide as its time."""
     words_on(axes, x + WIDE / 2, y, "//", SMALL, palette.second, ha="center")
@@ -109,8 +117,13 @@ def signs(scene: Scene) -> list[Sign]:
         (any(it.bandwidth > it.bandwidth_limit for it in standings), Sign(box("ink", "ink"),
                                                                           "bandwidth over its limit")),
     ]
+    shown = [it for lane in response_lanes(scene) for it in lane.shown]
+    responses = [
+        (any(it.pending is None for it in shown), Sign(point(ANSWERED), "a request: when it came, its response")),
+        (any(it.pending is not None for it in shown), Sign(point(PENDING), "not answered by the end")),
+    ]
     cores = coarse_signs(scene) if scene.is_coarse else fine_signs(scene)
-    return [sign for is_drawn, sign in (*cores, *lanes) if is_drawn]
+    return [sign for is_drawn, sign in (*cores, *lanes, *responses) if is_drawn]
 
 
 class Legend:

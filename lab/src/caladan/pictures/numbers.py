@@ -13,6 +13,8 @@ from .facts import kind_of
 TIMES = ("p50", "p90", "p99", "p99.9", "mean")
 COLUMNS = ("came", "later", "left out", "served", "mean cores", "best-effort share")
 FIRST_MEASURE = "requests given"
+# The rows of several seeds, and the column of one that has a row for each.
+LEAST, MEDIAN, GREATEST, SEED = "least", "median", "greatest", "seed"
 UNIT = re.compile(r" \[(ns|us|ms|s)\]$")
 EXPECTED = {
     "compare": "not the CSV of `caladan_view compare --csv`, whose first line is measure or a key,LABEL,LABEL bound,"
@@ -54,20 +56,22 @@ class Comparison:
 
 @dataclass(frozen=True)
 class SweptRun:
-    """A run of a sweep, or one of the three rows of several seeds: its load, the value that is varied and which of
-    these rows it is, its times by rank, its counts by column, and the cores of its table, where they are varied."""
+    """A run of a sweep, or one of the three rows of several seeds: its load, the value that is varied, its times by
+    rank, its counts by column, the cores of its table, where they are varied, and which of the rows it is."""
 
     load: float
     value: str
     times: dict[str, Cell]
     counts: dict[str, Optional[float]]
     cores: Optional[int] = None
+    which: str = ""
 
 
 @dataclass(frozen=True)
 class Sweep:
     """The runs of a sweep, the key that is varied, if any, the task that is swept where it has a name, the unit of the
-    times where the head says it, whether its loads are in cores, and whether tasks have rows of their own."""
+    times where the head says it, whether its loads are in cores, whether tasks have rows of their own, and of how many
+    seeds its rows are, as `of 4 seeds`, if of several."""
 
     task: str
     key: str
@@ -75,10 +79,16 @@ class Sweep:
     unit: str = ""
     in_cores: bool = False
     has_tasks: bool = False
+    seeds: str = ""
+
+    @property
+    def shown(self) -> list[SweptRun]:
+        """The runs that have a point; of several seeds the medians."""
+        return [it for it in self.runs if it.which in ("", MEDIAN)]
 
     @property
     def values(self) -> list[str]:
-        """The values that are varied, each once, in their order; of several seeds each with each of its rows."""
+        """The values that are varied, each once, in their order."""
         return list(dict.fromkeys(it.value for it in self.runs))
 
     def cores(self, otherwise: int) -> tuple[int, ...]:
@@ -146,7 +156,7 @@ class SweepRows:
         if missing:
             raise Refusal(f"{name}: {EXPECTED['sweep']}: it has no column {missing[0]}")
         self.between = self.head[1:self.head.index("p50")]
-        has_seeds = bool(self.between) and re.fullmatch(r"of \d+ seeds", self.between[-1]) is not None
+        has_seeds = bool(self.between) and re.fullmatch(rf"of \d+ seeds|{SEED}", self.between[-1]) is not None
         self.seeds = self.between.pop() if has_seeds else ""
         self.has_several = len([it for it in self.between if it not in ("policy", "task")]) > 1
 
@@ -156,11 +166,24 @@ class SweepRows:
         return "" if self.has_several else " ".join(self.between)
 
     def value(self, fields: Sequence[str]) -> str:
-        """What is varied in a row, and which of the seeds' rows it is."""
+        """What is varied in a row."""
         values = list(fields[1:len(self.between) + 1])
         if self.has_several:
             values = [" ".join(f"{key}={value}" for key, value in zip(self.between, values))]
-        return ", ".join([*values, *([f"{fields[len(self.between) + 1]} {self.seeds}"] if self.seeds else [])])
+        return ", ".join(values)
+
+    def which(self, row: Row) -> str:
+        """Which of the three rows of several seeds a row is; nothing where it is of one seed."""
+        if self.seeds in ("", SEED):
+            return ""
+        found = row.fields[len(self.between) + 1].removeprefix("lower ")
+        if found not in (LEAST, MEDIAN, GREATEST):
+            raise Refusal(f"{row.where}: `{self.seeds}` is `{found}`; wanted: {LEAST}, {MEDIAN} or {GREATEST}")
+        return found
+
+    def is_count(self, fields: Sequence[str]) -> bool:
+        """Whether a row says with how many seeds its table beats the first."""
+        return bool(self.seeds) and fields[len(self.between) + 1] == "beats the first"
 
     def cores(self, fields: Sequence[str]) -> Optional[int]:
         """How many cores the table of a row has, where these are varied. A lone key shares its column with the
@@ -177,16 +200,21 @@ class SweepRows:
             raise Refusal(f"{row.where}: its load is `{fields[0]}`; wanted: a number")
         times = {it: cell(fields[head.index(it):head.index(it) + 3], row.where) for it in TIMES}
         counts = {it: number(fields[head.index(it)], row.where) for it in COLUMNS}
-        return SweptRun(load, self.value(fields), times, counts, self.cores(fields))
+        return SweptRun(load, self.value(fields), times, counts, self.cores(fields), self.which(row))
 
 
 def read_sweep(text: str, name: str) -> Sweep:
     """A sweep."""
     titles, lines = rows_of_kind(text, name, "sweep")
     rows = SweepRows(titles, name)
-    runs = tuple(map(rows.run, lines))
+    runs = tuple(rows.run(it) for it in lines if not rows.is_count(it.fields))
     if not runs:
         raise Refusal(f"{name}: it has no runs below its head")
     in_cores = titles[0].startswith("offered")
     task = titles[0].partition("offered to " if in_cores else "load of ")[2]
-    return Sweep(task, rows.key, runs, unit_in(titles[1:]), in_cores, "task" in rows.between)
+    sweep = Sweep(task, rows.key, runs, unit_in(titles[1:]), in_cores, "task" in rows.between,
+                  "" if rows.seeds == SEED else rows.seeds)
+    if rows.seeds != SEED:
+        return sweep
+    from .spreads import with_three_rows
+    return with_three_rows(sweep)

@@ -135,6 +135,9 @@ def picture_of(space: argparse.Namespace) -> PictureAsked:
     if goal := getattr(space, "slo", ""):
         goal_of(goal, names)
         more.append(f"--slo={goal}")
+    if space.word == "sweep" and (space.words or more):
+        # It judges as it did.
+        more.append("--rules=4")
     runs = read_words(LAB, [space.word, *space.words, *more, "-o", space.output])
     return PictureAsked(space.word, space.output, look, files, **shared, runs=runs)
 

@@ -38,10 +38,11 @@ class Picture:
 
 
 def of_run(told: Callable[[str], bytes], machine: Machine, look: Look, file: File, first: int, passes: Optional[int],
-           task: Optional[int]) -> Picture:
-    """The lanes of a run, of what the program tells of it by these words."""
+           task: Optional[int], requests: str = "") -> Picture:
+    """The lanes of a run, of what the program tells of it by these words; with its requests, where they are given."""
     spans, series = (told(it).decode() for it in ("spans", "series"))
-    return Picture(run_paper(run_of_told(spans, series, table_of(machine)), look, first, passes, task), file)
+    run = run_of_told(spans, series, table_of(machine), requests=requests)
+    return Picture(run_paper(run, look, first, passes, task), file)
 
 
 def of_compare(csv: str, runs: Runs, look: Look, file: File) -> Picture:

@@ -1,5 +1,5 @@
 """The picture of a run: from top to bottom its heading, the whole run where a part is shown, the passes, a lane for
-each task, the bandwidth figure, a lane for each core, and what each sign means."""
+each task, the bandwidth figure, maybe responses, a lane for each core, and what each sign means."""
 from __future__ import annotations
 
 from .bands import MARGIN, Band, Scene
@@ -8,6 +8,7 @@ from .cores import CoreLanes
 from .heads import Heading, Passes, WholeRun, Words
 from .legend import Legend
 from .paper import Paper
+from .responses import response_lanes
 from .tables import count
 from .tasks import BandwidthLane, TaskLane
 
@@ -19,6 +20,7 @@ def lanes_of(scene: Scene) -> list[Band]:
     lanes: list[Band] = [Words("Tasks", "cores held"), *(TaskLane(scene, it, high) for it in tasks)]
     if any(it.bandwidth for it in scene.standings(0)):
         lanes.append(BandwidthLane(scene))
+    lanes += response_lanes(scene)
     if not scene.is_coarse:
         return [*lanes, CoreLanes(scene)]
     revoked = RevokedLane(scene)

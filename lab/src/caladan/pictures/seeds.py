@@ -10,11 +10,14 @@ from typing import Sequence
 from ..refusal import Refusal
 from ..rows import Row
 from ..sweeps.objectives import RANKS
-from .numbers import Cell, number, rows_of_kind
+from .numbers import GREATEST, LEAST, MEDIAN, TIMES, Cell, Sweep, SweptRun, number, read_sweep, rows_of_kind
 
 BY_RANK = {row: rank for rank, row in RANKS.items()}
 OTHERS = {"requests served": "requests served of {}", "mean cores held": "cores held by {}"}
 OF_ALL = {"lost to tasks": "cores revoked for tasks"}
+# The columns of a sweep that are drawn.
+SWEPT = ("p50", "p99", "p99.9", "best-effort share")
+ROWS = (MEDIAN, LEAST, GREATEST)
 # What is set in a run: from left to right, from line to line, and from row to row.
 Setting = tuple[str, str, str]
 
@@ -52,9 +55,10 @@ class Seeds:
     seeds: int
     measures: tuple[str, ...]
     spreads: dict[tuple[str, str, str, str], Spread]
+    unit: str = ""
 
     def label(self, line: str) -> str:
-        return f"{self.keys[1]}={line}" if self.keys[1] else ""
+        return f"{self.keys[1]}={line}" if self.keys[1] else line
 
 
 def cell_of(text: str, where: str) -> Cell:
@@ -96,9 +100,44 @@ def read_seeds(text: str, name: str) -> Seeds:
     return Seeds(settings_of(head[:at]), (across, lines_set, rests), counts.pop(), measures, spreads)
 
 
+def seeds_of_sweep(text: str, name: str) -> Seeds:
+    """Those of what `sweep --csv` writes with several seeds, loads from left to right and settings from line to line. A
+    row for each seed, or the three of all, say the same."""
+    sweep = read_sweep(text, name)
+    if not sweep.seeds:
+        raise Refusal(f"{name}: the sweep has one seed; wanted: the CSV of `sweep --seeds N --csv`")
+    by_setting: dict[Setting, dict[str, SweptRun]] = {}
+    for run in sweep.runs:
+        by_setting.setdefault(setting_of_sweep(sweep, run), {})[run.which] = run
+    across, lines_set, rests = (tuple(dict.fromkeys(it)) for it in zip(*by_setting))
+    if len(by_setting) < len(across) * len(lines_set) or any(len(it) < len(ROWS) for it in by_setting.values()):
+        raise Refusal(f"{name}: not each load has the rows of each setting; wanted: all that `sweep --csv` wrote")
+    spreads = {(rest, line, load, words): Spread(*(of_run(runs[it], words) for it in ROWS))
+               for (load, line, rest), runs in by_setting.items() for words in SWEPT}
+    return Seeds(setting_keys(sweep), (across, lines_set, rests), int(sweep.seeds.split()[1]), SWEPT, spreads,
+                 sweep.unit)
+
+
+def setting_keys(sweep: Sweep) -> Setting:
+    """The names of what is set in a sweep."""
+    load = "cores offered" if sweep.in_cores else "load"
+    return (f"{load} of {sweep.task}" if sweep.task else load), sweep.key, ""
+
+
+def setting_of_sweep(sweep: Sweep, run: SweptRun) -> Setting:
+    return f"{run.load:g}", run.value, ""
+
+
+def of_run(run: SweptRun, words: str) -> Cell:
+    """A measure of a row of a sweep."""
+    return run.times[words] if words in run.times else Cell(run.counts[words])
+
+
 def words_for(measure: str, names: list[str], unit: str) -> str:
     """What a measure is, in a few words."""
     of_task = re.fullmatch(r"task (\d+) (.*)", measure)
+    if measure in TIMES:
+        return f"{measure}, {unit}"
     if not of_task:
         return OF_ALL.get(measure, measure)
     task, row = int(of_task[1]), of_task[2]

@@ -30,7 +30,7 @@ class SeedsScene:
 
     @property
     def unit(self) -> str:
-        return self.tick or "ticks"
+        return self.tick or self.runs.unit or "ticks"
 
     def spreads(self, row: str, line: str, measure: str) -> list[Spread]:
         """From left to right."""

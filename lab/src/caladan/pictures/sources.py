@@ -17,22 +17,24 @@ from ..pool import each
 from ..programs import Text, Viewer, Word, refused, viewer
 from ..refusal import Refusal
 from ..sweeps.command import answer, asked_of
-from ..tables import SEPARATOR
+from ..tables import SEPARATOR, names_in
 from ..varying import variations_of
 from .asked import PictureAsked, RunsRefused, runs_for
 from .facts import (Request, Run, Span, Standing, by_pass, kind_of, read_facts, request_of, run_of, span_of,
                     standing_of, tasks_in)
 from .numbers import Comparison, Sweep, read_comparison, read_sweep
-from .seeds import Seeds, read_seeds
+from .seeds import Seeds, read_seeds, seeds_of_sweep
 from .tables import Table, Task, read_table, table_of
 
 ARRIVALS, SIGNALS = b"caladan-arrivals,", b"caladan-signals,"
+RESPONSES = "--responses"
 WANTED = {
     "run": "an input, or the CSV of `caladan_view spans` and that of `caladan_view series`",
     "compare": "an input, or the CSV of `caladan_view compare --csv`, and of each table's run those of `requests` and "
                "`series` or none",
     "sweep": "a task table, or the CSV of `caladan_view sweep --csv`",
-    "seeds": "the rows of runs with several seeds, as bench/interference keeps them",
+    "seeds": "the rows of runs with several seeds, as bench/interference keeps them, or the CSV of `sweep --seeds N "
+             "--csv`",
 }
 
 
@@ -113,19 +115,23 @@ def told(view: Viewer, words: Sequence[Word], given: bytes) -> str:
     return view.told(words, given).out.decode()
 
 
-def run_from(given: Sequence[Given], table: Optional[Given], program: str) -> Run:
-    """A run, of its CSV or of an input. Signals are decided first."""
+def run_from(given: Sequence[Given], table: Optional[Given], program: str, has_responses: bool = False) -> Run:
+    """A run, of its CSV or of an input, with its requests where responses are asked for. Signals are decided first."""
     known = read_table(table.text, table.name) if table else None
     inputs = as_input("run", given)
     if inputs:
-        return run_of_input(inputs, known, viewer(program))
-    spans, series = of_kind("run", given, "spans", "series")
+        return run_of_input(inputs, known, viewer(program), has_responses)
+    kinds = ("spans", "series", *(("requests",) if has_responses else ()))
+    spans, series, *more = of_kind("run", given, *kinds)
     if len(spans) != 1 or len(series) != 1:
         raise Refusal(f"{len(spans)} files of spans and {len(series)} of series; wanted: {WANTED['run']}")
-    return run_of(spans_in(spans[0]), series_in(series[0]), known, series[0].name)
+    if more and len(more[0]) != 1:
+        raise Refusal(f"{RESPONSES}: {len(more[0])} files of requests; wanted: the CSV of `caladan_view requests` too")
+    return run_of(spans_in(spans[0]), series_in(series[0]), known, series[0].name,
+                  requests=[it for own in more for it in requests_in(own[0])])
 
 
-def run_of_input(inputs: Sequence[Given], known: Optional[Table], view: Viewer) -> Run:
+def run_of_input(inputs: Sequence[Given], known: Optional[Table], view: Viewer, has_responses: bool = False) -> Run:
     """The run that one input makes or has."""
     if len(inputs) != 1:
         raise Refusal(f"{len(inputs)} inputs; wanted: one, or the CSV of its run")
@@ -134,14 +140,18 @@ def run_of_input(inputs: Sequence[Given], known: Optional[Table], view: Viewer) 
     with asking():
         if trace.startswith(SIGNALS):
             text = view.told(["history", "--table"], text).out
-        spans, series = each(lambda it: told(view, [("spans", "series")[it]], text), range(2))
+        if has_responses and not trace.startswith(ARRIVALS):
+            raise Refusal(f"{RESPONSES}: signals and histories have no requests; give the arrivals of the run")
+        words = ["spans", "series", *(["requests"] if has_responses else [])]
+        spans, series, *more = each(lambda it: told(view, [words[it]], text), range(len(words)))
         illegal = None if trace.startswith(ARRIVALS) else illegal_from(view, text)
-    return run_of_told(spans, series, known or read_table(text.decode(), inputs[0].name), illegal)
+    return run_of_told(spans, series, known or read_table(text.decode(), inputs[0].name), illegal, "".join(more))
 
 
-def run_of_told(spans: str, series: str, table: Table, illegal: Optional[int] = None) -> Run:
+def run_of_told(spans: str, series: str, table: Table, illegal: Optional[int] = None, requests: str = "") -> Run:
     """The run of which the program tells these."""
-    return run_of(spans_in(Given("spans", spans)), series_in(Given("series", series)), table, "series", illegal)
+    came = requests_in(Given("requests", requests)) if requests else ()
+    return run_of(spans_in(Given("spans", spans)), series_in(Given("series", series)), table, "series", illegal, came)
 
 
 def illegal_from(view: Viewer, text: bytes) -> Optional[int]:
@@ -190,7 +200,7 @@ def compared_inputs(inputs: Sequence[Given], asked: PictureAsked) -> Compared:
     given = joined_inputs(inputs, asked.arrivals)
     view = viewer(asked.program)
     with asking():
-        variations = variations_of(words.all("vary"), asked.look.names)
+        variations = variations_of(words.all("vary"), asked.look.names, asked.look.tick)
         labels = Labels(tables=table_names(given.files))
         came = words.one("came")
         comings = None if came is None else (came, read_named(came))
@@ -283,13 +293,15 @@ def swept_input(given: Given, asked: PictureAsked) -> Swept:
     view = viewer(asked.program)
     with asking():
         words = runs_for(asked)
-        of_words = asked_of(words)
+        of_words = asked_of(words, known=names_in(given.text.encode()))
         csv, lines = answer(of_words, given.text.encode(), view, is_terminal() and not of_words.is_quiet)
     return Swept(read_sweep(csv, "sweep --csv"), read_table(given.text, given.name), of_words.loads.task, lines)
 
 
 def seeds_from(given: Sequence[Given]) -> Seeds:
     """Runs with several seeds, of one file."""
+    if len(given) == 1 and given[0].kind == "sweep":
+        return seeds_of_sweep(given[0].text, given[0].name)
     if len(given) != 1 or given[0].kind != "seeds":
         names = ", ".join(it.name for it in given)
         raise Refusal(f"{names}: wanted: {WANTED['seeds']}")

@@ -13,14 +13,14 @@ from ..refusal import Refusal
 from ..sweeps.objectives import Objective
 from .colours import Palette
 from .curves import STYLES, grid, look, sample_rows, samples
-from .numbers import Cell, Sweep, SweptRun
+from .numbers import GREATEST, LEAST, Cell, Sweep, SweptRun
 from .paper import SMALL, Paper, heading, wrapped
 from .scales import TimeScale, core_scale
 
 MARGIN, AXIS, PLOT, BAND = 14, 76, 300, 16
 # The part of the cost plot's width on each side that is kept for the loads at the ends of a line.
 ENDS = 0.3
-FEW = 0.45
+FEW, SPREAD = 0.45, 0.16
 
 
 @dataclass(frozen=True)
@@ -63,8 +63,16 @@ class SweepScene:
         return self.objective.rank if self.objective and self.objective.rank in self.ranks else "p99"
 
     def runs(self, value: str) -> list[SweptRun]:
-        """The runs of one table, by load."""
-        return sorted((it for it in self.sweep.runs if it.value == value), key=lambda it: it.load)
+        """The runs of one table, by load; of several seeds the medians."""
+        return self.of_seeds(value, self.sweep.shown)
+
+    def of_seeds(self, value: str, runs: Sequence[SweptRun]) -> list[SweptRun]:
+        """Those of these runs that are of one table, by load."""
+        return sorted((it for it in runs if it.value == value), key=lambda it: it.load)
+
+    def ends(self, value: str) -> list[list[SweptRun]]:
+        """The least and the greatest of several seeds, of one table by load."""
+        return [self.of_seeds(value, [it for it in self.sweep.runs if it.which == end]) for end in (LEAST, GREATEST)]
 
     def best_effort(self, run: SweptRun) -> float:
         """What best-effort tasks held in a run: cores, or their share of the machine where its cores are not known."""
@@ -84,7 +92,7 @@ class SweepScene:
     @property
     def waiting(self) -> list[str]:
         """The ranks at which a request is pending in any run."""
-        return [rank for rank in self.ranks if any(it.times[rank].pending for it in self.sweep.runs)]
+        return [rank for rank in self.ranks if any(it.times[rank].pending for it in self.sweep.shown)]
 
 
 def curve(axes: Axes, places: Sequence[float], cells: Sequence[Cell], name: str, how: dict[str, Any]) -> None:
@@ -98,6 +106,18 @@ def curve(axes: Axes, places: Sequence[float], cells: Sequence[Cell], name: str,
             xs, ys = zip(*chosen)
             axes.plot(xs, ys, gid=f"{name}-{'few' if few else 'points'}", clip_on=False, alpha=alpha,
                       **{**how, "linestyle": "none"})
+
+
+def band(axes: Axes, scene: SweepScene, value: str, rank: str, name: str, colour: str) -> None:
+    """From the least to the greatest of several seeds: open at the top where the greatest is pending."""
+    least, greatest = scene.ends(value)
+    lows = [it.times[rank].answered for it in least]
+    highs = [scene.times.most if it.times[rank].pending else it.times[rank].answered for it in greatest]
+    loads = [it.load for it in least]
+    if len(loads) == 1:
+        axes.vlines(loads, lows, highs, color=colour, alpha=2 * SPREAD, lw=6, gid=name, zorder=1.5)
+    else:
+        axes.fill_between(loads, lows, highs, color=colour, alpha=SPREAD, lw=0, gid=name, zorder=1.5)
 
 
 class LoadPlot:
@@ -142,6 +162,8 @@ class LoadPlot:
             runs = scene.runs(value)
             for rank in scene.ranks:
                 how = {**look(number, len(scene.values), colours), "linestyle": STYLES[rank]}
+                if scene.sweep.seeds:
+                    band(axes, scene, value, rank, f"band-{rank}-{number}", colours.shade(number).line)
                 curve(axes, [it.load for it in runs], [it.times[rank] for it in runs], f"{rank}-{number}", how)
         if scene.objective:
             axes.axhline(scene.objective.ticks, color=colours.ink, lw=1.4, gid="objective", zorder=2)
@@ -160,7 +182,7 @@ class CostPlot:
 
     def limits(self, axes: Axes) -> None:
         """The same cores for the curves and for what is pending."""
-        held = [it for it in map(self.scene.best_effort, self.scene.sweep.runs) if math.isfinite(it)]
+        held = [it for it in map(self.scene.best_effort, self.scene.sweep.shown) if math.isfinite(it)]
         core_scale(axes, held, ENDS, 5)
 
     def pending(self, paper: Paper, top: float) -> None:
@@ -217,6 +239,9 @@ def lines_of(scene: SweepScene) -> list[tuple[str, bool]]:
         words += " Above: where the request at the rank was not answered."
     lines = [(it, True) for it in wrapped(words, across)]
     notes = []
+    if scene.sweep.seeds:
+        notes.append(f"Lines: the median {scene.sweep.seeds}; bands: from the least to the greatest, open at the top "
+                     "where that was not answered.")
     if scene.has_cost:
         notes.append(f"At the right what {scene.cost_rank} costs: lower and further right is better.")
     if any(it.times[rank].of is not None for it in scene.sweep.runs for rank in scene.ranks):

@@ -1,8 +1,8 @@
 """What a sweep is of, as words say it."""
 from __future__ import annotations
 
-from dataclasses import dataclass
-from typing import Optional
+from dataclasses import dataclass, replace
+from typing import TYPE_CHECKING, Optional, Sequence
 
 from ..labels import Labels
 from ..numbers import WORD, number_of
@@ -13,14 +13,19 @@ from ..words.parsing import Asked
 from .loads import Loads, asked_loads
 from .objectives import Objective, objective_of
 
+if TYPE_CHECKING:
+    from ..logs.log import Log
+
 MOST_SEEDS = 1000
+# Words that go with a log alone.
+OF_LOGS = ("unit", "turn", "columns", "separator", "batch", "scale", "rate", "block")
 
 
 @dataclass(frozen=True)
 class SweepAsked:
     """What comes to tasks; the objectives; the keys that are varied; the window, from its first turn up to the one
-    after it; the seeds, the turns of a run and the ticks of a turn; the policies, the plan, what is written, and how
-    many runs are made at a time."""
+    after it; the seeds, the turns of a run and the ticks of a turn; the policies, the plan, what is written, how
+    many runs are made at a time, and whether each seed has its row."""
 
     loads: Loads
     objectives: tuple[Objective, ...]
@@ -37,12 +42,35 @@ class SweepAsked:
     is_cheapest: bool
     jobs: Optional[int]
     is_quiet: bool
+    is_by_seed: bool = False
+    is_as_before: bool = False
+
+    def window(self, turns: int) -> tuple[int, int]:
+        """The turns of the window of a run with so many turns, which those of a log differ in."""
+        return (self.first, self.after) if turns == self.turns else (turns // 10, turns - turns // 10)
+
+    def is_middle(self, turns: int) -> bool:
+        """Whether the window of a run is all but its first and its last tenth, as without words."""
+        return self.window(turns) == (turns // 10, turns - turns // 10)
+
+    def for_table(self, given: bytes) -> "SweepAsked":
+        """The same for a table, which may say what a tick is."""
+        loads, ticks, tick = self.loads.settled(given, self.ticks, self.labels.tick)
+        return replace(self, loads=loads, ticks=ticks, labels=replace(self.labels, tick=tick))
+
+    def clock_of(self, turn: int) -> int:
+        """The clock of a turn of made arrivals, or of the end."""
+        return self.ticks * (turn + 1) + self.ticks // 2
+
+    @property
+    def asks_p95(self) -> bool:
+        return any(it.rank == "p95" for it in self.objectives)
 
     @property
     def shown_tasks(self) -> list[int]:
         """The tasks that have rows: those of the objectives where they name several, else the one that is swept."""
         tasks = list(dict.fromkeys(it.task for it in self.objectives))
-        return tasks if len(tasks) > 1 else [self.loads.task]
+        return tasks if len(tasks) > 1 else self.loads.shown
 
 
 def _turn(flag: str, word: Optional[str], turns: int, otherwise: int) -> int:
@@ -75,15 +103,29 @@ def _seeds(word: Optional[str], first: int) -> tuple[int, ...]:
     return tuple(range(first, first + many))
 
 
-def sweep_asked(asked: Asked, labels: Labels) -> SweepAsked:
-    """What words ask for, where they need no table; the first that is refused is told of."""
-    loads = asked_loads(asked, labels.names)
+def _loads(asked: Asked, names: tuple[str, ...], log: Optional[Log]) -> Loads:
+    """What comes to tasks: by loads, or of a log."""
+    if asked.has("log"):
+        from ..logs.sweeping import log_loads
+        return log_loads(asked, names, log)
+    for it in OF_LOGS:
+        if asked.has(it):
+            raise Refusal(f"--{it} {asked.all(it)[0]}: it goes with a log, which --log names")
+    return asked_loads(asked, names)
+
+
+def sweep_asked(asked: Asked, labels: Labels, log: Optional[Log] = None, known: Sequence[str] = ()) -> SweepAsked:
+    """What words ask for, where they need no table, maybe of a log that is read; the first that is refused is told of.
+    In words a task may go by its label, or without labels by the name that is known of its table."""
+    names = labels.names or tuple(known)
+    loads = _loads(asked, names, log)
     tasks = [it.task for it in loads.tasks]
-    objectives = tuple(objective_of(it, labels.names, tasks) for it in asked.all("slo"))
-    variations = tuple(variations_of(asked.all("vary"), labels.names))
+    objectives = tuple(objective_of(it, names, tasks, labels.tick) for it in asked.all("slo"))
+    variations = tuple(variations_of(asked.all("vary"), names, labels.tick))
     turns = asked.number("turns") or 0
     first, after = _window(asked, turns)
     return SweepAsked(
         loads, objectives, variations, first, after, _seeds(asked.one("seeds"), asked.number("seed") or 0), turns,
         asked.number("ticks") or 0, tuple(asked.all("policy") or ["caladan"]), plan_of(asked), labels,
-        asked.has("csv"), asked.has("cheapest"), asked.number("jobs"), asked.has("quiet"))
+        asked.has("csv"), asked.has("cheapest"), asked.number("jobs"), asked.has("quiet"),
+        asked.has("by-seed"), asked.one("rules") == "4")

@@ -2,15 +2,16 @@
 from __future__ import annotations
 
 import itertools
-from typing import Sequence
+from typing import TYPE_CHECKING, Optional, Sequence
 
 from .. import pool
 from ..files import Output, Source, is_terminal, say
 from ..labels import Labels, counted, names_of
+from ..numbers import number_of
 from ..programs import Viewer, refused, viewer
 from ..progress import Progress
 from ..refusal import Refusal
-from ..tables import Machine, machine_of, table_part
+from ..tables import Machine, machine_of, names_in, table_part
 from ..varying import varied
 from ..words.parsing import Asked
 from .asked import SweepAsked, sweep_asked
@@ -18,6 +19,9 @@ from .loads import OFFERED, TASK
 from .runs import Point, Runs, SweptRun, Unit
 from .sheet import SweepSheet
 from .verdict import Swept, Verdict
+
+if TYPE_CHECKING:
+    from ..logs.log import Log
 
 # The words by which the program reads a table as a sweep does.
 READ = ["arrivals", "--task", "0", "--load", "1", "--turns", "1", "--summary"]
@@ -72,6 +76,7 @@ def swept_of(view: Viewer, asked: SweepAsked, machines: Sequence[Machine], is_sh
 def answer(of_words: SweepAsked, given: bytes, view: Viewer, is_shown: bool = False) -> tuple[str, str]:
     """What is written of the sweep of an input, and what is said of objectives that it does not keep."""
     machine = table_of(view, given)
+    of_words = of_words.for_table(given)
     counted(of_words.labels.names, len(machine.tasks))
     known(of_words, machine)
     machines = varied(view, machine, of_words.variations, pool.each) if of_words.variations else [machine]
@@ -80,9 +85,19 @@ def answer(of_words: SweepAsked, given: bytes, view: Viewer, is_shown: bool = Fa
     return SweepSheet(verdict.swept).written(verdict), verdict.lines()
 
 
-def asked_of(asked: Asked) -> SweepAsked:
-    """What the words ask for, but for the table."""
-    of_words = sweep_asked(asked, Labels(names_of(asked.one("names")), asked.one("tick") or ""))
+def names_needed(asked: Asked) -> bool:
+    """Whether words call tasks by names that the words do not give, so that the table is asked for them."""
+    places = [*asked.all("task"), *(it.rpartition("=")[0].partition(".p")[0].removesuffix(".max")
+                                    for it in asked.all("slo") if "." in it)]
+    places += [it.partition("=")[0].rpartition(".")[0] for it in asked.all("vary")]
+    called = [it.removeprefix("task.") for it in places]
+    return not asked.has("names") and any(it and number_of(it) is None for it in called)
+
+
+def asked_of(asked: Asked, log: Optional[Log] = None, known: Sequence[str] = ()) -> SweepAsked:
+    """What the words ask for, but for the table, of whose tasks these names are known; maybe of a log that is read."""
+    labels = Labels(names_of(asked.one("names")), asked.one("tick") or "")
+    of_words = sweep_asked(asked, labels, log, known)
     if not of_words.loads.has_misses:
         of_words.plan.refuse_without_misses()
     return of_words
@@ -95,8 +110,9 @@ def sweep(asked: Asked) -> int:
     source = Source(None if file == "-" else file)
     output_name = asked.one("output")
     output = Output(None if output_name == "-" else output_name)
-    of_words = asked_of(asked)
-    given = source.read()
+    early = source.read() if names_needed(asked) else None
+    of_words = asked_of(asked, known=names_in(table_part(early)) if early is not None else ())
+    given = source.read() if early is None else early
     is_shown = is_terminal() and not of_words.is_quiet
     text, lines = answer(of_words, given, viewer(asked.one("program")), is_shown)
     if not output.is_later:

@@ -4,8 +4,11 @@ from __future__ import annotations
 from dataclasses import dataclass
 from typing import Optional, Sequence
 
+from ..figures import thousandths
 from ..numbers import number_of, task_named, thousandths_of
 from ..refusal import Refusal
+from ..stamps import tick_of
+from ..words.likeness import tip
 from ..words.parsing import Asked
 
 TASK, LOAD, OFFERED, SERVICE, PATTERN, MISSES = ("--task", "--load", "--offered", "--service", "--pattern", "--misses")
@@ -65,6 +68,25 @@ class Loads:
     def has_misses(self) -> bool:
         return any(it.has_misses for it in self.tasks)
 
+    @property
+    def shown(self) -> list[int]:
+        """The tasks that have rows where objectives do not say which."""
+        return [self.task]
+
+    def settled(self, given: bytes, ticks: int, tick: str) -> tuple["Loads", int, str]:
+        """The same for a table, which may say what a tick is; the ticks of a turn; and the unit of a tick."""
+        return self, ticks, tick_of(given, tick)
+
+    def said(self, load: int) -> str:
+        """What a load is called where it is told of."""
+        return f"{thousandths(load)} cores" if self.in_cores else f"load {thousandths(load)}"
+
+    def heading(self, name: Optional[str]) -> str:
+        """What stands over the loads, of a task that may have a name."""
+        if self.in_cores:
+            return f"offered to {name}" if name is not None else "offered"
+        return f"load of {name}" if name is not None else "load"
+
     def at(self, load: int) -> list[tuple[TaskLoad, int]]:
         """What comes to each task where the swept one has this load, with the load."""
         return [(it, load if n == self.swept else it.loads[0]) for n, it in enumerate(self.tasks)]
@@ -75,9 +97,9 @@ def _filled(last: int, step: Optional[int], load: int) -> list[int]:
     return [] if step is None else list(range(last + step, load, step))
 
 
-def loads_of(word: str, in_cores: bool) -> tuple[int, ...]:
-    """The loads of a word, in thousandths, by commas and rising."""
-    flag, most = (OFFERED, 1000 * MOST_LIMIT) if in_cores else (LOAD, MOST_LOAD)
+def rising(flag: str, word: str, most: int, what: str) -> tuple[int, ...]:
+    """The numbers of a word, in thousandths, by commas and rising, each above 0 and at most so many; one that is not is
+    refused as not what is wanted."""
     loads: list[int] = []
     step: Optional[int] = None
     for piece in word.split(","):
@@ -88,7 +110,6 @@ def loads_of(word: str, in_cores: bool) -> tuple[int, ...]:
             continue
         load = thousandths_of(piece)
         if load is None or not 0 < load <= most:
-            what = f"cores are {POINT.format(MOST_LIMIT)}" if in_cores else f"a load is {POINT.format(10)}"
             raise refused(flag, word, what)
         last = loads[-1] if loads else 0
         if load <= last:
@@ -98,6 +119,13 @@ def loads_of(word: str, in_cores: bool) -> tuple[int, ...]:
     if step is not None:
         raise refused(flag, word, RISING)
     return tuple(loads)
+
+
+def loads_of(word: str, in_cores: bool) -> tuple[int, ...]:
+    """The loads of a word."""
+    if in_cores:
+        return rising(OFFERED, word, 1000 * MOST_LIMIT, f"cores are {POINT.format(MOST_LIMIT)}")
+    return rising(LOAD, word, MOST_LOAD, f"a load is {POINT.format(10)}")
 
 
 def parts_of(word: str) -> list[tuple[int, int]]:
@@ -148,8 +176,10 @@ def task_of(word: str, names: Sequence[str]) -> int:
     """The task that a word names."""
     task = task_named(names, word)
     if task is None:
-        raise refused(TASK, word, f"the tasks are called {','.join(names)}" if names
-                      else "a task is a number, or a name that --names gives")
+        refusal = refused(TASK, word, f"the tasks are called {','.join(names)}" if names
+                          else "a task is a number, or a name that --names gives")
+        refusal.below = tip(word, names)
+        raise refusal
     return task
 
 

@@ -3,12 +3,11 @@ from __future__ import annotations
 
 import itertools
 import re
-from dataclasses import dataclass, replace
-from typing import Optional, Sequence
+from dataclasses import dataclass, field, replace
+from typing import Optional, Protocol, Sequence
 
 from ..drawing import Drawn, arrivals_of, dealt, drawn
 from ..figures import thousandths
-from ..numbers import WORD
 from ..programs import Came, Ran, Viewer, refused
 from ..refusal import Refusal
 from ..tables import Machine
@@ -33,13 +32,16 @@ class Count:
 
 @dataclass(frozen=True)
 class Made:
-    """Arrivals, when their requests came, what came to each task that has a load, and to which turn the first request
-    came that is left out, where that is known."""
+    """Arrivals, when their requests came, what came to each task that has a load, and of each task that lost requests
+    to which turn the first of these came, where that is known; and of those of a log the turns of their run, and
+    whether some of the requests have misses."""
 
     arrivals: bytes
     came: bytes
     counts: dict[int, Count]
-    left_from: Optional[int] = None
+    left_from: dict[int, int] = field(default_factory=dict)
+    turns: Optional[int] = None
+    have_misses: Optional[bool] = None
 
     @property
     def is_cut(self) -> bool:
@@ -60,8 +62,15 @@ def too_many(asked: SweepAsked) -> Refusal:
     return Refusal(f"{asked.loads.flag} {asked.loads.word}: {TOO_MANY}")
 
 
-class Maker:
+class Making(Protocol):
     """What makes arrivals for tables that are swept."""
+
+    def made(self, machine: Machine, load: int, seed: int) -> Made:
+        """The arrivals of a load for a table."""
+
+
+class Maker:
+    """The same by loads."""
 
     def __init__(self, view: Viewer, asked: SweepAsked, machines: Sequence[Machine]) -> None:
         self.view, self.asked = view, asked
@@ -116,19 +125,22 @@ class Maker:
             rows.append((of_task, sum(machine.limits[:task.task]), int(task.misses)))
         arrivals, came = arrivals_of(rows, asked.turns, asked.ticks)
         came += "".join(f"left out,{n},{it.left_out}\n" for n, it in counts.items() if it.left_out).encode()
-        left = [it.left_from for it, _, _ in rows if it.left_from is not None]
-        return Made(arrivals, came, counts, min(left, default=None))
+        left = {task: it.left_from for (it, _, _), task in zip(rows, counts) if it.left_from is not None}
+        return Made(arrivals, came, counts, left)
 
-    def left_from(self, machine: Machine, tasks: Sequence[tuple[TaskLoad, int]], seed: int) -> Optional[int]:
-        """To which turn the first request came that is left out. With one turn more the first of each thread comes
-        before that turn, and all others come as they do."""
+    def left_from(self, machine: Machine, tasks: Sequence[tuple[TaskLoad, int]], seed: int) -> dict[int, int]:
+        """To which turn the first request of each task came that is left out. With one turn more the first of each
+        thread comes before that turn, and all others come as they do."""
         turns = self.asked.turns
         if turns < MOST_TURNS:
             words = words_of(self.asked, tasks, seed, turns + 1)
             ran = self.view.ask([*words, "--came", Came()], machine.text())
             if not ran.status:
-                last = re.findall(rb"^request,\d+,%d,(\d+)," % turns, ran.out, re.M)
-                came = ran.came.split(b"\n")
-                return min((turn for it in last if (turn := int(came[int(it)].split(b",")[1])) < turns),
-                           default=WORD)
+                last = re.findall(rb"^request,(\d+),%d,(\d+)," % turns, ran.out, re.M)
+                came, owners, left = ran.came.split(b"\n"), machine.owners, dict[int, int]()
+                for thread, it in last:
+                    task, turn = owners[int(thread)], int(came[int(it)].split(b",")[1])
+                    if turn < turns:
+                        left[task] = min(turn, left.get(task, turn))
+                return left
         return self.by_drawing(machine, tasks, seed).left_from

@@ -11,9 +11,12 @@ from .objectives import RANKS
 from .runs import SweptRun
 from .verdict import Swept, Verdict
 
-TIMES = {**{it: RANKS[it] for it in ("p50", "p90", "p99", "p99.9")}, "mean": "response mean"}
+TIMES = {**{it: RANKS[it] for it in ("p50", "p90", "p95", "p99", "p99.9")}, "mean": "response mean"}
 COUNTS = ("came", "later", "far", "left out", "served", "mean cores", "best-effort share")
-SEED_ROWS = ("least", "median", "greatest")
+SEED = "seed"
+LEAST, MEDIAN, LOWER_MEDIAN, GREATEST, BEATS = "least", "median", "lower median", "greatest", "beats the first"
+# What is the better the more there is of it; of times it is less. Of other columns it is not said.
+BETTER_MORE = ("served", "best-effort share")
 
 
 def figure_of(run: SweptRun, task: int, column: str) -> MaybeFigure:
@@ -37,9 +40,25 @@ def order_of(figure: MaybeFigure) -> tuple[int, int]:
 
 
 def of_seeds(figures: Sequence[MaybeFigure], which: str) -> MaybeFigure:
-    """One of the figures of several seeds; the median by nearest rank."""
+    """One of the figures of several seeds; the median by nearest rank, of an even number the lower one."""
     last = len(figures) - 1
-    return sorted(figures, key=order_of)[{"least": 0, "median": last // 2, "greatest": last}[which]]
+    return sorted(figures, key=order_of)[{LEAST: 0, MEDIAN: last // 2, LOWER_MEDIAN: last // 2, GREATEST: last}[which]]
+
+
+def is_better(column: str, figure: MaybeFigure, first: MaybeFigure) -> bool:
+    """Whether a figure is better for certain than the one of the first table with the same seed."""
+    if figure is None or first is None:
+        return False
+    if column in BETTER_MORE:
+        return figure.number > first.number
+    return not figure.is_bound and figure.number < first.number
+
+
+def beaten(column: str, figures: Sequence[MaybeFigure], firsts: Sequence[MaybeFigure]) -> MaybeFigure:
+    """With how many seeds a column is better than that of the first table; nothing where none is better or worse."""
+    if column not in (*TIMES, *BETTER_MORE):
+        return None
+    return Figure(sum(is_better(column, *it) for it in zip(figures, firsts)))
 
 
 class SweepSheet:
@@ -49,12 +68,12 @@ class SweepSheet:
         self.swept, self.asked = swept, swept.asked
         self.has_seeds, self.has_tasks = len(self.asked.seeds) > 1, len(self.asked.shown_tasks) > 1
         self.has_policies = len(self.asked.policies) > 1
+        self.times = [it for it in TIMES if it != "p95" or self.asked.asks_p95]
+        even = len(self.asked.seeds) % 2 == 0 and not self.asked.is_as_before
+        self.seed_rows = (LEAST, LOWER_MEDIAN if even else MEDIAN, GREATEST)
 
     def load_heading(self) -> str:
-        name = self.asked.labels.name(self.asked.loads.task)
-        if self.asked.loads.in_cores:
-            return f"offered to {name}" if name is not None else "offered"
-        return f"load of {name}" if name is not None else "load"
+        return self.asked.loads.heading(self.asked.labels.name(self.asked.loads.task))
 
     def cells_of(self, values: Sequence[str], policy: Optional[str]) -> Cells:
         """The cells of the values that make a table and of a policy, or of what stands over them: a cell for each; a
@@ -74,22 +93,46 @@ class SweepSheet:
         """The first row: what each column is."""
         row = self.front_heading()
         row += ["task"] if self.has_tasks else []
-        row += [f"of {len(self.asked.seeds)} seeds"] if self.has_seeds else []
-        for name in TIMES:
+        row += self.seed_heading()
+        for name in self.times:
             put_heading(row, name, self.asked.is_csv, self.asked.labels.tick)
         return [*row, *COUNTS]
 
+    def seed_heading(self) -> Cells:
+        if self.asked.is_by_seed:
+            return [SEED]
+        return [f"of {len(self.asked.seeds)} seeds"] if self.has_seeds else []
+
+    def runs_of(self, load: int, table: int, policy: int, which: str) -> list[SweptRun]:
+        """The runs that a row is of."""
+        runs = self.swept.of_seeds(load, table, policy)
+        return [runs[self.asked.seeds.index(int(which))]] if self.asked.is_by_seed else runs
+
     def row(self, load: int, table: int, policy: int, task: int, which: str) -> Cells:
         """A row of the runs of a table by a policy at a load."""
-        runs = self.swept.of_seeds(load, table, policy)
+        runs = self.runs_of(load, table, policy, which)
         row = [thousandths(load), *self.names_of(table, policy)]
         name = self.asked.labels.name(task)
         row += [str(task) if name is None else name] if self.has_tasks else []
-        row += [which] if self.has_seeds else []
-        for column in (*TIMES, *COUNTS):
-            figure = of_seeds([figure_of(it, task, column) for it in runs], which)
+        row += [which] if self.seed_heading() else []
+        for column in (*self.times, *COUNTS):
+            figures = [figure_of(it, task, column) for it in runs]
+            if which == BEATS:
+                firsts = [figure_of(it, task, column) for it in self.swept.of_seeds(load, 0, 0)]
+                figure = beaten(column, figures, firsts)
+            else:
+                figure = of_seeds(figures, which if runs[1:] else LEAST)
             put_figure(row, figure, self.asked.is_csv and column in TIMES)
         return row
+
+    def rows_of(self, table: int, policy: int) -> tuple[str, ...]:
+        """Which rows a table has by a policy."""
+        if self.asked.is_by_seed:
+            return tuple(map(str, self.asked.seeds))
+        if not self.has_seeds:
+            return (LEAST,)
+        is_first = (table, policy) == (0, 0) or self.asked.is_as_before
+        return self.seed_rows if is_first else (*self.seed_rows, BEATS)
 
     def runs(self) -> list[tuple[int, int, int]]:
         """The load, the table and the policy of each run, in their order."""
@@ -97,9 +140,8 @@ class SweepSheet:
                 for policy in range(len(self.asked.policies))]
 
     def rows(self) -> list[Cells]:
-        which = SEED_ROWS if self.has_seeds else SEED_ROWS[:1]
         return [self.heading(), *(self.row(*run, task, it) for run in self.runs() for task in self.asked.shown_tasks
-                                  for it in which)]
+                                  for it in self.rows_of(*run[1:]))]
 
     def choices_at(self, load: int, verdict: Verdict) -> list[Cells]:
         """The settings that keep every objective at a load: those first that leave most to best effort, of several
@@ -107,7 +149,7 @@ class SweepSheet:
         kept = []
         for _, table, policy in (it for it in self.runs() if it[0] == load):
             if verdict.keeps_all(load, table, policy):
-                share = of_seeds([it.share for it in self.swept.of_seeds(load, table, policy)], "median")
+                share = of_seeds([it.share for it in self.swept.of_seeds(load, table, policy)], MEDIAN)
                 kept.append((share, [thousandths(load), *self.names_of(table, policy)]))
         rows = []
         for share, row in sorted(kept, key=lambda it: -1 if it[0] is None else it[0].number, reverse=True):
@@ -124,4 +166,5 @@ class SweepSheet:
         text = written(self.rows(), self.asked.is_csv)
         if self.asked.is_cheapest:
             text += "\n" + written(self.cheapest(verdict), self.asked.is_csv)
-        return text
+        sure = "" if self.asked.is_csv else verdict.sure()
+        return f"{text}\n{sure}" if sure else text

@@ -2,13 +2,15 @@
 from __future__ import annotations
 
 from dataclasses import dataclass
-from typing import Optional, Sequence
+from typing import Optional
 
-from ..figures import thousandths
 from ..refusal import NAME
+from ..samples import growth_of, halves_of
 from ..varying import setting_at
+from .as_before import judged_by_rank
 from .asked import SweepAsked
-from .objectives import KEPT, MISSED, RANKS, UNDECIDED, Objective
+from .judging import Judge
+from .objectives import KEPT, MISSED, UNDECIDED, Judged, Objective
 from .runs import SweptRun
 
 
@@ -25,44 +27,15 @@ class Swept:
         return [self.runs[load, seed, table, policy] for seed in self.asked.seeds]
 
 
-def standing(objective: Objective, run: SweptRun) -> str:
-    """What becomes of an objective in a run."""
-    figure = None if run.is_cut else run.response(RANKS[objective.rank], objective.task)
-    if figure is None:
-        return MISSED
-    if figure.is_bound:
-        return UNDECIDED if figure.number < objective.ticks else MISSED
-    return KEPT if figure.number <= objective.ticks else MISSED
-
-
-def standing_of_all(objective: Objective, runs: Sequence[SweptRun]) -> str:
-    """The same with all seeds: one is enough to miss it, else to leave it undecided."""
-    each = {standing(objective, it) for it in runs}
-    return next((it for it in (MISSED, UNDECIDED) if it in each), KEPT)
-
-
-def why(objective: Objective, run: SweptRun, ticks: str) -> str:
-    """Why a run does not keep an objective."""
-    if run.is_cut:
-        return f"requests are left out from turn {run.left_from} on"
-    figure = run.response(RANKS[objective.rank], objective.task)
-    if figure is None:
-        return "no requests came"
-    if not figure.is_bound:
-        return f"{objective.rank} is {figure.number} {ticks}"
-    longer = ", run longer" if standing(objective, run) == UNDECIDED else ""
-    return f"{objective.rank} is pending for {figure.number} {ticks}{longer}"
-
-
 class Verdict:
     """What becomes of the objectives of a sweep."""
 
     def __init__(self, swept: Swept) -> None:
-        self.swept, self.asked = swept, swept.asked
+        self.swept, self.asked, self.judge = swept, swept.asked, Judge(swept.asked)
+        self.known: dict[tuple[str, int, int, int], Judged] = {}
 
     def load(self, load: int) -> str:
-        told = thousandths(load)
-        return f"{told} cores" if self.asked.loads.in_cores else f"load {told}"
+        return self.asked.loads.said(load)
 
     def front(self, table: int, policy: int) -> str:
         """The values that make a table, and the policy where there are several."""
@@ -72,37 +45,90 @@ class Verdict:
         of_policy = f"{asked.policies[policy]}: " if len(asked.policies) > 1 else ""
         return (f"{told}: " if told else "") + of_policy
 
+    def judged(self, objective: Objective, run: SweptRun) -> Judged:
+        """What becomes of an objective in a run."""
+        if self.asked.is_as_before:
+            return judged_by_rank(objective, run, self.asked.labels.ticks)
+        return self.judge.judged(objective, run)
+
+    def growth(self, task: int, runs: list[SweptRun]) -> str:
+        """That the response of a task grows over the windows of the runs with all seeds; nothing where it does not."""
+        asked = self.asked
+        pairs = []
+        for it in runs:
+            first, after = map(asked.clock_of, asked.window(it.turns))
+            if task in it.samples and (pair := halves_of(it.samples[task], first, after)):
+                pairs.append(pair)
+        grows = growth_of(pairs)
+        if asked.is_as_before or grows is None:
+            return ""
+        earlier, later = (f"{it:.1f} {asked.labels.ticks}" for it in grows)
+        return (f"the response grows, from {earlier} in the mean of the window's first half to {later} in its second; "
+                "run longer, or offer less")
+
+    def of_all(self, objective: Objective, load: int, table: int, policy: int) -> Judged:
+        """The same with all seeds: one is enough to miss it, else to leave it undecided; a response that grows leaves
+        it undecided."""
+        key = objective.word, load, table, policy
+        if key not in self.known:
+            self.known[key] = self.found(objective, self.swept.of_seeds(load, table, policy))
+        return self.known[key]
+
+    def found(self, objective: Objective, runs: list[SweptRun]) -> Judged:
+        each = [self.judged(objective, it) for it in runs]
+        first = {it: n for n, it in reversed([*enumerate(it.standing for it in each)])}
+        if MISSED not in first and (grows := self.growth(objective.task, runs)):
+            return Judged(UNDECIDED, f": {grows}")
+        is_so = next((it for it in (MISSED, UNDECIDED) if it in first), KEPT)
+        place, seeds = first[is_so], self.asked.seeds
+        many = sum(it.standing == is_so for it in each)
+        front = f" with {many} of {len(seeds)} seeds: with seed {seeds[place]} " if len(seeds) > 1 else ": "
+        return Judged(is_so, f"{front}{each[place].why}")
+
     def kept_up_to(self, objective: Objective, table: int, policy: int) -> Optional[int]:
-        """The last load up to which all runs keep an objective."""
+        """The last load at which all runs keep an objective, below the first that misses it. At a lower load, to which
+        fewer requests come, it may be undecided; by the rules of version 4 it may not."""
+        ends = (MISSED, UNDECIDED) if self.asked.is_as_before else (MISSED,)
         kept = None
         for load in self.asked.loads.loads:
-            if standing_of_all(objective, self.swept.of_seeds(load, table, policy)) != KEPT:
+            standing = self.of_all(objective, load, table, policy).standing
+            if standing in ends:
                 return kept
-            kept = load
+            kept = load if standing == KEPT else kept
         return kept
 
     def line(self, objective: Objective, table: int, policy: int) -> str:
         """What is said of an objective that the last load of a table by a policy does not keep; nothing else."""
-        asked, last = self.asked, self.asked.loads.loads[-1]
-        runs = self.swept.of_seeds(last, table, policy)
-        is_so = standing_of_all(objective, runs)
-        if is_so == KEPT:
+        last = self.asked.loads.loads[-1]
+        found = self.of_all(objective, last, table, policy)
+        if found.standing == KEPT:
             return ""
-        those = [n for n, it in enumerate(runs) if standing(objective, it) == is_so]
-        seeds = len(asked.seeds)
-        front = f" with {len(those)} of {seeds} seeds: with seed {asked.seeds[those[0]]} " if seeds > 1 else ": "
         kept = self.kept_up_to(objective, table, policy)
         end = "kept at no load" if kept is None else f"kept up to {self.load(kept)}"
-        said = f"{objective.word} is {is_so} at {self.load(last)}{front}"
-        said += f"{why(objective, runs[those[0]], asked.labels.ticks)}; {end}"
+        said = f"{objective.word} is {found.standing} at {self.load(last)}{found.why}; {end}"
         return f"{NAME}: {self.front(table, policy)}{said}\n"
 
+    def each(self) -> list[tuple[Objective, int, int]]:
+        """Each objective of each table by each policy: by policies, then by objectives, then by tables."""
+        return [(objective, table, policy) for policy in range(len(self.asked.policies))
+                for objective in self.asked.objectives for table in range(self.swept.tables)]
+
     def lines(self) -> str:
-        """A line for each miss: by policies, then by objectives, then by tables."""
-        return "".join(self.line(objective, table, policy) for policy in range(len(self.asked.policies))
-                       for objective in self.asked.objectives for table in range(self.swept.tables))
+        """A line for each miss."""
+        return "".join(self.line(*it) for it in self.each())
+
+    def sure(self) -> str:
+        """A line for each objective that the last load keeps with several seeds: what that says of others. With a
+        chance below the one that is told, so many seeds of so many would keep it in fewer than 5 of 100 sweeps."""
+        asked, last, seeds = self.asked, self.asked.loads.loads[-1], len(self.asked.seeds)
+        if asked.is_as_before or seeds < 2:
+            return ""
+        chance = f"{int(1000 * 0.05 ** (1 / seeds)) / 1000:.3f}"
+        kept = [it for it in self.each() if self.of_all(it[0], last, *it[1:]).standing == KEPT]
+        return "".join(f"{self.front(table, policy)}{objective.word} is kept at {self.load(last)} with {seeds} of "
+                       f"{seeds} seeds: another keeps it with a chance of {chance} or more, at 95 in 100\n"
+                       for objective, table, policy in kept)
 
     def keeps_all(self, load: int, table: int, policy: int) -> bool:
         """Whether the runs of a table by a policy at a load keep each objective with all seeds."""
-        runs = self.swept.of_seeds(load, table, policy)
-        return all(standing_of_all(it, runs) == KEPT for it in self.asked.objectives)
+        return all(self.of_all(it, load, table, policy).standing == KEPT for it in self.asked.objectives)

@@ -5,12 +5,14 @@ from itertools import islice
 from typing import Iterator, Optional, Sequence
 
 from ..arrivals import BYTE_ORDER_MARK, Arrivals, arrivals_of, rows_of
+from ..explaining import Command, command_of
 from ..files import STANDARD, Output, Source, separator
 from ..labels import Labels, counted, names_of
 from ..plans import plan_of
 from ..pool import all_of
 from ..programs import Viewer, viewer
 from ..refusal import Refusal
+from ..stamps import tick_of
 from ..tables import Machine, accepted, machine_of, table_part
 from ..words.parsing import Asked
 from .counters import Counters, Passes, passes_of
@@ -75,7 +77,8 @@ def first_clock(arrivals: Arrivals, passes: Passes) -> int:
     return min([*([passes.clock(0)] if passes.many else []), *arrivals.turns[:1]], default=0)
 
 
-def events_of(machine: Machine, labels: Labels, told: Sequence[bytes], trace: bytes) -> Iterator[str]:
+def events_of(machine: Machine, labels: Labels, told: Sequence[bytes], trace: bytes,
+              command: Optional[Command]) -> Iterator[str]:
     """All events: the names; pass by pass what ends in it, and the counters that change; what goes on at the end; and
     of a run its requests."""
     spans, series, *turns = told
@@ -83,7 +86,7 @@ def events_of(machine: Machine, labels: Labels, told: Sequence[bytes], trace: by
     arrivals = arrivals_of(trace) if turns else None
     recorded = None if turns else Recorded(rows_of(trace, ROWS))
     zero = passes.clock(0) if arrivals is None else first_clock(arrivals, passes)
-    page, last = Page(machine, labels, zero), passes.clock(-1)
+    page, last = Page(machine, labels, zero, command), passes.clock(-1)
     yield from names_of_cores(page)
     if arrivals is not None:
         yield from names_of_threads(page)
@@ -110,12 +113,20 @@ def answer(asked: Asked, given: bytes, names: tuple[str, ...]) -> Iterator[bytes
     """What is written of an input, in parts. What is refused is told before the first of them."""
     view, trace = viewer(asked.one("program")), trace_of(given)
     told = facts(view, given, words_of(asked), names, trace)
-    labels = Labels(names, asked.one("tick") or "")
-    return text_of(events_of(machine_of(table_part(given)), labels, told, trace))
+    labels = Labels(names, tick_of(given, asked.one("tick")))
+    command = command_for(asked, trace) if asked.has("commands") else None
+    return text_of(events_of(machine_of(table_part(given)), labels, told, trace, command))
+
+
+def command_for(asked: Asked, trace: bytes) -> Command:
+    """The command that explains a pass of the input."""
+    return command_of(asked.one("input"), asked.one("policy") or "caladan", is_of_arrivals(trace))
 
 
 def timeline(asked: Asked) -> int:
     """Does what the words after `timeline` ask for; answers the exit status."""
+    if asked.has("commands") and (plan := plan_of(asked).words()):
+        raise Refusal(f"--commands: a run by {plan[0]} is not explained by any command; leave one of the two out")
     names = names_of(asked.one("names"))
     file, output_name = asked.one("input"), asked.one("output")
     source = Source(None if file == STANDARD else file)

@@ -3,8 +3,9 @@ from __future__ import annotations
 
 import json
 from dataclasses import dataclass
-from typing import Callable, Iterator
+from typing import Callable, Iterator, Optional, Sequence
 
+from ..explaining import Command
 from ..labels import Labels
 from ..numbers import WORD
 from ..tables import Machine
@@ -51,10 +52,11 @@ class Owner:
 
 
 class Page:
-    """What the events of a machine have in common: what tasks are called, and from which clock on times are told."""
+    """What the events of a machine have in common: what tasks are called, from which clock on times are told, and the
+    command that explains a pass, where slices say it."""
 
-    def __init__(self, machine: Machine, labels: Labels, zero: int) -> None:
-        self.machine, self.zero, self.time = machine, zero, times_in(labels.tick)
+    def __init__(self, machine: Machine, labels: Labels, zero: int, command: Optional[Command] = None) -> None:
+        self.machine, self.zero, self.time, self.command = machine, zero, times_in(labels.tick), command
         self.tasks = [in_quotes(labels.task(task)) for task in range(len(machine.tasks))]
         self.owners = [Owner(task, f"{self.tasks[task]}, ", COLOURS[task % len(COLOURS)])
                        for task, limit in enumerate(machine.limits) for _ in range(limit)]
@@ -62,6 +64,12 @@ class Page:
     def at(self, clock: int) -> str:
         """When something is, in microseconds."""
         return self.time(clock - self.zero if clock > self.zero else 0)
+
+    def explained(self, cells: Sequence[str]) -> str:
+        """The command that explains the pass with which a row of spans begins, as an argument."""
+        if self.command is None:
+            return ""
+        return f',"explain":"{in_quotes(self.command.of_core(cells[9], cells[0]))}"'
 
     def stretch(self, first: int, last: int) -> str:
         """From when on something is, and how long it takes, as an event begins."""

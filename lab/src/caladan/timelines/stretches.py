@@ -48,7 +48,7 @@ def _arguments(cells: Sequence[str], cause: str = "") -> str:
 def _slice(page: Page, cells: Sequence[str], last: int, head: str, said: str) -> str:
     """A slice of a core, to this clock where it goes on."""
     front = page.stretch(int(cells[11]), int(cells[12]) if cells[12] else last)
-    return f'{front},{head},"tid":{cells[0]},"args":{{{said}}}}}'
+    return f'{front},{head},"tid":{cells[0]},"args":{{{said}{page.explained(cells)}}}}}'
 
 
 def _cause(page: Page, cells: Sequence[str]) -> tuple[str, str]:

@@ -87,9 +87,19 @@ VERSION = flag("version", "Print version", short="V")
 
 
 @dataclass(frozen=True)
+class Section:
+    """Options that the long help has apart, under a title, and what it says of them."""
+
+    title: str
+    args: tuple[Arg, ...]
+    says: str
+
+
+@dataclass(frozen=True)
 class Command:
     """A command: its name, the words before its own, what it is for, what the long help says at its end, what it takes
-    in the order of its help, and the commands below it."""
+    in the order of its help, and the commands below it; options of pictures, and sections of others; and whether it
+    answers in text whatever its file is called."""
 
     name: str
     called: str
@@ -100,11 +110,18 @@ class Command:
     version: str = ""
     extra: tuple[Arg, ...] = ()
     has_help: bool = True
+    sections: tuple[Section, ...] = ()
+    is_text: bool = False
+
+    @property
+    def apart(self) -> tuple[Arg, ...]:
+        """The options that stand in parts of the help of their own."""
+        return (*self.extra, *(it for section in self.sections for it in section.args))
 
     @property
     def all_args(self) -> tuple[Arg, ...]:
         asks = (*((HELP,) if self.has_help else ()), *((VERSION,) if self.version else ()))
-        return (*self.args, *self.extra, *asks)
+        return (*self.args, *self.apart, *asks)
 
     @property
     def files(self) -> tuple[Arg, ...]:

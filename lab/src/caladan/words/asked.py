@@ -7,6 +7,8 @@ from .. import __version__
 from . import texts
 from .arg import Arg, Command, Number, flag, number, option
 from .drawn import PICTURE, PROGRAM, RUN, SEEDS
+from .logged import LOG, SWEPT_LOG
+from .reported import COMMANDS, EXPLAIN, REPORT_TEXT
 
 NAME = "caladan_lab"
 POLICIES = ("caladan", "assured")
@@ -51,30 +53,42 @@ def in_long_help(args: tuple[Arg, ...]) -> tuple[Arg, ...]:
 COMPARE = Command(
     "compare", f"{NAME} compare", "Run several tables on the same arrivals, and compare their numbers", texts.COMPARE,
     (Arg("tables", "The input; with --arrivals the tables, a file each", value="FILE", many=True),
-     option("arrivals", "FILE", "The arrivals of all tables"), BY_EACH, *COUNT, *PLAN, VARY, CSV, NAMES, TICK,
+     option("arrivals", "FILE", "The arrivals of all tables"), BY_EACH, *COUNT,
+     option("window", "WINDOW", "Rank what came in the middle of the run, or all [default: middle]",
+            names=("middle", "whole"), hidden=True), *PLAN, VARY, CSV, NAMES, TICK,
      number("write-input", "N", "Write the input of table N's run instead, from 0", conflicts="csv"), OUTPUT),
     extra=PICTURE)
 
 SWEEP = Command(
     "sweep", f"{NAME} sweep", "Run a table at rising loads", texts.SWEEP,
     (INPUT, option("task", "TASK", "A task that gets requests", many=True, default="0"),
-     option("load", "LOAD", "Rising loads, such as 0.1,0.3,..,0.9", many=True, unless="offered"),
+     option("load", "LOAD", "Rising loads, such as 0.1,0.3,..,0.9", many=True, unless="offered log"),
      option("offered", "CORES", "The same in cores, whatever its limit, such as 1.5", many=True),
      *RUN_OF_LOADS, BY_EACH, *in_long_help(PLAN), VARY,
      option("slo", "OBJECTIVE", "What the last load must keep, such as task.0.p99=65", many=True),
      option("from", "TURN", "The first turn of the window [default: a tenth in]", hidden=True),
      option("to", "TURN", "The turn after it [default: a tenth before the end]", hidden=True),
      option("seeds", "N", "Run each load with N seeds, from --seed on, 1 to 1000", hidden=True),
+     option("rules", "VERSION", "Judge as version 4 did, or as 5 [default: 5]", names=("4", "5"), hidden=True),
+     flag("by-seed", "A row for each seed in place of three", hidden=True),
      flag("cheapest", "List what keeps every objective, best for best effort first", needs="slo", hidden=True),
      option("jobs", "N", "Run N loads at a time at most [default: 2 a processor]", short="j",
             number=Number(1, 2 ** 63 - 1), hidden=True),
      flag("quiet", "Do not show on a terminal how many loads are done", short="q", hidden=True),
      CSV, NAMES, TICK, OUTPUT),
-    extra=PICTURE)
+    extra=PICTURE, sections=(SWEPT_LOG,))
 
 TIMELINE = Command(
     "timeline", f"{NAME} timeline", "Write a history or a run as trace events, for Perfetto", texts.TIMELINE,
-    (INPUT, POLICY, *PLAN, NAMES, TICK, OUTPUT), extra=(PROGRAM,))
+    (INPUT, POLICY, *PLAN, COMMANDS, NAMES, TICK, OUTPUT), extra=(PROGRAM,))
+
+REPORT = Command(
+    "report", f"{NAME} report", "Write a run as one page to click through, with why", REPORT_TEXT,
+    (INPUT, POLICY, COUNT[0], EXPLAIN, NAMES, TICK,
+     option("jobs", "N", "Ask for N passes at a time at most [default: 2 a processor]", short="j",
+            number=Number(1, 2 ** 63 - 1), hidden=True),
+     flag("quiet", "Do not show on a terminal how many passes are done", short="q", hidden=True), OUTPUT),
+    extra=(PROGRAM,))
 
 LAB = Command(
     NAME, NAME, "Many runs of the core scheduler of Caladan, over caladan_view and caladan_sim", """\
@@ -87,4 +101,4 @@ copy; `man caladan-viewer` has the rest.
 Exit status: 0 done, 1 an objective missed, 2 bad arguments or rejected input, 3
 memory or output was refused, or a program is missing. A fault is one line on
 the standard error; below it, lines say why an input was rejected.""",
-    commands=(COMPARE, SWEEP, TIMELINE, RUN, SEEDS), version=__version__)
+    commands=(COMPARE, SWEEP, TIMELINE, LOG, REPORT, RUN, SEEDS), version=__version__)

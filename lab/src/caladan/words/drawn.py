@@ -25,7 +25,9 @@ of assured that it is not the policy's: draw that from the CSV of `spans` and
 `series` with --policy assured. Of CSV, --table names the task table, for free
 cores, guarantees and threads.
 All passes are shown if they are no more than 80, else 64; where there is room
-for fewer, a column is several passes.
+for fewer, a column is several passes. With --responses each task has a lane in
+which a point is a request: when it came, and how long it took. Of CSV that
+needs a third file, that of `caladan_view requests`.
 Exit status: 0 it is drawn, 2 it cannot be drawn, 3 the picture cannot be
 written.
 
@@ -37,7 +39,9 @@ caladan_lab run -o run.svg <<'END'
 SEEDS_TEXT = """\
 Input: rows of runs (CSV), as bench/interference keeps them. The first line
 names what is set in a run, then `seed`, then up to four measures, by the names
-that `compare --csv` gives them; each setting has a row for each seed.
+that `compare --csv` gives them; each setting has a row for each seed. Or what
+`sweep --seeds N --csv` writes, of which p50, p99, p99.9 and the best-effort
+share are drawn.
 Output: a picture, whose ending says its format. Each measure has a plot, with a
 colour for each value of the last setting, over those of the one before; a
 further setting makes rows of plots. A point is the median, and a bar goes from
@@ -64,7 +68,7 @@ LOOKS = (
 # The options of a picture, which -o with .svg, .png or .pdf asks for.
 PICTURE = (*LOOKS, DRAWN_TABLE, PROGRAM)
 # Of each word that writes text too, what has no place in a picture.
-TEXT_ALONE = {"compare": ("csv", "write-input", "from", "to"), "sweep": ("csv", "cheapest")}
+TEXT_ALONE = {"compare": ("csv", "write-input", "from", "to", "window"), "sweep": ("csv", "cheapest")}
 # A file is asked for: without it the words are refused.
 PICTURE_FILE = option("output", "PICTURE", "The picture: .svg, .png or .pdf", short="o", unless="output")
 CALLED = (option("names", "NAME,..", "The names of the tasks, in order"),
@@ -75,6 +79,7 @@ RUN = Command(
     (Arg("files", "The input, or its CSV [default: the standard input]", value="FILE", many=True), DRAWN_TABLE,
      number("from", "PASS", "The first pass that is shown", default="0"),
      option("passes", "N", "How many are shown", number=Number(1)), number("task", "T", "This task alone"),
+     flag("responses", "With a lane of responses for each task, of arrivals"),
      *CALLED, *LOOKS, PROGRAM, PICTURE_FILE))
 
 SEEDS = Command(

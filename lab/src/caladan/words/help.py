@@ -53,9 +53,11 @@ def help_of(command: Command, is_long: bool) -> str:
         parts.append("Commands:\n" + "\n".join(f"  {name:{wide}}  {about}" for name, about in rows))
     if command.files:
         parts.append("Arguments:\n" + told(command, list(command.files)))
-    shown = [it for it in command.all_args if not it.is_file and it not in command.extra]
+    shown = [it for it in command.all_args if not it.is_file and it not in command.apart]
     if shown:
         parts.append("Options:\n" + told(command, [it for it in shown if is_long or not it.hidden]))
+    if is_long:
+        parts += [f"{it.title}:\n{told(command, list(it.args))}\n\n{it.says.strip()}" for it in command.sections]
     if command.extra and is_long:
         parts.append("Pictures:\n" + told(command, list(command.extra)))
     if is_long and command.after:

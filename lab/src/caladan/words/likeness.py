@@ -32,6 +32,12 @@ def jaro(one: str, other: str) -> float:
     return (count / len(one) + count / len(other) + (count - swaps) / count) / 3.0
 
 
+def tip(word: str, names: Iterable[str]) -> str:
+    """The line that says which of some names was meant; nothing where none is like the word."""
+    close = alike(word, names)
+    return f"  did you mean `{close[-1]}`?\n" if close else ""
+
+
 def alike(word: str, names: Iterable[str]) -> list[str]:
     """The names that are like a word, the most like last; of two that are as alike the later one is after."""
     found: list[tuple[float, str]] = []

@@ -42,7 +42,7 @@ class Asked:
     @property
     def is_picture(self) -> bool:
         """Whether the answer is drawn, by the ending of its file."""
-        return is_picture(self.one("output") or "")
+        return not self.command.is_text and is_picture(self.one("output") or "")
 
 
 class Reader:
@@ -228,7 +228,7 @@ def check(asked: Asked) -> None:
     lacking = [it for it in command.all_args if it.name in needed and it.name not in asked.found]
     if not asked.is_picture:
         lacking += [it for it in command.all_args
-                    if it.unless and it.name not in asked.found and it.unless not in asked.found]
+                    if it.unless and it.name not in asked.found and not {*it.unless.split()} & {*asked.found}]
     if lacking:
         used = [*asked.found, *(it.name for it in lacking)]
         raise refusals.missing(command, list(dict.fromkeys(lacking)), used, needed)

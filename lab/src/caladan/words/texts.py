@@ -3,7 +3,7 @@
 COMPARE = """\
 Input: task tables (TOML), each ended by the line ---, and after the last of
 these lines arrivals (CSV). With --arrivals each other file is a task table, and
-the named one has the arrivals; no line --- is needed.
+the named one has the arrivals, and no table; no line --- is needed.
 Output: the numbers that `caladan_view measure` gives of each table's
 run on the arrivals, a column for each table; beside each column but the first
 its change from the first; with --csv as CSV. A missing task, and a change that
@@ -13,8 +13,10 @@ With --vary the input is that of `measure`, or one table with --arrivals, and
 there is a column for each value: the table with that value at the key. Keys are
 cores, bandwidth_limit, and of task 1 task.1.kind, task.1.guaranteed,
 task.1.limit, task.1.delay and task.1.request; of --names a name may stand for a
-task, as in --vary memcached.limit=2,4. Write a value as in a table. To keep the
-given table among the columns, name its own value, best as the first. Several
+task, as in --vary memcached.limit=2,4; without --names a word in a comment, as
+in [[task]] # memcached. Write a value as in a table, or with --tick a time, as
+10us; 10,20,..,80 goes on in equal steps. To keep the given table among the
+columns, name its own value, best as the first. Several
 --vary make all combinations, at most 1000; the first key changes slowest.
 With several policies each table has a column for each of them.
 The arrivals are for the first table, or for the one that is varied. In each
@@ -23,8 +25,13 @@ among the task's, modulo the limit. Where another has taken its turn there, it
 comes before the next free one, and still counts from its own; where none is
 left it is left out. Two rows count these and those moved by more than one turn,
 where there are some. --write-input N writes table N and the arrivals that it
-gets, which `measure` reads. --came, --from and --to are as in `measure`; the
-file is of the arrivals as given.
+gets, which `measure` reads. --came is as in `measure`; the file is of the
+arrivals as given.
+Times are of the requests that came in the middle of the run: all but the first
+and the last tenth of its turns, or from --from on, and before --to. With
+--window whole they are of all requests, as in `measure`. Where the request at a
+rank was not answered, > stands before the least that its time can be, by how
+long each has waited so far.
 With --pace, --beside, --memory or --figure the runs are like a machine:
 docs/VIEWER.md, "Runs like a machine".
 Exit status: 0 done, 2 rejected input, 3 memory or output was refused. A table
@@ -73,10 +80,10 @@ task 0 requests left                      0        1              +1
 task 0 served in a tick               0.050    0.025          -0.025
 task 0 response least                     0       40             +40
 task 0 response median                    0       40             +40
-task 0 response 90 of 100                40       >0               -
-task 0 response 99 of 100            40 (2)   >0 (2)               -
-task 0 response 99.9 of 100          40 (2)   >0 (2)               -
-task 0 response greatest                 40       >0               -
+task 0 response 90 of 100                40      >40               -
+task 0 response 99 of 100            40 (2)  >40 (2)               -
+task 0 response 99.9 of 100          40 (2)  >40 (2)               -
+task 0 response greatest                 40      >40               -
 task 0 response mean                 20.000  >20.000               -
 task 0 wait least                         0       40             +40
 task 0 wait median                        0       40             +40
@@ -137,12 +144,27 @@ With --vary there is a row for each value, or for each combination of several
 same requests for all, drawn for the greatest limit, each at its thread modulo
 the table's, and later if its turn is taken. With several policies there is a
 row for each. --seeds N runs each load with N seeds: for each row there are
-three, the least, the median and the greatest of each column by itself.
---slo is an objective for a task: p50, p90, p99, p99.9 or max, in ticks. It is
-undecided where the request at its rank is pending for less, and missed where
-some that came before the end of the window are left out; of several seeds one
-is enough. There may be several: where they are of several tasks, each of these
-has rows. Of --names a name may stand for a task, as in --slo memcached.p99=65.
+three, the least, the median and the greatest of each column by itself; of an
+even number the lower median. A fourth says, for all tables but the first, with
+how many seeds the table beats the first: by a shorter time, or more served.
+With --by-seed there is a row for each seed in their place. `caladan_lab seeds`
+draws both.
+--slo is an objective for a task: p50, p90, p95, p99, p99.9 or max, in ticks, or
+with --tick as 250us. It is kept where at least ten requests lie beyond its
+rank: some 1,000 requests for p99. It is missed where at least ten took longer,
+or have waited longer so far, and where requests of the task that came before
+the end of the window are left out; with --offered, those of any task. Else it
+is undecided, and the line says how many more turns would do. It is undecided
+too where the response grows from the first half of the window to the second by
+more than chance, since it has no ranks then. max is of the requests that came,
+and says nothing of others. Of several seeds one is enough to miss it, else to
+leave it undecided; if all of ten keep it, another does with a chance of 0.741
+or more, at 95 in 100. For one seed to say at 95 in 100 that p99 is kept takes
+299 independent requests that all keep it, and p99.9 takes 2,995; requests in a
+queue are not independent, so take more. --rules 4 judges as version 4 did.
+There may be several: where they are of several tasks, each of these has rows.
+Of --names a name may stand for a task, as in --slo memcached.p99=65; without
+--names a word in a comment of the table, as in [[task]] # memcached.
 --cheapest lists below the table, for each load, what keeps every objective:
 first what leaves the greatest share to best effort, of several seeds in the
 median.
@@ -186,6 +208,9 @@ chrome://tracing open. For arrivals they show the run that
 the turns that worked at it, and arrows from the request to these turns.
 With --pace, --beside, --memory or --figure there must be arrivals, and their
 run is like a machine: docs/VIEWER.md, "Runs like a machine".
+With --commands each slice of a core has the command that says why it began, as
+its argument `explain`; not of a run that is like a machine, which no command
+explains.
 Exit status: 0 done, 2 rejected input, 3 memory or output was refused.
 
 To try it:
