@@ -13,50 +13,85 @@ use crate::held::Held;
 use crate::naming::{ask_why, taken_name};
 use cal_engine::{Noted, RunFault, end_with, given_words, status};
 use cal_why::run_explained;
-use std::alloc::AllocError;
+use std::alloc::{AllocError, Global};
 use std::fs;
 use std::io::{IsTerminal, Read, Write};
 use std::process::ExitCode;
+use std::rt::Files;
+use std::sync::Wait;
+use std::thread::Threads;
 
 fn main(rt: HostRuntime) -> ExitCode {
-    ExitCode::from(match answer(&rt) {
+    let is_terminal = rt.stderr().is_terminal();
+    let ends = Ends {
+        rt: &rt,
+        alloc: rt.alloc(),
+        is_terminal,
+    };
+    let answered = match given_words(&rt, "caladan_sim") {
+        Ok(words) => ends.answer(words, rt.stdin(), rt.stdout(), rt.stderr()),
+        Err(fault) => Err(fault),
+    };
+    ExitCode::from(match answered {
         Ok(status) => status,
         Err(fault) => end_with("caladan_sim", &fault, &mut rt.stderr()),
     })
 }
 
-/// Does what the words ask for, on standard input or on the file that the last of them names, and
-/// answers the exit status.
-fn answer(rt: &HostRuntime) -> Result<u8, RunFault> {
-    let mut words = given_words(rt, "caladan_sim")?;
-    let Some(name) = taken_name(rt.alloc(), &mut words)? else {
-        return Ok(answer_on(rt, words, rt.stdin())?);
-    };
-    match fs::open(rt, name.as_str()) {
-        Ok(file) => Ok(answer_on(rt, words, file)?),
-        Err(said) => {
-            let _ = writeln!(rt.stderr(), "caladan_sim: {name}: {said}");
-            Ok(status(&RunFault::Read))
-        }
-    }
+/// The ends of the process.
+#[derive(Drop)]
+struct Ends<'h, H> {
+    /// What opens files, and starts threads.
+    rt: &'h H,
+    /// What it takes memory from.
+    alloc: Global,
+    /// Whether standard error is a terminal.
+    is_terminal: bool,
 }
 
-/// Does what the words ask for on an input, and answers the exit status. On a terminal it says why an
-/// input is refused, as with `--explain`. Where the reader of the answer has gone it says nothing.
-fn answer_on<R: Read + Drop>(
-    rt: &HostRuntime,
-    mut words: Vec<String>,
-    input: R,
-) -> Result<u8, AllocError> {
-    let alloc = rt.alloc();
-    if rt.stderr().is_terminal() {
-        ask_why(alloc, &mut words)?;
+impl<'h, H: Threads + Wait + Sync + Files> Ends<'h, H> {
+    /// Does what the words ask for, on standard input or on the file that the last of them names, and
+    /// answers the exit status. The fault is `Memory`.
+    fn answer<R: Read + Drop, W: Write + Drop, E: Write + Drop>(
+        &self,
+        mut words: Vec<String>,
+        input: R,
+        output: W,
+        mut errors: E,
+    ) -> Result<u8, RunFault> {
+        let Some(name) = taken_name(self.alloc, &mut words)? else {
+            return self.answer_on(words, input, output, errors);
+        };
+        match fs::open(self.rt, name.as_str()) {
+            Ok(file) => self.answer_on(words, file, output, errors),
+            Err(said) => {
+                let _ = writeln!(errors, "caladan_sim: {name}: {said}");
+                Ok(status(&RunFault::Read))
+            }
+        }
     }
-    let mut output = Noted::new(rt.stdout());
-    let mut errors = Held::new(alloc, rt.stderr());
-    let status = run_explained(rt, alloc, words.as_slice(), input, &mut output, &mut errors);
-    if !output.is_reader_gone() {
-        errors.let_go();
+
+    /// Does what the words ask for on an input, and answers the exit status. On a terminal it says why
+    /// an input is refused, as with `--explain`. Where the reader of the output has gone it says
+    /// nothing. The fault is `Memory`.
+    fn answer_on<R: Read + Drop, W: Write + Drop, E: Write + Drop>(
+        &self,
+        mut words: Vec<String>,
+        input: R,
+        output: W,
+        errors: E,
+    ) -> Result<u8, RunFault> {
+        let alloc = self.alloc;
+        if self.is_terminal {
+            ask_why(alloc, &mut words)?;
+        }
+        let mut output = Noted::new(output);
+        let mut errors = Held::new(alloc, errors);
+        let words = words.as_slice();
+        let status = run_explained(self.rt, alloc, words, input, &mut output, &mut errors);
+        if !output.is_reader_gone() {
+            errors.let_go();
+        }
+        Ok(status)
     }
-    Ok(status)
 }

@@ -37,7 +37,8 @@ pub fn ask_why(alloc: Global, words: &mut Vec<String>) -> Result<(), AllocError>
     if is_first {
         words.push(String::from_str(alloc, "decide")?)?;
     }
-    words.push(String::from_str(alloc, "--explain")?)
+    words.push(String::from_str(alloc, "--explain")?)?;
+    Ok(())
 }
 
 /// Whether words of the program that do not have `--explain` lack a subcommand too; nothing of others.
