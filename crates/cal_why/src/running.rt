@@ -7,6 +7,7 @@ ghost use Rattle.cal_policy.specs.declared.policy.Policy.TheVariants.{Caladan};
 ghost use Rattle.cal_engine.specs.CommandWords.{AsksBy};
 ghost use Rattle.cal_engine.specs.Program.{exit_status, EndsJobBy};
 ghost use Rattle.cal_engine.specs.declared.command_words.command_line.Job.{Job as JobOf};
+ghost use Rattle.cal_input.specs.Faults.{status_of};
 
 use crate::ending::end_explained;
 use crate::explaining::RefusedInput;
@@ -89,7 +90,10 @@ fn explained_job<H: Threads + Wait + Sync, R: Read + Drop, W: Write, E: Write>(
     ensures untouched { IfErr result (λ fault. fault ≢ RunFault.Write →
         fault ≢ RunFault.Memory → output.new ≡ output.old) }
 {
-    let input = read_input(alloc, &mut reader)?;
+    let input = match read_input(alloc, &mut reader) {
+        Ok(input) => input,
+        Err(fault) => return Ok(end_unread(alloc, &fault, errors)),
+    };
     let input = input.as_slice();
     match do_job_by(rt, alloc, asked.policy, asked.job, input, output) {
         Ok(status) => Ok(status),
@@ -101,6 +105,17 @@ fn explained_job<H: Threads + Wait + Sync, R: Read + Drop, W: Write, E: Write>(
             Ok(end_explained(alloc, "caladan_sim", refused, &fault, errors))
         }
     }
+}
+
+/// Ends after a fault of reading an input, as `end_explained`.
+fn end_unread<E: Write>(alloc: Global, fault: &RunFault, errors: &mut E) -> u8
+    ensures { result ≡ status_of fault.now }
+{
+    let unread = RefusedInput {
+        input: &[],
+        wanted: &[],
+    };
+    end_explained(alloc, "caladan_sim", unread, fault, errors)
 }
 
 /// The trace that a job reads.
