@@ -7,9 +7,8 @@ ghost use Rattle.cal_policy.specs.declared.policy.Policy.TheVariants.{Caladan};
 ghost use Rattle.cal_engine.specs.CommandWords.{AsksBy};
 ghost use Rattle.cal_engine.specs.Program.{exit_status, EndsJobBy};
 ghost use Rattle.cal_engine.specs.declared.command_words.command_line.Job.{Job as JobOf};
-ghost use Rattle.cal_input.specs.Faults.{status_of};
 
-use crate::ending::end_explained;
+use crate::ending::{end_explained, explain_fault};
 use crate::explaining::RefusedInput;
 use crate::grammar::TraceKind;
 use cal_engine::{Asked, Job, asked_by, do_job_by, end_with, refuse_words, words_after_first};
@@ -42,7 +41,23 @@ pub fn run_explained<H: Threads + Wait + Sync, R: Read + Drop, W: Write, E: Writ
 {
     match answer_words(rt, alloc, named, reader, output, errors) {
         Ok(status) => status,
-        Err(fault) => end_with("caladan_sim", &fault, errors),
+        Err(fault) => {
+            let status = end_with("caladan_sim", &fault, errors);
+            tell_unread(alloc, named, &fault, errors);
+            status
+        }
+    }
+}
+
+/// Writes why an input was not read to its end that has this fault, where the words ask why an input is
+/// refused.
+fn tell_unread<E: Write>(alloc: Global, named: &[String], fault: &RunFault, errors: &mut E) {
+    let unread = RefusedInput {
+        input: &[],
+        wanted: &[],
+    };
+    if *fault == RunFault::Length && named.iter().any(|word| word.as_str() == "--explain") {
+        explain_fault(alloc, unread, fault, errors);
     }
 }
 
@@ -90,10 +105,7 @@ fn explained_job<H: Threads + Wait + Sync, R: Read + Drop, W: Write, E: Write>(
     ensures untouched { IfErr result (λ fault. fault ≢ RunFault.Write →
         fault ≢ RunFault.Memory → output.new ≡ output.old) }
 {
-    let input = match read_input(alloc, &mut reader) {
-        Ok(input) => input,
-        Err(fault) => return Ok(end_unread(alloc, &fault, errors)),
-    };
+    let input = read_input(alloc, &mut reader)?;
     let input = input.as_slice();
     match do_job_by(rt, alloc, asked.policy, asked.job, input, output) {
         Ok(status) => Ok(status),
@@ -105,17 +117,6 @@ fn explained_job<H: Threads + Wait + Sync, R: Read + Drop, W: Write, E: Write>(
             Ok(end_explained(alloc, "caladan_sim", refused, &fault, errors))
         }
     }
-}
-
-/// Ends after a fault of reading an input, as `end_explained`.
-fn end_unread<E: Write>(alloc: Global, fault: &RunFault, errors: &mut E) -> u8
-    ensures { result ≡ status_of fault.now }
-{
-    let unread = RefusedInput {
-        input: &[],
-        wanted: &[],
-    };
-    end_explained(alloc, "caladan_sim", unread, fault, errors)
 }
 
 /// The trace that a job reads.
