@@ -359,7 +359,7 @@ fn asked_of(matches: &ArgMatches<'_>) -> Asked {
     Asked {
         pass: number(matches, "pass"),
         last: number(matches, "to"),
-        clock: matches.get_one::<u64>("at").copied(),
+        clock: matches.get_one::<u64>("at"),
         task: number(matches, "task"),
         core: number(matches, "core"),
     }
