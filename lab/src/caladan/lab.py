@@ -350,9 +350,10 @@ def listed(values: Union[Value, Sequence[Value], None]) -> Optional[str]:
 def sweep(table: Table, load: Union[Value, Sequence[Value], None] = None, vary: Optional[Keys] = None,
           log: Union[Log, str, "os.PathLike[str]", None] = None, scale: Union[Value, Sequence[Value], None] = None,
           rate: Union[Value, Sequence[Value], None] = None, **options: Option) -> Answer:
-    """The response of a task at rising loads, or of the requests of a log, which is a Log or a file, at times its load
-    (`scale`) or at requests a second (`rate`). Options are those of `caladan_lab sweep`, as task=0, service=10,
-    turns=2000, seeds=5, slo="task.0.p99=400"; of a log turn="5us", batch="batch", seeds=10."""
+    """The response of a task at rising loads, or at requests a second (`rate`), for which the table has a tick; or of
+    the requests of a log, which is a Log or a file, at times its load (`scale`) or at requests a second. Options are
+    those of `caladan_lab sweep`, as task=0, service=10, turns=2000, seeds=5, slo="task.0.p99=400"; of a log turn="5us",
+    batch="batch", seeds=10."""
     from .logs.log import Log as Read
     read = log if isinstance(log, Read) else None
     file = None if log is None else log.name if isinstance(log, Read) else os.fspath(log)
