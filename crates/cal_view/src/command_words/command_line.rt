@@ -197,7 +197,7 @@ fn pass_word<'a>(alloc: Global) -> Arg<'a> {
 }
 
 fn last_word<'a>(alloc: Global) -> Result<Arg<'a>, AllocError> {
-    let help = "Each pass from --pass to this one";
+    let help = "Each pass up to this one, too";
     number_word(alloc, "to", "PASS", help).requires_arg("pass")
 }
 

@@ -83,14 +83,15 @@ pub fn answer_explain<W: Write, E: Write>(
 /// The first and the last of the passes that are asked for, which a history has; nothing where none is
 /// asked for.
 fn range_of(history: &[PassEntry], asked: Asked) -> Result<Option<(usize, usize)>, Unexplained> {
-    let (pass, last) = match (asked.pass, asked.clock) {
-        (Some(pass), _) => (pass, asked.last.unwrap_or(pass)),
+    let pass = match (asked.pass, asked.clock) {
+        (Some(pass), _) => pass,
         (None, Some(clock)) => match pass_by(history, clock) {
-            Some(pass) => (pass, pass),
+            Some(pass) => pass,
             None => return Err(Unexplained::NoPassBy { clock }),
         },
         (None, None) => return Ok(None),
     };
+    let last = asked.last.unwrap_or(pass);
     let passes = history.len();
     if last < pass {
         return Err(Unexplained::NoRange { pass, last });
