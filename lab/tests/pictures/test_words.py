@@ -22,6 +22,8 @@ from .given import DELAYS, KEPT_RUNS, VIEW, compared, example, input_of, run_fil
 
 DRAW = [sys.executable, str(TOP / "caladan_draw")]
 TEAM = ["sweep", "--load", "0.2,0.6", "--turns", "60", "--pattern", "even", "--vary", "task.0.delay=10,40"]
+# The old name judges as version 4 did.
+AS_BEFORE = ["--rules", "4"]
 WORDS = {
     "run": ["run", example("lockstep/tour")],
     "compare": ["compare", "--vary", DELAYS, example("lockstep/tour")],
@@ -73,7 +75,8 @@ def words_alone(tmp_path: Path) -> str:
 @pytest.mark.parametrize("word", WORDS)
 def test_both_names_draw_the_same(word: str, lab: Run, old: Run, words_alone: str, tmp_path: Path) -> None:
     new_file, old_file = tmp_path / "new.svg", tmp_path / "old.svg"
-    assert lab(*WORDS[word], "-o", str(new_file), view=words_alone) == (0, "", "")
+    as_before = AS_BEFORE if word == "sweep" else []
+    assert lab(*WORDS[word], *as_before, "-o", str(new_file), view=words_alone) == (0, "", "")
     assert old(*WORDS[word], "-o", str(old_file)) == (0, "", "")
     assert new_file.read_bytes() == old_file.read_bytes()
     assert new_file.read_bytes().startswith(b"<?xml")
@@ -97,7 +100,7 @@ def test_the_ending_says_the_format(lab: Run, tmp_path: Path) -> None:
 
 def test_another_ending_is_text(lab: Run, tmp_path: Path) -> None:
     file = tmp_path / "tour.txt"
-    assert lab(*WORDS["compare"], "-o", str(file), view=VIEW) == (0, "", "")
+    assert lab(*WORDS["compare"], "--window", "whole", "-o", str(file), view=VIEW) == (0, "", "")
     assert file.read_text() == compared("--vary", DELAYS, given=input_of("lockstep/tour"))
 
 
@@ -151,7 +154,9 @@ def test_a_missed_objective_is_told_and_drawn(lab: Run, old: Run, tmp_path: Path
     assert text.status == 1 and text.err.count("\n") >= 1
     assert lab(*words, view=VIEW) == (1, "", text.err)
     assert "p99 at most" in (tmp_path / "x.svg").read_text()
-    assert old(*words) == (1, "", text.err.replace("caladan_lab: ", "caladan_view: "))
+    as_before = lab(*words, *AS_BEFORE, view=VIEW)
+    assert as_before.status == 1 and set(as_before.err.splitlines()) < set(text.err.splitlines())
+    assert old(*words) == (1, "", as_before.err.replace("caladan_lab: ", "caladan_view: "))
 
 
 def test_a_refused_input_is_told_as_of_the_program(lab: Run, old: Run, tmp_path: Path) -> None:
@@ -300,10 +305,10 @@ def test_values_are_drawn_as_the_words_draw(lab: Run, tmp_path: Path, monkeypatc
     file = str(tmp_path / "kept.svg")
     table = caladan.Table.read(example("sweep/team"), names=["a", "b", "c"], tick="us")
     named = ["--names", "a,b,c", "--tick", "us"]
-    answer = caladan.sweep(table, [0.2, 0.6], vary={"a.delay": [10, 40]}, turns=60, pattern="even", slo="a.p99=400")
+    answer = caladan.sweep(table, [0.2, 0.6], vary={"a.delay": [10, 40]}, turns=60, pattern="even", slo="a.max=400")
     answer.picture(file)
     words = ["sweep", "--load", "0.2,0.6", "--vary", "a.delay=10,40", "--turns", "60", "--pattern", "even", "--slo",
-             "a.p99=400", *named, example("sweep/team"), "-o", str(tmp_path / "sweep.svg")]
+             "a.max=400", *named, example("sweep/team"), "-o", str(tmp_path / "sweep.svg")]
     assert lab(*words, view=VIEW).err == ""
     assert Path(file).read_bytes() == (tmp_path / "sweep.svg").read_bytes()
     run = caladan.Table.read(example("lockstep/tour"), ["a", "b", "c"], "us").run_of(arrivals_in(tmp_path))
