@@ -187,8 +187,8 @@ def test_the_slowest_requests_lead_to_where_they_waited(page: Page, tour: Case) 
 
 def test_a_label_is_whole_or_not_there(page: Page, made: Case) -> None:
     for case in (page, Page(page.browser, made.address)):
-        labels = case.says("run.spans.map(it => [0, 5, 9, 20, 40, 60, 300].map(room => { const sign = signOf(it, room); "
-                           "return [sign, signsOf(it), pen.measureText(sign).width, room]; }))")
+        labels = case.says("run.spans.map(it => [0, 5, 9, 20, 40, 60, 300].map(room => { const sign = signOf(it, room);"
+                           " return [sign, signsOf(it), pen.measureText(sign).width, room]; }))")
         assert all(not sign or (sign in whole and width <= room) for of in labels for sign, whole, width, room in of)
         assert all(of[-1][0] == of[-1][1][0] and of[0][0] == "" for of in labels)
         # What is drawn of the whole run.
