@@ -113,6 +113,11 @@ def test_objectives() -> None:
     assert objective_of("kv.max=1", ("web", "kv"), [1]).task == 1
     assert refused(objective_of, "kv.max=1", ("web",), [0]) == "--slo kv.max=1: the tasks are called web"
     assert refused(objective_of, "1.max=1", (), [0]).endswith("the objective is of a task that has no load")
+    with pytest.raises(Refusal) as it_is:
+        objective_of("kv.p99=1", (), [0])
+    assert it_is.value.below == (
+        "  --names kv,batch says what the tasks are called, in the order of the table; or comments in it: "
+        "[[task]] # kv\n")
     assert refused(objective_of, "0.p42=1", (), [0]).endswith("a task, p50, p90, p95, p99, p99.9 or max, and ticks")
 
 

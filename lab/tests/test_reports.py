@@ -7,6 +7,7 @@ import json
 import re
 import subprocess
 import zlib
+from dataclasses import replace
 from pathlib import Path
 from typing import Any
 
@@ -17,7 +18,9 @@ from caladan.explaining import command_of
 from caladan.programs import Viewer
 from caladan.refusal import Refusal
 from caladan.reports.explanations import Explainer
-from caladan.reports.told import last_before, parts_of_history, parts_of_report, passes_changed, shown_numbers
+from caladan.reports.told import (MOST, Told, chosen, last_before, nearest, parts_of_history, parts_of_report,
+                                  passes_changed, shown_numbers)
+from caladan.tables import machine_of
 
 EXAMPLES = TOP / "examples"
 EMPTY = f"{TABLE}---\ncaladan-history,2\nend,0\n"
@@ -69,7 +72,7 @@ def test_which_passes_are_explained(lab: Run, view: str) -> None:
     assert 0 < len(changed) < len(why) and {n for n, it in enumerate(why) if it} >= set(changed)
     assert None in why
     facts, why = reported(lab, view, given, "--explain", "none")
-    assert set(why) == {None} and "--explain all" in facts["unexplained"]
+    assert set(why) == {None} and "--explain changes or all" in facts["unexplained"]
 
 
 @pytest.mark.parametrize("given, words, said", [
@@ -123,6 +126,25 @@ def test_parts() -> None:
     assert [last_before([10, 20, 20, 30], it) for it in (-1, 5, 10, 11, 20, 21, 99)] == [3, 0, 0, 0, 0, 2, 3]
     assert shown_numbers("measure,a,a bound,a of,b,b bound,b of\nx,1,>,3,2,,\nmachine,7,,\n") == (
         ("", "a", "b"), ("x", ">1 (3)", "2"), ("machine", "7"))
+
+
+def test_which_passes_of_a_long_run_are_explained() -> None:
+    assert nearest([3, 10, 11, 19, 20, 40], [10, 30], 4) == [11, 3, 19, 20]
+    assert nearest([9, 11], [10], 5) == [9, 11] and nearest([9, 11], [10], 1) == [9] and nearest([5], [5], 3) == []
+    assert nearest([1, 2, 3, 4, 5, 6], [], 3) == [1, 3, 5] and nearest([1, 2], [], 3) == [1, 2]
+    # Each third pass does something, and no request waits in any.
+    table = machine_of(TABLE.encode())
+    reports = tuple(f"pass {it}\n" + "  free core 1\n" * (it % 3 == 0) for it in range(1500))
+    long = Told(table, b"", "", "", "", (), reports, "")
+    assert chosen(long, "") == [3 * (it * 500 // MOST) for it in range(MOST)] and len(chosen(long, "changes")) == 500
+    assert chosen(long, "all") == [*range(1500)] and chosen(long, "none") == []
+    # A request that came at the clock of pass 700 and was begun 30 passes later.
+    clocks = "".join(f"{it},{10 * it},0,{task}\n" for it in range(1500) for task in range(2))
+    waits = replace(long, requests="id,task\n1,0,0,7000,1,0,7300,7400,1,\n",
+                    series=f"pass,clock,bandwidth,task\n{clocks}")
+    assert chosen(waits, "") == [*range(729 - 150 * 3, 729 + 149 * 3 + 1, 3)]
+    short = replace(long, reports=reports[:MOST])
+    assert chosen(short, "") == [*range(MOST)] and chosen(short, "changes") == [*range(0, MOST, 3)]
 
 
 def test_commands() -> None:

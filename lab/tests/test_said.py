@@ -14,6 +14,7 @@ from caladan.sweeps.command import asked_of, names_needed
 from caladan.sweeps.objectives import objective_of
 from caladan.tables import machine_of, names_in
 from caladan.times import NANOSECONDS, ticks_of
+from caladan.numbers import UNNAMED
 from caladan.varying import key_tip, setting_text, variations_of, varied_text
 from caladan.words.asked import LAB
 from caladan.words.parsing import read_words
@@ -100,6 +101,7 @@ def test_which_was_meant() -> None:
     assert refused(lambda: objective_of("0.p999=1", (), [0])).endswith("and ticks\n  did you mean `p99.9`?")
     assert refused(lambda: objective_of("x.max=1", ("kv",), [0])).endswith("the tasks are called kv")
     assert key_tip(MACHINE, variations_of(["cores=2", "task.0.delays=1"], ())) == "  did you mean `task.0.delay`?\n"
+    assert key_tip(MACHINE, variations_of(["memcached.delay=1"], ())) == UNNAMED
     assert key_tip(MACHINE, variations_of(["zzz=1"], ())) == "" == key_tip(MACHINE, variations_of(["cores=1"], ()))
     words = ["sweep", "--load", "1", "--task", "serch", "--names", "search,kv"]
     assert refused(lambda: asked_of(read_words(LAB, words))) == (

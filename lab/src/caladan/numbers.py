@@ -4,6 +4,9 @@ from __future__ import annotations
 from typing import Optional, Sequence
 
 WORD = 2 ** 64
+# What is said below a name of a task where no names are known.
+UNNAMED = ("  --names kv,batch says what the tasks are called, in the order of the table; or comments in it: "
+           "[[task]] # kv\n")
 
 
 def number_of(word: str) -> Optional[int]:

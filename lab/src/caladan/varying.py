@@ -6,7 +6,7 @@ import re
 from dataclasses import dataclass
 from typing import Callable, Iterable, Optional, Sequence
 
-from .numbers import number_of, task_named
+from .numbers import UNNAMED, number_of, task_named
 from .programs import Viewer
 from .refusal import Refusal
 from .tables import KEYS, UNKNOWN_KEY, Machine, accepted, is_of_table, machine_of, wanted_at
@@ -120,9 +120,12 @@ def varied_text(machine: Machine, variations: Variations, place: int) -> bytes:
 
 
 def key_tip(machine: Machine, variations: Variations) -> str:
-    """Which key was meant by the first that the table lacks."""
+    """Which key was meant by the first that the table lacks, or that names of tasks are not known."""
     lacks = next((it for it in variations if not machine.has_key(it.key)), None)
-    return tip(lacks.key, machine.keys) if lacks else ""
+    if lacks is None:
+        return ""
+    name = lacks.key.rpartition(".")[0].removeprefix("task.")
+    return tip(lacks.key, machine.keys) or (UNNAMED if name and number_of(name) is None else "")
 
 
 def refused_setting(view: Viewer, variations: Variations, place: int, refusal: Refusal, close: str = "") -> Refusal:

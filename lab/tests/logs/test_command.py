@@ -25,6 +25,7 @@ from caladan.logs.arriving import Requests, by_lab, by_program, put_misses  # no
 from caladan.logs.dealing import Terms, dealt, turns_of  # noqa: E402
 from caladan.logs.draws import drawn, scaled  # noqa: E402
 from caladan.logs.log import Log  # noqa: E402
+from caladan.numbers import UNNAMED  # noqa: E402
 from caladan.programs import Viewer  # noqa: E402
 from caladan.tables import machine_of  # noqa: E402
 
@@ -224,6 +225,7 @@ def test_later_requests_are_told_of(lab: Lab) -> None:
     (["--names", "kv"], "--names: 1 names, and the table has 2 tasks"),
     (["--task", "2"], "--task 2: the table has 2 tasks, numbered from 0"),
     (["--batch", "5"], "--batch 5: the table has 2 tasks, numbered from 0"),
+    (["--batch", "x"], f"--batch x: the table has 2 tasks, numbered from 0\n{UNNAMED.rstrip()}"),
     (["--batch", "x", "--names", "kv,batch"], "--batch x: the tasks are called kv, batch"),
     (["--batch", "0"], "--batch 0: log.csv has requests of this task too, the first in row 3; a task has either"),
     (["-o", "out", "--came", "out"], "--came out: the run goes to this file"),
@@ -371,6 +373,7 @@ def test_an_objective_of_a_log(lab: Lab) -> None:
     (["--rate", "x"], "--rate x: requests a second are a number above 0, with up to three digits after the point"),
     (["--block", "4"], "--block 4: a block has 1 to 3 requests, as many as log.csv has"),
     (["--task", "0", "--task", "1"], "--task 1: with --log it is given once"),
+    (["--rate", "5", "--rate", "6"], "--rate 6: with --log it is given once"),
     (["--task", "7"], "--task 7: the table has 2 tasks, numbered from 0"),
     (["--batch", "7"], "--batch 7: the table has 2 tasks, numbered from 0"),
     (["--scale", "0.001", "--turns", "9"], ""),

@@ -70,6 +70,11 @@ class Page:
     def says(self, script: str, *words: Any) -> Any:
         return self.browser.execute_script(f"return {script}", *words)
 
+    def wait(self, script: str, *words: Any) -> None:
+        """Waits until a script says so."""
+        from selenium.webdriver.support.ui import WebDriverWait
+        WebDriverWait(self.browser, SECONDS).until(lambda it: it.execute_script(f"return {script}", *words))
+
     def text(self, what: str) -> str:
         """The text of an element, with its line ends."""
         return str(self.says("document.querySelector(arguments[0])?.textContent ?? ''", what))

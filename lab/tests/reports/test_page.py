@@ -185,6 +185,18 @@ def test_the_slowest_requests_lead_to_where_they_waited(page: Page, tour: Case) 
     assert marked and marked[0].startswith("  task 0 lc: ")
 
 
+def test_a_label_is_whole_or_not_there(page: Page, made: Case) -> None:
+    for case in (page, Page(page.browser, made.address)):
+        labels = case.says("run.spans.map(it => [0, 5, 9, 20, 40, 60, 300].map(room => { const sign = signOf(it, room);"
+                           " return [sign, signsOf(it), pen.measureText(sign).width, room]; }))")
+        assert all(not sign or (sign in whole and width <= room) for of in labels for sign, whole, width, room in of)
+        assert all(of[-1][0] == of[-1][1][0] and of[0][0] == "" for of in labels)
+        # What is drawn of the whole run.
+        drawn = case.says("(of => { const own = pen.fillText; pen.fillText = (text, ...at) => { of.push(text); "
+                          "own.call(pen, text, ...at); }; draw(); delete pen.fillText; return of; })([])")
+        assert drawn and not any(re.match(r"(thr|for |ban|pree).*…$", it) for it in drawn)
+
+
 def test_names_are_text_and_nothing_else(page: Page) -> None:
     assert page.says("document.images.length") == 0
     assert page.says("document.title") == "a run"
@@ -224,6 +236,7 @@ def test_a_reader_who_has_it_dark_sees_it_dark(page: Page) -> None:
     for scheme in ("light", "dark", "light"):
         features = [{"name": "prefers-color-scheme", "value": scheme}]
         page.browser.execute_cdp_cmd("Emulation.setEmulatedMedia", {"features": features})
+        page.wait("colours === run.palettes[arguments[0]]", scheme)
         grounds.append(ground())
     assert grounds == [["rgb(255, 255, 255)", "255,255,255,255"], ["rgb(16, 20, 24)", "16,20,24,255"],
                        ["rgb(255, 255, 255)", "255,255,255,255"]]

@@ -8,7 +8,7 @@ from fractions import Fraction
 from typing import NamedTuple, Optional, Sequence
 
 from ..drawing import Generator
-from ..numbers import task_named
+from ..numbers import UNNAMED, task_named
 from ..refusal import Refusal
 from ..tables import Machine
 from ..words.asked import MOST_TURNS
@@ -99,7 +99,7 @@ def batch_of(terms: Terms, machine: Machine, of_log: Sequence[int], log: Log) ->
         if task is None or task >= len(machine.tasks):
             known = f"the tasks are called {', '.join(terms.names)}" if terms.names else \
                 f"the table has {len(machine.tasks)} tasks, numbered from 0"
-            raise Refusal(f"--batch {word}: {known}")
+            raise Refusal(f"--batch {word}: {known}", below="" if terms.names or task is not None else UNNAMED)
         if task in of_log:
             row = log.rows.numbers[list(of_log).index(task)]
             raise Refusal(f"--batch {word}: {log.name} has requests of this task too, the first in row {row}; a task "

@@ -7,7 +7,7 @@ import re
 from typing import Any, Callable, NoReturn, Optional, Sequence
 
 from .. import __version__
-from ..files import is_terminal, say
+from ..files import is_terminal, of_file, say, write_all
 from ..refusal import NAME as LAB_NAME
 from ..refusal import Refusal
 from ..words.asked import LAB
@@ -43,6 +43,13 @@ class Parser(argparse.ArgumentParser):
         super().__init__(allow_abbrev=False, add_help=False, **how)
         self.options = self.add_argument_group("Options")
         self.options.add_argument("-h", "--help", action="help", help="print this")
+
+    def _print_message(self, message: str, file: Any = None) -> None:
+        """Writes help or the version; of a reader that has gone nothing is said."""
+        try:
+            write_all(1, message.encode())
+        except OSError as fault:
+            raise of_file("write", fault, 3) from None
 
     def error(self, message: str) -> NoReturn:
         raise Refusal(f"{message}; {self.prog} --help says more")

@@ -67,9 +67,11 @@ def as_bytes(paper: Paper, kind: str) -> bytes:
 
 
 def save(paper: Paper, file: str) -> None:
-    """Writes the figure, which is made whole before: whole or not at all."""
+    """Writes the figure, which is made whole before: whole or not at all. Of a reader that has gone nothing is said."""
     written = as_bytes(paper, format_of(file))
     try:
         write_beside(file, written)
+    except BrokenPipeError:
+        raise Refusal("", 3) from None
     except OSError as fault:
         raise Refusal(f"{file}: {fault.strerror}", 3) from None

@@ -16,7 +16,7 @@ from .explanations import Explainer
 from .page import facts_of, page_of
 from .told import chosen, told_of
 
-NOT_EXPLAINED = "This pass is not explained here: --explain all explains each pass. The command below says why."
+NOT_EXPLAINED = "This pass is not explained here: --explain changes or all explains more. The command below says why."
 
 
 def report_of(view: Viewer, given: bytes, labels: Labels, policy: str = "caladan", which: str = "",

@@ -22,7 +22,9 @@ ACTIONS = ("free,", "unban,", "ban,", "revoke,", "cap,", "grant,")
 SLOWEST = 20
 # What explains which passes: all, those that did something or in which a slow request waited, or none.
 ALL, CHANGES, NONE = "all", "changes", "none"
-MOST_OF_ALL = 300
+# So many are explained where no word says which. Each takes a run over the passes before it, so that with a bound the
+# page of a longer run costs as much more as the run is longer.
+MOST = 300
 
 
 @dataclass(frozen=True)
@@ -143,10 +145,26 @@ def last_before(clocks: Sequence[int], clock: int) -> int:
     return len(clocks) - 1 if clock < 0 else max(bisect.bisect_left(clocks, clock) - 1, 0)
 
 
+def nearest(changed: Sequence[int], waited: Sequence[int], many: int) -> list[int]:
+    """So many of the passes that did something: those that are nearest to one in which a slow request waited, the
+    earlier first; without such evenly over the run."""
+    if not waited:
+        return [changed[place * len(changed) // many] for place in range(many)] if len(changed) > many else [*changed]
+
+    def far(number: int) -> int:
+        at = bisect.bisect_left(waited, number)
+        return min(abs(number - it) for it in waited[max(at - 1, 0):at + 1])
+    return sorted(set(changed) - set(waited), key=lambda it: (far(it), it))[:many]
+
+
 def chosen(told: Told, which: str) -> list[int]:
     """The passes that are explained."""
     if which == NONE:
         return []
-    if (which or (ALL if told.passes <= MOST_OF_ALL else CHANGES)) == ALL:
+    if which == ALL or not which and told.passes <= MOST:
         return list(range(told.passes))
-    return sorted({*passes_changed(told.reports), *passes_waited(told)})
+    changed, waited = passes_changed(told.reports), sorted(passes_waited(told))
+    if which == CHANGES:
+        return sorted({*changed, *waited})
+    waited = waited[:MOST]
+    return sorted([*waited, *nearest(changed, waited, MOST - len(waited))])

@@ -283,5 +283,5 @@ def asked_loads(asked: Asked, names: Sequence[str]) -> Loads:
             swept, swept_word = place, word
         tasks.append(load)
     words = () if flag == LOAD else tuple(asked.all(flag[2:]))
-    kind = RateLoads if flag == RATE else Loads
+    kind: type[Loads] = RateLoads if flag == RATE else Loads
     return kind(tuple(tasks), swept, swept_word, flag != LOAD, tuple(asked.all("task")), words)

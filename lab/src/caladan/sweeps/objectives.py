@@ -4,7 +4,7 @@ from __future__ import annotations
 from dataclasses import dataclass
 from typing import Optional, Sequence
 
-from ..numbers import task_named
+from ..numbers import UNNAMED, task_named
 from ..refusal import Refusal
 from ..times import ticks_of
 from ..words.likeness import tip
@@ -59,7 +59,7 @@ def objective_of(word: str, names: Sequence[str], tasks: Sequence[int], tick: st
     task = task_named(names, parts[0]) if parts else None
     if parts is None or (task is None and not names):
         raise Refusal(f"{FLAG} {word}: an objective is as task.0.p99=65: a task, p50, p90, p95, p99, p99.9 or max, and "
-                      "ticks", below="" if parts else rank_tip(word))
+                      "ticks", below=UNNAMED if parts else rank_tip(word))
     if task is None:
         raise Refusal(f"{FLAG} {word}: the tasks are called {','.join(names)}", below=tip(parts[0], names))
     if task not in tasks:

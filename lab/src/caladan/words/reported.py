@@ -17,9 +17,10 @@ zoomed; the slowest requests; and the numbers of `measure`. A click on a span, a
 ban, a pass or a request shows the report of its pass, why it does what it does,
 as `caladan_view explain` says it, and the command that says it again. It is
 light or dark as its reader is, and goes by keys too.
-Without --explain all passes are explained if they are no more than 300; else,
-as with --explain changes, those that did something, and those in which one of
-the slowest requests waited. Each takes a run of `caladan_view explain`.
+Without --explain all passes are explained if they are no more than 300; else
+300: those in which one of the slowest requests waited, and those nearest to
+them that did something. --explain changes explains all of both kinds. Each
+takes a run of `caladan_view explain` over the passes before it.
 --came is as in `measure`.
 Exit status: 0 done, 2 rejected input, 3 memory or output was refused.
 

@@ -54,8 +54,10 @@ function line(x1, y1, x2, y2, colour, dash = []) {
   pen.setLineDash([]);
 }
 
-function words(text, x, y, room, colour, how = "") {
-  pen.font = `${how} 12px system-ui, sans-serif`;
+const FONT = "12px system-ui, sans-serif";
+
+function words(text, x, y, room, colour) {
+  pen.font = FONT;
   pen.fillStyle = colour;
   let cut = text;
   while (cut && pen.measureText(cut).width > room) cut = cut.length > 2 ? `${cut.slice(0, -2)}…` : "";
@@ -229,11 +231,11 @@ function drawCore(lane) {
 
 function drawSpan(lane, span, x, to) {
   const isBan = span.state === "banned", top = isBan ? lane.top + lane.height - 5 : lane.top + 1;
-  const high = isBan ? 4 : lane.height - (hasBan(span) ? 6 : 2);
+  const high = isBan ? 4 : lane.height - (span.hasBan ? 6 : 2);
   const colour = isBan ? bannedOf() : span.state === "leaving" ? leavingOf(span.task) : fillOf(span.task);
   fill(x, top, Math.max(to - x, 0.5), high, colour);
   if (to - x > 3 && !isBan) fill(x, top, 1, high, shadeOf(span.task).edge);
-  if (!isBan && to - x > 26) drawSign(span, x, top, to - x, high);
+  if (!isBan && to - x > 14) drawSign(span, x, top, to - x, high);
   if (chosen.span === span) {
     pen.strokeStyle = colours.ink;
     pen.lineWidth = 2;
@@ -242,20 +244,27 @@ function drawSpan(lane, span, x, to) {
   }
 }
 
-// The thread that holds a core; of one that is being left why, on a plain ground.
-function drawSign(span, x, top, room, high) {
-  const text = span.state === "held" ? `thread ${span.thread}` : span.cause === "preempt"
-    ? `for ${nameOf(Number(span.cells["for task"]))}` : span.cause;
-  if (span.state === "leaving") {
-    pen.font = "12px system-ui, sans-serif";
-    fill(x + 3, top + 1, Math.min(pen.measureText(text).width + 4, room - 4), high - 2, shadeOf(span.task).pale);
-  }
-  words(text, x + 5, top + 11, room - 7, span.state === "held" ? inkOn(span.task) : colours.ink);
+// What a span may be labelled with, the longest first: the thread that holds the core; of one that is being left why.
+const signsOf = span => span.state === "held" ? [`thread ${span.thread}`, `${span.thread}`]
+  : [span.cause === "preempt" ? `for ${nameOf(Number(span.cells["for task"]))}` : span.cause];
+
+// The longest label that has room, whole; none where none has.
+function signOf(span, room) {
+  pen.font = FONT;
+  return signsOf(span).find(it => pen.measureText(it).width <= room) || "";
 }
 
-// Whether a ban stands in the lane while a span does.
-const hasBan = span => run.ofCore[span.core].some(it => it.state === "banned" && it.from < endOf(span)
-  && endOf(it) > span.from);
+// The label of a span; of one that is being left on a plain ground.
+function drawSign(span, x, top, room, high) {
+  const text = signOf(span, room - 8);
+  if (!text) return;
+  pen.font = FONT;
+  if (span.state === "leaving") {
+    fill(x + 3, top + 1, pen.measureText(text).width + 4, high - 2, shadeOf(span.task).pale);
+  }
+  pen.fillStyle = span.state === "held" ? inkOn(span.task) : colours.ink;
+  pen.fillText(text, x + 5, top + 11);
+}
 
 function drawChosen() {
   if (chosen.pass === undefined) return;

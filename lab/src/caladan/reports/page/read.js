@@ -59,14 +59,21 @@ function joined(spans) {
   return spans;
 }
 
+// Notes which spans of a core stand while a ban of it does. They are in the order of their first passes.
+function withBans(own, passes) {
+  const end = it => it.to === null ? passes : it.to, bans = own.filter(it => it.state === "banned");
+  for (const it of own) it.hasBan = it.state !== "banned" && bans.some(ban => ban.from < end(it) && end(ban) > it.from);
+  return own;
+}
+
 function runOf(facts) {
   const passes = passesOf(rowsOf(facts.series), facts.tasks.length);
   const spans = joined(rowsOf(facts.spans).map(spanOf));
   const requests = facts.requests ? rowsOf(facts.requests).map(requestOf) : [];
   const limit = facts.bandwidthLimit;
   return {...facts, passes, spans, requests, limit, byId: new Map(requests.map(it => [it.id, it])),
-    ofCore: [...Array(facts.cores).keys()].map(core => spans.filter(it => it.core === core)
-      .sort((one, other) => one.from - other.from))};
+    ofCore: [...Array(facts.cores).keys()].map(core => withBans(spans.filter(it => it.core === core)
+      .sort((one, other) => one.from - other.from), passes.length))};
 }
 
 const endOf = span => span.to === null ? run.passes.length : span.to;
