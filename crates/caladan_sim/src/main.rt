@@ -11,7 +11,7 @@ mod naming;
 
 use crate::held::Held;
 use crate::naming::{ask_why, taken_name};
-use cal_engine::{Noted, RunFault, end_with, given_words, status};
+use cal_engine::{Noted, RunFault, end_with, given_words};
 use cal_why::run_explained;
 use std::alloc::{AllocError, Global};
 use std::fs;
@@ -51,7 +51,8 @@ struct Ends<'h, H> {
 
 impl<'h, H: Threads + Wait + Sync + Files> Ends<'h, H> {
     /// Does what the words ask for, on standard input or on the file that the last of them names, and
-    /// answers the exit status. The fault is `Memory`.
+    /// answers the exit status. Where there is no such file the words are refused, and on a terminal it
+    /// says so before. The fault is `Memory`.
     fn answer<R: Read + Drop, W: Write + Drop, E: Write + Drop>(
         &self,
         mut words: Vec<String>,
@@ -65,8 +66,11 @@ impl<'h, H: Threads + Wait + Sync + Files> Ends<'h, H> {
         match fs::open(self.rt, name.as_str()) {
             Ok(file) => self.answer_on(words, file, output, errors),
             Err(said) => {
-                let _ = writeln!(errors, "caladan_sim: {name}: {said}");
-                Ok(status(&RunFault::Read))
+                if self.is_terminal {
+                    let _ = writeln!(errors, "caladan_sim: {name}: {said}");
+                }
+                words.push(name)?;
+                self.answer_on(words, input, output, errors)
             }
         }
     }

@@ -124,8 +124,11 @@ def key_tip(machine: Machine, variations: Variations) -> str:
     lacks = next((it for it in variations if not machine.has_key(it.key)), None)
     if lacks is None:
         return ""
-    name = lacks.key.rpartition(".")[0].removeprefix("task.")
-    return tip(lacks.key, machine.keys) or (UNNAMED if name and number_of(name) is None else "")
+    front, _, own = lacks.key.rpartition(".")
+    of_task = [it.rpartition(".")[2] for it in machine.keys if it.rpartition(".")[0] == front]
+    close = tip(own, of_task).replace("`", f"`{front}.", 1) if front and of_task else tip(lacks.key, machine.keys)
+    name = front.removeprefix("task.")
+    return close or (UNNAMED if name and number_of(name) is None else "")
 
 
 def refused_setting(view: Viewer, variations: Variations, place: int, refusal: Refusal, close: str = "") -> Refusal:

@@ -7,7 +7,9 @@ from .case import Answer, Case
 # The options that count and judge as version 4 did, by the kind of a case.
 AS_BEFORE = {"sweep": ("--rules", "4"), "compare": ("--window", "whole")}
 # Texts that are others now, each with the one that was.
-TEXTS = {"a task, p50, p90, p95, p99, p99.9 or max, and ticks": "a task, p50, p90, p99, p99.9 or max, and ticks"}
+TEXTS = {"a task, p50, p90, p95, p99, p99.9 or max, and ticks": "a task, p50, p90, p99, p99.9 or max, and ticks",
+         "--load <LOAD> --scale <TIMES> [FILE]": "--load <LOAD> --names <NAME,..> [FILE]",
+         "  tip: a similar argument exists: '--scale'\n": "  tip: a similar argument exists: '--names'\n"}
 # How a line begins that stands below more refusals than before.
 TIP = "  did you mean "
 

@@ -13,14 +13,16 @@ READERS = {
         "`caladan_sim audit`, `caladan_view measure`, `spans`, `series` and `explain`, and `caladan_lab timeline`",
 }
 
-# How an option is refused that no word took, and how since pictures take it: it wants a value.
-NOT_TAKEN = "error: unexpected argument '--table' found\n"
-TAKEN = "error: a value is required for '--table <FILE>' but none was supplied\n"
+# How an option is refused that no word took, and how since pictures take it, or a sweep: it wants a value, or goes with
+# no other.
+TAKEN = {"error: unexpected argument '--table' found\n":
+         "error: a value is required for '--table <FILE>' but none was supplied\n",
+         "error: unexpected argument '--log' found\n": "caladan_lab: --load 0.5: --log is given too, "}
 
 
 def is_taken_now(wanted: Answer, given: Answer) -> bool:
     """Whether all that differs is that an option is taken now, which was refused then."""
-    return (wanted.said.startswith(NOT_TAKEN) and given.said.startswith(TAKEN)
+    return (any(wanted.said.startswith(was) and given.said.startswith(now) for was, now in TAKEN.items())
             and (wanted.status, wanted.wrote, wanted.files) == (given.status, given.wrote, given.files) == (2, "", {}))
 
 
