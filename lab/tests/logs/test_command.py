@@ -27,6 +27,7 @@ from caladan.logs.draws import drawn, scaled  # noqa: E402
 from caladan.logs.log import Log  # noqa: E402
 from caladan.numbers import UNNAMED  # noqa: E402
 from caladan.programs import Viewer  # noqa: E402
+from caladan.samples import samples_of  # noqa: E402
 from caladan.tables import machine_of  # noqa: E402
 
 MACHINE = machine_of(TABLE.encode())
@@ -340,7 +341,14 @@ def test_a_sweep_has_the_log_and_its_draws(lab: Lab, view: str) -> None:
                 [view, "measure", "--csv", "--came", "came", *window],
                 input=TABLE.encode() + b"---\n" + of.arrivals, capture_output=True, check=True).stdout.decode()
             numbers = {row[0]: row[1] for row in csv.reader(measure.splitlines())}
-            found.append((int(numbers["response 99 of 100"]), int(numbers["requests served"]), len(draw)))
+            run_of = TABLE.encode() + b"---\n" + of.arrivals
+            requests = subprocess.run([view, "requests", "--came", "came"], input=run_of, capture_output=True,
+                                      check=True).stdout
+            # Where the request at the rank is pending the sweep has the least that its time can be.
+            first, after = (terms.ticks * (it + 1) + terms.ticks // 2 for it in map(int, window[1::2]))
+            least = samples_of(requests, [0], first, after)[0].at_least("response 99 of 100")
+            p99 = max(int(numbers["response 99 of 100"]), least)
+            found.append((p99, int(numbers["requests served"]), len(draw)))
         for column, cells in zip(("p99 [us]", "served", "came"), zip(*found)):
             assert [int(it[column]) for it in rows[3 * place:3 * place + 3]] == sorted(cells)
 
