@@ -1,0 +1,7 @@
+pub mod Leaving
+pub mod Pair
+pub mod CaladanPass
+pub mod AssuredPass
+pub mod Going
+pub mod LeftOut
+pub mod AtSight
