@@ -70,12 +70,15 @@ pub change_nothing : ((policy : Policy) → GoesByWhatIsLeft policy) → IdlePas
 change_nothing goes policy table before entry after idle =
     let P : List PassEntry → Type 0 = λ h. IsLegalBy policy table h in
     let same = idle_leaves before entry idle in
-    let seam = append_assoc before (entry ∷ []) after in
-    ((λ legal. (pass_there policy table before entry after legal,
-    goes_on policy table (before ++ entry ∷ []) before after (goes policy) same (subst P (sym seam) legal) (legal_first policy table before (entry ∷ after) legal))),
-    (λ both. subst P seam
-    (goes_on policy table before (before ++ entry ∷ []) after (goes policy) (same_back (before ++ entry ∷ []) before same) both.1
-    (legal_more_by policy table before entry (legal_first policy table before after both.1) both.0))))
+    let seam = append_assoc before (entry ∷ []) after in (
+      (λ legal. (
+        pass_there policy table before entry after legal,
+        goes_on policy table (before ++ entry ∷ []) before after (goes policy) same (subst P (sym seam) legal) (legal_first policy table before (entry ∷ after) legal),
+      )),
+      (λ both. subst P seam
+          (goes_on policy table before (before ++ entry ∷ []) after (goes policy) (same_back (before ++ entry ∷ []) before same) both.1
+          (legal_more_by policy table before entry (legal_first policy table before after both.1) both.0))),
+    )
 
 pub by_each : GoesByWhatIsLeft Caladan → GoesByWhatIsLeft Assured → (policy : Policy) → GoesByWhatIsLeft policy
 by_each caladan assured Caladan = caladan

@@ -41,6 +41,7 @@ same_push one other entry same = record {
   where
     kept_after : (h : List PassEntry) (entry : PassEntry) (k : ℕ) → kept_by (looks_of (h ++ entry ∷ [])) k ≡ unwrap_or (to_keep_at entry.input.seen k) (kept_by (looks_of h) k)
     kept_after h entry k = ap (λ l. kept_by l k) (looks_push h entry) ∙ kept_push (looks_of h) entry.input.seen k
+
     shown_after : (h : List PassEntry) (entry : PassEntry) (k : ℕ) → last_shown (looks_of (h ++ entry ∷ [])) k ≡ unwrap_or (shown_at entry.input.seen k) (last_shown (looks_of h) k)
     shown_after h entry k = ap (λ l. last_shown l k) (looks_push h entry) ∙ shown_push (looks_of h) entry.input.seen k
 

@@ -36,6 +36,7 @@ leave_first before noted run b e left next = go b e
     with_it : LeaveTheSame (before ++ noted.entry ∷ passes_of run) (before ++ noted.entry ∷ written_of run)
     with_it = subst (λ h. LeaveTheSame h (before ++ noted.entry ∷ written_of run)) (append_assoc before (noted.entry ∷ []) (passes_of run))
         (subst (λ h. LeaveTheSame ((before ++ noted.entry ∷ []) ++ passes_of run) h) (append_assoc before (noted.entry ∷ []) (written_of run)) next)
+
     go : (b : Bool) → noted.is_written ≡ b → LeaveTheSame (before ++ noted.entry ∷ passes_of run) (before ++ written_of (noted ∷ run))
     go true e = subst (λ l. LeaveTheSame (before ++ noted.entry ∷ passes_of run) (before ++ l)) (sym (is_first noted run true e)) with_it
     go false e = subst (λ l. LeaveTheSame (before ++ noted.entry ∷ passes_of run) (before ++ l)) (sym (is_first noted run false e))
@@ -57,8 +58,10 @@ legal_first goes policy table before noted run b e left next = go b e
   where
     P : List PassEntry → Type 0
     P h = IsLegalBy policy table h
+
     with_it : IsLegalBy policy table (before ++ noted.entry ∷ written_of run)
     with_it = subst P (append_assoc before (noted.entry ∷ []) (written_of run)) next
+
     go : (b : Bool) → noted.is_written ≡ b → IsLegalBy policy table (before ++ written_of (noted ∷ run))
     go true e = subst (λ l. P (before ++ l)) (sym (is_first noted run true e)) with_it
     go false e = subst (λ l. P (before ++ l)) (sym (is_first noted run false e))
@@ -83,6 +86,7 @@ put_first goes policy table before noted run b e left own legal = subst P (sym (
   where
     P : List PassEntry → Type 0
     P h = IsLegalBy policy table h
+
     go : (b : Bool) → noted.is_written ≡ b → IsLegalBy policy table (before ++ noted.entry ∷ written_of run)
     go true e = subst (λ l. P (before ++ l)) (is_first noted run true e) legal
     go false e = (change_nothing goes policy table before noted.entry (written_of run) (here IsIdle before noted run left e)).1
