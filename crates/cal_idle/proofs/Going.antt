@@ -14,7 +14,7 @@ use Rattle.cal_policy.specs.Judgement.Judging.{IsInput, IsFitLook, judged}
 use Rattle.cal_policy.specs.Policies.{pass_by, IsPassBy, IsLegalBy}
 use Rattle.cal_policy.proofs.PolicyLemmas.{pass_input, pass_actions, pass_from, pass_at_by, legal_upto_by, legal_more_by}
 use Rattle.cal_idle.proofs.Leaving.{same_push, same_back, idle_leaves}
-use Rattle.cal_idle.specs.Idle.{LeaveTheSame, GoesByWhatIsLeft, IdlePassesChangeNothing}
+use Rattle.cal_idle.specs.Idle.{IsIdle, LeaveTheSame, GoesByWhatIsLeft, IdlePassesChangeNothing}
 
 -- ---- cut a history ----
 
@@ -66,19 +66,23 @@ goes_on policy table one other (entry ∷ after) goes same legal legal_other =
 
 -- ---- an idle pass ----
 
-pub change_nothing : ((policy : Policy) → GoesByWhatIsLeft policy) → IdlePassesChangeNothing
-change_nothing goes policy table before entry after idle =
+pub change_by : (policy : Policy) → GoesByWhatIsLeft policy → (table : Table) (before : List PassEntry) (entry : PassEntry) (after : List PassEntry) → IsIdle before entry →
+    IsLegalBy policy table (before ++ entry ∷ after) ↔ (IsPassBy policy table before entry × IsLegalBy policy table (before ++ after))
+change_by policy goes table before entry after idle =
     let P : List PassEntry → Type 0 = λ h. IsLegalBy policy table h in
     let same = idle_leaves before entry idle in
     let seam = append_assoc before (entry ∷ []) after in (
       (λ legal. (
         pass_there policy table before entry after legal,
-        goes_on policy table (before ++ entry ∷ []) before after (goes policy) same (subst P (sym seam) legal) (legal_first policy table before (entry ∷ after) legal),
+        goes_on policy table (before ++ entry ∷ []) before after goes same (subst P (sym seam) legal) (legal_first policy table before (entry ∷ after) legal),
       )),
       (λ both. subst P seam
-          (goes_on policy table before (before ++ entry ∷ []) after (goes policy) (same_back (before ++ entry ∷ []) before same) both.1
+          (goes_on policy table before (before ++ entry ∷ []) after goes (same_back (before ++ entry ∷ []) before same) both.1
           (legal_more_by policy table before entry (legal_first policy table before after both.1) both.0))),
     )
+
+pub change_nothing : ((policy : Policy) → GoesByWhatIsLeft policy) → IdlePassesChangeNothing
+change_nothing goes policy table before entry after idle = change_by policy (goes policy) table before entry after idle
 
 pub by_each : GoesByWhatIsLeft Caladan → GoesByWhatIsLeft Assured → (policy : Policy) → GoesByWhatIsLeft policy
 by_each caladan assured Caladan = caladan

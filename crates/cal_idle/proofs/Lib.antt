@@ -5,3 +5,4 @@ pub mod AssuredPass
 pub mod Going
 pub mod LeftOut
 pub mod AtSight
+pub mod Earlier

@@ -10,7 +10,9 @@ mod caladan;
 mod laws;
 
 pub use assured::assured_goes_by_what_is_left;
-pub use caladan::caladan_goes_by_what_is_left;
+pub use caladan::{
+    caladan_does_nothing_earlier, caladan_goes_by_what_is_left, idle_passes_may_come_earlier,
+};
 pub use laws::{
     idle_passes_change_nothing, idle_passes_leave_the_same, idle_passes_may_be_put_in,
     records_are_legal, records_leave_the_same, records_once_more_are_idle, same_looks_are_idle,
