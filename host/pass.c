@@ -230,7 +230,7 @@ void make_pass(scheduler *s) {
     if (answer != CALADAN_DONE) fail("a pass", caladan_answer_text(answer));
     account_time(s, now);
     move_cores(s, now);
-    bool was_idle = is_idle(s);
+    bool was_idle = s->record && is_idle(s);
     note_judged(s);
     latency_decided(&s->latency, now, s->shown, count, s->action, s->made);
     latency_looked(&s->latency, now, s->shown, count);
