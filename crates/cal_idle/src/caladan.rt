@@ -17,8 +17,8 @@ pub fn caladan_does_nothing_earlier()
     ensures { DoesNothingEarlier Caladan }
 {}
 
-/// So before an idle pass of a legal history it may be put in once more, at any earlier clock: to
-/// record the last of several idle passes with the same figure and rooms says that all were right.
+/// So before an idle pass of a legal history it may be put in once more, at any earlier clock: of
+/// several idle passes with the same looks, figure and rooms the latest says that all were right.
 pub fn idle_passes_may_come_earlier()
     ensures { IdlePassesMayComeEarlier Caladan }
 {
