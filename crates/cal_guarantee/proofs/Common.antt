@@ -16,11 +16,11 @@ pub use Rattle.cal_policy.proofs.PassLemmas.Pairs.{so_far_more}
 pub use Rattle.cal_policy.proofs.PassLemmas.Steady.{Shrinks_ban, Shrinks_cap, Shrinks_free, Shrinks_revoke, Shrinks_unban, Steady_grant, Steady_shrinks, Steady_start, granted_holder}
 pub use Rattle.cal_policy.specs.Assured.Grants.{grant_at, grant_in_place, grants, grants_of_first}
 pub use Rattle.cal_policy.specs.Assured.Hyperthreads.{bans, bans_at, due_for, unban_at, unban_for, unbans}
-pub use Rattle.cal_policy.specs.Assured.InFlight.{coming, is_in_flight, is_late, is_untaken, pressing}
+pub use Rattle.cal_policy.specs.Assured.InFlight.{coming, is_in_flight, is_late, is_new_in_flight, is_untaken, made_now, new_helpers, pressing}
 pub use Rattle.cal_policy.specs.Assured.Order.{goes_before, group_of, place_of, task_in_place}
 pub use Rattle.cal_policy.specs.Assured.Owed.{is_task, left_for, owed_below, owed_made, owed_to}
 pub use Rattle.cal_policy.specs.Assured.Pass.{IsLegal, IsPass, bounded_of, pass_of, unbanned_of}
-pub use Rattle.cal_policy.specs.Assured.Short.{are_lacked, are_wanted, is_open, is_short, lacking, lacks, open_cores, some_waits_short, surplus, waits, waits_short}
+pub use Rattle.cal_policy.specs.Assured.Short.{are_lacked, are_wanted, is_open, is_short, lacking, lacks, lacks_waiting, needs, open_cores, some_waits_short, spare, surplus, waits, waits_short}
 pub use Rattle.cal_policy.specs.Assured.Taking.{choice_for, held_choice, held_class, is_kept, is_kept_for, is_kept_for_short, may_preempt, may_take, open_choice, open_class, owed_class}
 pub use Rattle.cal_policy.specs.Board.{placement_of}
 pub use Rattle.cal_policy.specs.Board.Counts.{booked_by, cap_of, cores_of_thread, held_by, is_booked_for, is_free, is_held, is_held_for, is_over, is_with}
@@ -40,6 +40,6 @@ pub use Rattle.cal_policy.specs.declared.history.core_class.CoreClass.{CoreClass
 pub use Rattle.cal_policy.specs.declared.history.entry.PassEntry.{PassEntry}
 pub use Rattle.cal_policy.specs.declared.pass.choice.Candidate.{Candidate}
 pub use Rattle.std.proofs.Common.{All, Bool, List, None, Option, Some, [], ap, append_assoc, arith, cond, eqb, false, get_or, inl, inr, leb, length, ltb, not, refl, slice_get, subst, suc, sym, take, true, zero, ℕ, ⊎_elim, ◌&&◌, ◌++◌, ◌+◌, ◌-◌, ◌<◌, ◌||◌, ◌∙◌, ◌∷◌, ◌≡◌, ◌≤◌, ◌⊎◌}
-pub use Rattle.std.proofs.lemmas.Bool.{and_from, and_left, and_parts, and_right, cases_Bool, cases_eq, cases_lt, eq-eqb, eqb-false, eqb-true, false_from_ne_true, le-ltb, leb-false, lt-ltb, ltb-false, ltb-true, ne_eqb, not-false, not-true, not_from_true, or_left, or_parts, or_right}
+pub use Rattle.std.proofs.lemmas.Bool.{and_from, and_left, and_parts, and_right, cases_Bool, cases_eq, cases_lt, eq-eqb, eqb-false, eqb-true, false_from_ne_true, le-ltb, leb-false, lt-ltb, ltb-false, ltb-true, ne_eqb, not-false, not-true, not_from_true, or_left}
 pub use Rattle.std.proofs.lemmas.List.{append-nil, take_all, take_more}
 pub use Rattle.std.specs.Option.{is_some, option_or, unwrap_or}

@@ -1,12 +1,12 @@
 -- A core that is owed to a short task that waits comes to it.
-use Rattle.cal_guarantee.proofs.Common.{◌≡◌, ℕ, ◌<◌, ◌⊎◌, Bool, true, false, not, ◌&&◌, ◌||◌, cond, eqb, ltb, List, [], ◌∷◌, ◌++◌, length, Option, Some, None, refl, ap, sym, ◌∙◌, arith, inl, inr, ⊎_elim, cases_eq, and_from, and_right, or_right, ne_eqb, lt-ltb, Table, unwrap_if, Action, Free, Unban, Ban, Revoke, Cap, Grant, holder_of, is_free, Setting, so_far, EachAfter, IsSteady, holder_push, owed_to, is_task, owed_below, is_short, lacks, is_open, waits, waits_short, are_lacked, is_kept, is_kept_for, is_kept_for_short, may_take}
+use Rattle.cal_guarantee.proofs.Common.{◌≡◌, ℕ, ◌<◌, ◌⊎◌, Bool, true, false, not, ◌&&◌, cond, eqb, ltb, List, [], ◌∷◌, ◌++◌, length, Option, Some, None, refl, ap, sym, ◌∙◌, arith, inl, inr, ⊎_elim, cases_eq, and_parts, and_from, and_right, ne_eqb, ltb-true, lt-ltb, is_some, thread_of, limit_of, unwrap_if, Action, Free, Unban, Ban, Revoke, Cap, Grant, Candidate, holder_of, is_free, Setting, so_far, thread_choice, thread_rank, may_book, EachAfter, IsSteady, holder_push, best_ranked, pressing, owed_to, is_task, owed_below, is_short, is_open, surplus, waits, waits_short, are_lacked, spare, needs, is_kept, is_kept_for, is_kept_for_short, may_take}
 use Rattle.cal_policy.specs.declared.board.holders.Holder.TheVariants as holders
-use Rattle.cal_guarantee.proofs.Sums.{none_counts}
-use Rattle.cal_guarantee.proofs.Holders.{moves_revoke, moves_grant, stays_ban, owed_push}
+use Rattle.cal_guarantee.proofs.Sums.{none_counts, count_some}
+use Rattle.cal_guarantee.proofs.Holders.{moves_revoke, moves_grant, owed_push}
 use Rattle.cal_guarantee.proofs.Steps.{IsStep, IsRevokeStep, IsGrantStep}
-use Rattle.cal_guarantee.proofs.Counts.{lacks_short, short_parts, lacking_same, books_stay, open_revoked_at, open_capped_at, open_granted_at, open_banned_at, open_banned, open_unbanned_at}
+use Rattle.cal_guarantee.proofs.Counts.{lacks_short, short_parts, open_revoked_at, open_capped_at, open_granted_at, open_banned_at, open_banned, open_unbanned_at}
 use Rattle.cal_guarantee.proofs.Own.{waits_parts}
-use Rattle.cal_guarantee.proofs.KeptAlong.{NotTo, AreEnough, enough_step, with_along, some_waits, not_lacked, revoked_last}
+use Rattle.cal_guarantee.proofs.KeptAlong.{NotTo, AreShort, AreEnough, no_more_lacking, enough_step, with_along, some_waits, not_lacked, revoked_last}
 
 -- core o is free, and the lowest of those that are owed to task t
 pub record IsLowestOwed (x : List Action) (t o : ℕ) : Type 0 where
@@ -15,28 +15,44 @@ pub record IsLowestOwed (x : List Action) (t o : ℕ) : Type 0 where
   pub lowest : (c : ℕ) → c < o → is_task t (owed_to x c) ≡ false
 
 -- as many cores are open as are lacking, or this one is
-abbrev pub IsOpening : Table → List Action → ℕ → Type 0
-IsOpening table x o = AreEnough table x ⊎ (is_open x o ≡ true)
+abbrev pub IsOpening : Setting → List Action → ℕ → Type 0
+IsOpening s x o = AreEnough s x ⊎ (is_open x o ≡ true)
+
+-- a short task that waits needs one
+spare_some : (s : Setting) (x : List Action) (t : ℕ) (o : Option (Candidate ℕ)) → thread_choice s x t ≡ o → is_some o ≡ true → 0 < spare s x t
+spare_some s x t None e is = cc
+spare_some s x t (Some thread) e is =
+    let ranked = best_ranked (λ rank best. ltb best rank) (λ j. thread_rank s x (thread_of s.table t j)) (limit_of s.table t) thread e in
+    let one = count_some (λ j. is_some (thread_rank s x (thread_of s.table t j))) (limit_of s.table t) thread.number ranked.0 (ap is_some ranked.1) in
+    omega (arith, one)
+
+pub needs_some : (s : Setting) (x : List Action) (t : ℕ) → waits_short s x t ≡ true → 0 < needs s x t
+needs_some s x t e =
+    let both = waits_parts s x t e in
+    let parts = and_parts (ltb (surplus s x t) (pressing s x t) && may_book s x t) (is_some (thread_choice s x t)) both.1 in
+    let press = ltb-true (surplus s x t) (pressing s x t) (and_parts (ltb (surplus s x t) (pressing s x t)) (may_book s x t) parts.0).0 in
+    let some = lacks_short s.table x t both.0 in
+    let less = (short_parts s.table x t both.0).1 in
+    let there = spare_some s x t (thread_choice s x t) refl parts.1 in
+    omega (arith, press, some, less, there)
 
 -- nobody else may take it
 kept_from_short : (s : Setting) (x : List Action) (t o u : ℕ) → IsLowestOwed x t o → waits_short s x t ≡ true → (u ≡ t → ⊥) → is_kept_for_short s x u o (Some t) ≡ true
 kept_from_short s x t o u i waiting other =
-    let short = (waits_parts s x t waiting).0 in
     let none : owed_below x t o ≡ 0 = none_counts (λ c. is_task t (owed_to x c)) o i.lowest in
-    let some = lacks_short s.table x t short in
-    let less = (short_parts s.table x t short).1 in
-    and_from (not (eqb t u) && waits_short s x t) (ltb (owed_below x t o) (lacks s.table x t))
+    let some = needs_some s x t waiting in
+    and_from (not (eqb t u) && waits_short s x t) (ltb (owed_below x t o) (needs s x t))
     (and_from (not (eqb t u)) (waits_short s x t) (ap not (ne_eqb t u (λ same. other (sym same)))) waiting)
-    (lt-ltb (owed_below x t o) (lacks s.table x t) (omega (arith, none, some, less)))
+    (lt-ltb (owed_below x t o) (needs s x t) (omega (arith, none, some)))
 
 kept_from_other : (s : Setting) (x : List Action) (t u : ℕ) → waits_short s x t ≡ true → (u ≡ t → ⊥) → is_kept_for s x u (Some t) ≡ true
 kept_from_other s x t u waiting other =
     and_from (not (eqb t u)) (waits s x t) (ap not (ne_eqb t u (λ same. other (sym same)))) (waits_parts s x t waiting).1
 
 kept_by_case : (s : Setting) (x : List Action) (u o : ℕ) (b : Bool) → (is_kept_for_short s x u o (owed_to x o) ≡ true) → (is_kept_for s x u (owed_to x o) ≡ true) →
-    cond b (is_kept_for_short s x u o (owed_to x o)) (are_lacked s x || is_kept_for s x u (owed_to x o)) ≡ true
+    cond b (is_kept_for_short s x u o (owed_to x o)) (is_kept_for s x u (owed_to x o)) ≡ true
 kept_by_case s x u o true e f = e
-kept_by_case s x u o false e f = or_right (are_lacked s x) (is_kept_for s x u (owed_to x o)) f
+kept_by_case s x u o false e f = f
 
 not_for_others : (s : Setting) (x : List Action) (t o u : ℕ) → IsLowestOwed x t o → waits_short s x t ≡ true → (u ≡ t → ⊥) → may_take s x u o ≡ false
 not_for_others s x t o u i waiting other =
@@ -99,19 +115,19 @@ module _ (U : Type 0) (G : List Action → ℕ → Type 0) (s : Setting) (t o : 
       ((moves_grant x core thread class).others o (λ same. off (sym same))) off i
 
   open_step : (acts : List Action) (a : Action) → IsStep U G s acts a → IsSteady s.table (so_far s acts) → waits_short s (so_far s acts) t ≡ true →
-      IsLowestOwed (so_far s acts) t o → is_open (so_far s acts) o ≡ true → IsOpening s.table (so_far s acts ++ a ∷ []) o
+      IsLowestOwed (so_far s acts) t o → is_open (so_far s acts) o ≡ true → IsOpening s (so_far s acts ++ a ∷ []) o
   open_step acts (Free core) q steady waiting i is = absurd q
   open_step acts (Unban core) q steady waiting i is = inr (open_unbanned_at (so_far s acts) core o is)
   open_step acts (Ban core thread started) q steady waiting i is = go (cases_eq o core)
     where
-      go : (o ≡ core) ⊎ (o ≡ core → ⊥) → IsOpening s.table (so_far s acts ++ Ban core thread started ∷ []) o
+      go : (o ≡ core) ⊎ (o ≡ core → ⊥) → IsOpening s (so_far s acts ++ Ban core thread started ∷ []) o
       go (inl same) =
           let x = so_far s acts in
           let y = x ++ Ban core thread started ∷ [] in
           let free : is_free (holder_of x core) ≡ true = ap (λ c. is_free (holder_of x c)) (sym same) ∙ ap is_free i.free in
           let spared : are_lacked s x ≡ false = ap (λ b. b && are_lacked s x) (sym free) ∙ q.spared in
           let more = not_lacked s x (some_waits s x t lt waiting) spared in
-          let lacks_as_much = lacking_same s.table x y (books_stay s.table x y (stays_ban x core thread started)) in
+          let lacks_as_much = no_more_lacking U s acts (Ban core thread started) q steady in
           inl (omega (arith, more, lacks_as_much, open_banned s.table x core thread started))
       go (inr ne) = inr (open_banned_at (so_far s acts) core thread started o ne ∙ is)
   open_step acts (Cap task cap) q steady waiting i is = inr (open_capped_at (so_far s acts) task cap o ∙ is)
@@ -122,15 +138,15 @@ module _ (U : Type 0) (G : List Action → ℕ → Type 0) (s : Setting) (t o : 
       inr (open_granted_at (so_far s acts) core thread class o (λ same. off (sym same)) ∙ is)
 
   -- until the turn of the task
-  pub owed_along : (acts more : List Action) → EachAfter (IsStep U G s) acts more → IsSteady s.table (so_far s acts) → waits_short s (so_far s acts) t ≡ true →
-      IsLowestOwed (so_far s acts) t o × IsOpening s.table (so_far s acts) o →
-      IsLowestOwed (so_far s (acts ++ more)) t o × IsOpening s.table (so_far s (acts ++ more)) o
-  owed_along acts more each steady waiting h =
-      (with_along U G s t (λ x. IsLowestOwed x t o × IsOpening s.table x o) lt other
+  pub owed_along : AreShort G s → (acts more : List Action) → EachAfter (IsStep U G s) acts more → IsSteady s.table (so_far s acts) → waits_short s (so_far s acts) t ≡ true →
+      IsLowestOwed (so_far s acts) t o × IsOpening s (so_far s acts) o →
+      IsLowestOwed (so_far s (acts ++ more)) t o × IsOpening s (so_far s (acts ++ more)) o
+  owed_along shorts acts more each steady waiting h =
+      (with_along U G s t (λ x. IsLowestOwed x t o × IsOpening s x o) lt other
       (λ now a q st w was. (
         lowest_step now a q st w was.0,
         ⊎_elim
-            (λ enough. inl (enough_step U G s now a q st (some_waits s (so_far s now) t lt w) enough))
+            (λ enough. inl (enough_step U G s now a shorts q st (some_waits s (so_far s now) t lt w) enough))
             (λ is. open_step now a q st w was.0 is)
             was.1,
       ))
