@@ -83,10 +83,10 @@ module _ (s : Setting) (acts : List Action) (core k class : ℕ) (free : is_free
 
 -- what a grant to a thread of a task changes of the task: one thread is spare no more, one more core is
 -- booked, and of late threads one more has a core or a helper
-record OneLess (s : Setting) (t : ℕ) (x y : List Action) : Type 0 where
-  books : booked_by s.table y t ≤ booked_by s.table x t + 1
-  spares : spare s x t ≤ spare s y t + 1
-  helped : pressing s x t + new_helpers s y t ≤ pressing s y t + new_helpers s x t + 1
+pub record OneLess (s : Setting) (t : ℕ) (x y : List Action) : Type 0 where
+  pub books : booked_by s.table y t ≤ booked_by s.table x t + 1
+  pub spares : spare s x t ≤ spare s y t + 1
+  pub helped : pressing s x t + new_helpers s y t ≤ pressing s y t + new_helpers s x t + 1
 
 late_helps : (a l : Bool) → l ≡ true → (a && not l) ≡ true → ⊥
 late_helps true true e f = cc
@@ -97,7 +97,7 @@ late_presses : (l a : Bool) → l ≡ false → (l && a) ≡ true → ⊥
 late_presses true a e f = cc
 late_presses false a e f = cc
 
-one_less : (s : Setting) (acts : List Action) (t core number class : ℕ) → is_free (holder_of (so_far s acts) core) ≡ true →
+pub one_less : (s : Setting) (acts : List Action) (t core number class : ℕ) → is_free (holder_of (so_far s acts) core) ≡ true →
     OneLess s t (so_far s acts) (so_far s acts ++ Grant core (thread_of s.table t number) class ∷ [])
 one_less s acts t core number class free = record {
   books = count_le_one (λ c. is_booked_for s.table t (holder_of x c)) (λ c. is_booked_for s.table t (holder_of y c)) core s.table.cores
@@ -161,20 +161,18 @@ within_limit [] t each = omega arith
 within_limit (task ∷ tasks) zero each = (All-head IsTask task tasks each).guaranteed
 within_limit (task ∷ tasks) (suc t) each = within_limit tasks t (All-tail IsTask task tasks each)
 
--- then it waits while there is one
-thus_waits : (s : Setting) (x : List Action) (t : ℕ) → IsTable s.table → Suffices s t x → 0 < owed_open s.table t x → waits s x t ≡ true
-thus_waits s x t ok h some =
-    let parts = and_parts (is_latency_critical s.table t) (ltb (booked_by s.table x t) (guaranteed_of s.table t)) h.0 in
+-- a short task waits that has more late threads than helpers, and a thread that may be granted a core
+pub waits_by : (s : Setting) (x : List Action) (t : ℕ) → IsTable s.table → is_short s.table x t ≡ true → new_helpers s x t < pressing s x t → 0 < spare s x t → waits s x t ≡ true
+waits_by s x t ok short press threads =
+    let parts = and_parts (is_latency_critical s.table t) (ltb (booked_by s.table x t) (guaranteed_of s.table t)) short in
+    let low = ltb-true (booked_by s.table x t) (guaranteed_of s.table t) parts.1 in
     let most : guaranteed_of s.table t ≤ limit_of s.table t = within_limit s.table.tasks t ok.each in
-    let books = h.1 in
-    let press = h.2 in
-    let threads = h.3 in
-    let over : surplus s x t ≡ new_helpers s x t = rw (h.0) refl in
-    let more : ltb (surplus s x t) (pressing s x t) ≡ true = lt-ltb (surplus s x t) (pressing s x t) (omega (arith, over, press, some)) in
+    let over : surplus s x t ≡ new_helpers s x t = rw (short) refl in
+    let more : ltb (surplus s x t) (pressing s x t) ≡ true = lt-ltb (surplus s x t) (pressing s x t) (omega (arith, over, press)) in
     let book : may_book s x t ≡ true = and_from (ltb (booked_by s.table x t) (limit_of s.table t)) (is_latency_critical s.table t || ltb (booked_by s.table x t) (cap_of s.table x t))
-    (lt-ltb (booked_by s.table x t) (limit_of s.table t) (omega (arith, books, most, some)))
+    (lt-ltb (booked_by s.table x t) (limit_of s.table t) (omega (arith, low, most)))
     (ap (λ b. b || ltb (booked_by s.table x t) (cap_of s.table x t)) parts.0) in
-    let there = found (λ j. is_some (thread_rank s x (thread_of s.table t j))) (limit_of s.table t) (omega (arith, threads, some)) in
+    let there = found (λ j. is_some (thread_rank s x (thread_of s.table t j))) (limit_of s.table t) threads in
     let has : is_some (thread_choice s x t) ≡ true = by_choice (thread_choice s x t) refl there.0 there.1 there.2 in
     and_from (ltb (surplus s x t) (pressing s x t) && may_book s x t) (is_some (thread_choice s x t)) (and_from (ltb (surplus s x t) (pressing s x t)) (may_book s x t) more book) has
   where
@@ -183,6 +181,13 @@ thus_waits s x t ok h some =
     by_choice None e j lt is =
         let missing = best_missing (λ rank best. ltb best rank) (λ i. thread_rank s x (thread_of s.table t i)) (limit_of s.table t) j e lt in
         let no : false ≡ true = sym (ap is_some missing) ∙ is in cc
+
+-- then it waits while there is one
+thus_waits : (s : Setting) (x : List Action) (t : ℕ) → IsTable s.table → Suffices s t x → 0 < owed_open s.table t x → waits s x t ≡ true
+thus_waits s x t ok h some =
+    let press = h.2 in
+    let threads = h.3 in
+    waits_by s x t ok h.0 (omega (arith, press, some)) (omega (arith, threads, some))
 
 -- and each act keeps it so, or none is left
 abbrev Goes : Setting → ℕ → List Action → Type 0

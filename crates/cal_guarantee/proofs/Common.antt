@@ -14,14 +14,15 @@ pub use Rattle.cal_policy.proofs.ListLemmas.EachAfter.{each_append, each_at, eac
 pub use Rattle.cal_policy.proofs.PassLemmas.Fits.{held_le_booked}
 pub use Rattle.cal_policy.proofs.PassLemmas.Pairs.{so_far_more}
 pub use Rattle.cal_policy.proofs.PassLemmas.Steady.{Shrinks_ban, Shrinks_cap, Shrinks_free, Shrinks_revoke, Shrinks_unban, Steady_grant, Steady_shrinks, Steady_start, granted_holder}
-pub use Rattle.cal_policy.specs.Assured.Grants.{grant_at, grant_in_place, grants, grants_of_first}
+pub use Rattle.cal_policy.specs.Assured.Acted.{has_acted}
+pub use Rattle.cal_policy.specs.Assured.Grants.{act_in_place, act_of, acts_in_place, grants, grants_of_first, may_act, turn_in_place}
 pub use Rattle.cal_policy.specs.Assured.Hyperthreads.{bans, bans_at, due_for, unban_at, unban_for, unbans}
 pub use Rattle.cal_policy.specs.Assured.InFlight.{coming, is_in_flight, is_late, is_new_in_flight, is_untaken, made_now, new_helpers, pressing}
 pub use Rattle.cal_policy.specs.Assured.Order.{goes_before, group_of, place_of, task_in_place}
 pub use Rattle.cal_policy.specs.Assured.Owed.{is_task, left_for, owed_below, owed_made, owed_to}
 pub use Rattle.cal_policy.specs.Assured.Pass.{IsLegal, IsPass, bounded_of, pass_of, unbanned_of}
 pub use Rattle.cal_policy.specs.Assured.Short.{are_lacked, are_wanted, is_open, is_short, lacking, lacks, lacks_waiting, needs, open_cores, some_waits_short, spare, surplus, waits, waits_short}
-pub use Rattle.cal_policy.specs.Assured.Taking.{choice_for, held_choice, held_class, is_kept, is_kept_for, is_kept_for_short, may_preempt, may_take, open_choice, open_class, owed_class}
+pub use Rattle.cal_policy.specs.Assured.Taking.{choice_for, fewer_come, held_choice, held_class, is_kept, is_kept_for, is_kept_for_short, may_preempt, may_take, may_take_from, more_press, open_choice, open_class, owed_class}
 pub use Rattle.cal_policy.specs.Board.{placement_of}
 pub use Rattle.cal_policy.specs.Board.Counts.{booked_by, cap_of, cores_of_thread, held_by, is_booked_for, is_free, is_held, is_held_for, is_over, is_with}
 pub use Rattle.cal_policy.specs.History.{actions_of, ban_of, holder_of, is_banned, last_placement, last_thread, left_by, looks_of, placed, thread_granted}

@@ -42,6 +42,11 @@ short_parts table x t e =
 pub short_from : (table : Table) (x : List Action) (t : ℕ) → is_latency_critical table t ≡ true → booked_by table x t < guaranteed_of table t → is_short table x t ≡ true
 short_from table x t e lt = and_from (is_latency_critical table t) (ltb (booked_by table x t) (guaranteed_of table t)) e (lt-ltb (booked_by table x t) (guaranteed_of table t) lt)
 
+-- a latency-critical one that is not short books all that it is guaranteed
+pub not_short_books : (table : Table) (x : List Action) (t : ℕ) → is_latency_critical table t ≡ true → is_short table x t ≡ false → guaranteed_of table t ≤ booked_by table x t
+not_short_books table x t critical e =
+    ltb-false (booked_by table x t) (guaranteed_of table t) (ap (λ b. b && ltb (booked_by table x t) (guaranteed_of table t)) (sym critical) ∙ e)
+
 pub lacks_short : (table : Table) (x : List Action) (t : ℕ) → is_short table x t ≡ true → lacks table x t + booked_by table x t ≡ guaranteed_of table t
 lacks_short table x t e =
     let parts = short_parts table x t e in
@@ -215,15 +220,14 @@ pub open_unbanned : (table : Table) (x : List Action) (core : ℕ) → open_core
 open_unbanned table x core = count_le (is_open (x ++ Unban core ∷ [])) (is_open x) table.cores (λ c lt is. open_unbanned_at x core c is)
 
 -- and a ban opens none
-pub open_banned_most : (table : Table) (x : List Action) (core thread started : ℕ) → open_cores table (x ++ Ban core thread started ∷ []) ≤ open_cores table x
-open_banned_most table x core thread started =
-    count_le (is_open x) (is_open (x ++ Ban core thread started ∷ [])) table.cores (λ c lt is. go c is (cases_eq c core))
+pub open_banned_was : (x : List Action) (core thread started c : ℕ) → is_open (x ++ Ban core thread started ∷ []) c ≡ true → is_open x c ≡ true
+open_banned_was x core thread started c is = go (cases_eq c core)
   where
-    go : (c : ℕ) → is_open (x ++ Ban core thread started ∷ []) c ≡ true → (c ≡ core) ⊎ (c ≡ core → ⊥) → is_open x c ≡ true
-    go c is (inl e) =
+    go : (c ≡ core) ⊎ (c ≡ core → ⊥) → is_open x c ≡ true
+    go (inl e) =
         let y = x ++ Ban core thread started ∷ [] in
         let banned : is_banned y c ≡ true = rw e (ap is_some (ban_push x (Ban core thread started) core)
         ∙ ap (λ b. is_some (unwrap_or (cond b (Some (Some (record { thread = thread; started = started }))) None) (ban_of x core))) (eq-eqb core core refl)) in
         let shut : is_banned y c ≡ false = not-true (is_banned y c) (and_parts (is_free (holder_of y c)) (not (is_banned y c)) is).1 in
         let clash : true ≡ false = sym banned ∙ shut in cc
-    go c is (inr ne) = sym (open_banned_at x core thread started c ne) ∙ is
+    go (inr ne) = sym (open_banned_at x core thread started c ne) ∙ is

@@ -182,6 +182,16 @@ books_other U G s u acts (Revoke core cause) other q was =
     let x = so_far s acts in (books_left s.table x (x ++ Revoke core cause ∷ []) core q.loser cause (moves_revoke x core cause q.loser (revoked_last s acts core q was)) q.held).books u
 books_other U G s u acts (Grant core thread class) other q was = (grant_one s G acts core thread class q).others u (λ same. other acts q.task q.good (sym same))
 
+abbrev BooksAs : Setting → ℕ → List Action → List Action → Type 0
+BooksAs s u x y = IsSteady s.table y × (booked_by s.table y u ≡ booked_by s.table x u)
+
+pub other_along : (U : Type 0) (G : List Action → ℕ → Type 0) (s : Setting) (u : ℕ) (acts more : List Action) → NotTo G u → EachAfter (IsStep U G s) acts more → IsSteady s.table (so_far s acts) →
+    booked_by s.table (so_far s (acts ++ more)) u ≡ booked_by s.table (so_far s acts) u
+other_along U G s u acts more other each steady =
+    (along s (IsStep U G s) (BooksAs s u (so_far s acts))
+    (λ now a q was. (steady_step U G s now a q was.0, books_other U G s u now a other q was.0 ∙ was.1))
+    acts more each (steady, refl)).1
+
 -- it lacks no more where it waits
 lack_step : (U : Type 0) (G : List Action → ℕ → Type 0) (s : Setting) (u : ℕ) (acts : List Action) (a : Action) → u < length s.table.tasks → NotTo G u → IsStep U G s acts a → IsSteady s.table (so_far s acts) →
     lacks_waiting s (so_far s acts ++ a ∷ []) u ≤ lacks_waiting s (so_far s acts) u

@@ -2,6 +2,7 @@ mod Common
 pub mod Sums
 pub mod Holders
 pub mod Steps
+pub mod Acting
 pub mod Counts
 pub mod Own
 pub mod FewKept
@@ -11,12 +12,19 @@ pub mod Owes
 pub mod Unbanned
 pub mod Calm
 pub mod PassTurns
+pub mod NoneGranted
 pub mod Missed
 pub mod Coming
 pub mod Nothing
+pub mod NoneOpen
 pub mod Quiet
 pub mod Histories
 pub mod Served
 pub mod WaitsLast
 pub mod Whole
+pub mod TurnKeeps
+pub mod TurnEnds
+pub mod OwedWhole
+pub mod CalmWhole
+pub mod GivenWhole
 pub mod FourPasses

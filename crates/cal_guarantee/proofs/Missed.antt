@@ -1,12 +1,12 @@
 -- A pass in which a short task that waits is granted no core at its turn: then too few cores were open
 -- after the second part, and none was owed to it after the first.
-use Rattle.cal_guarantee.proofs.Common.{◌≡◌, ℕ, ◌<◌, Bool, true, false, not, ◌&&◌, cond, eqb, List, [], ◌∷◌, ◌++◌, length, Option, Some, None, refl, ap, sym, ◌∙◌, subst, arith, inl, inr, ⊎_elim, and_from, and_left, eqb-true, eq-eqb, not_from_true, IsTable, unwrap_if, Action, Free, Unban, Ban, Revoke, Cap, Grant, Holder, actions_of, holder_of, is_banned, last_placement, left_by, placed, is_free, Setting, so_far, lowest_below, frees, EachAfter, IsSteady, holder_push, lowest_passes, lowest_first, lowest_missing, unbans, owed_to, is_task, left_for, is_short, is_open, waits_short, is_kept, is_kept_for_short, may_take, open_choice, unbanned_of, bounded_of}
+use Rattle.cal_guarantee.proofs.Common.{◌≡◌, ℕ, ◌<◌, Bool, true, false, not, ◌&&◌, cond, eqb, List, [], ◌∷◌, ◌++◌, length, Option, Some, None, refl, ap, sym, ◌∙◌, subst, arith, inl, inr, ⊎_elim, and_from, and_left, eqb-true, eq-eqb, not_from_true, IsTable, unwrap_if, Action, Free, Unban, Ban, Revoke, Cap, Grant, Holder, actions_of, holder_of, is_banned, last_placement, left_by, placed, is_free, Setting, so_far, lowest_below, frees, EachAfter, IsSteady, holder_push, lowest_passes, lowest_first, lowest_missing, unbans, owed_to, is_task, left_for, is_short, is_open, open_cores, lacking, waits_short, is_kept, is_kept_for_short, may_take, open_choice, unbanned_of, bounded_of}
 use Rattle.cal_policy.specs.declared.board.holders.Holder.TheVariants as holders
 use Rattle.cal_guarantee.proofs.Holders.{owed_push}
 use Rattle.cal_guarantee.proofs.Steps.{unbans_steps}
 use Rattle.cal_guarantee.proofs.Own.{waits_parts}
 use Rattle.cal_guarantee.proofs.FewKept.{few_kept, none_taken}
-use Rattle.cal_guarantee.proofs.KeptAlong.{NoGrant, AreEnough, AreFew, along_acts, enough_along}
+use Rattle.cal_guarantee.proofs.KeptAlong.{NoGrant, AreEnough, along_acts, enough_along}
 use Rattle.cal_guarantee.proofs.Owes.{IsLowestOwed, IsOpening, owed_along, lowest_along}
 use Rattle.cal_guarantee.proofs.Unbanned.{NoneBannedBelow, after_unbans}
 use Rattle.cal_guarantee.proofs.PassTurns.{before_turn, to_turn, turn_late, ToShortOther, short_others, never_granted, freed_steady, freed_waits, unbanned_state, turn_steps, turn_state}
@@ -44,11 +44,11 @@ each_any : (before xs : List Action) → EachAfter (λ (acts : List Action) (a :
 each_any before [] = tt
 each_any before (x ∷ xs) = (tt, each_any (before ++ x ∷ []) xs)
 
-owed_free : (x : List Action) → OwedAreFree x
+pub owed_free : (x : List Action) → OwedAreFree x
 owed_free x = along_acts (λ (acts : List Action) (a : Action). Unit {0}) OwedAreFree (λ acts a q was. owed_free_step acts a was) [] x (each_any [] x)
     (λ c u e. refl)
 
-task_some : (t : ℕ) (o : Option ℕ) → is_task t o ≡ true → o ≡ Some t
+pub task_some : (t : ℕ) (o : Option ℕ) → is_task t o ≡ true → o ≡ Some t
 task_some t None e = cc
 task_some t (Some u) e = ap (λ n. Some n) (eqb-true u t e)
 
@@ -84,16 +84,18 @@ own_taken s x t o short owed is =
 
 module _ (s : Setting) (t : ℕ) (ok : IsTable s.table) (lt : t < length s.table.tasks) (steady : IsSteady s.table (actions_of s.history))
     (waiting : waits_short s (so_far s (bounded_of s)) t ≡ true) (none : open_choice s (so_far s (before_turn s t)) t ≡ None) where
-  pub few_at_turn : AreFew s.table (so_far s (before_turn s t))
-  few_at_turn = few_kept s (so_far s (before_turn s t)) t (waits_parts s (so_far s (before_turn s t)) t (turn_state s t ok lt steady waiting).1).0 none
+  pub few_at_turn : open_cores s.table (so_far s (before_turn s t)) < lacking s (so_far s (before_turn s t))
+  few_at_turn =
+      let parts = waits_parts s (so_far s (before_turn s t)) t (turn_state s t ok lt steady waiting).1 in
+      few_kept s (so_far s (before_turn s t)) t parts.0 parts.1 none
 
   -- too few were open after the second part
-  pub enough_missed : AreEnough s.table (so_far s (unbanned_of s)) → ⊥
+  pub enough_missed : AreEnough s (so_far s (unbanned_of s)) → ⊥
   enough_missed enough =
       let state = unbanned_state s t ok lt steady waiting in
-      let end = enough_along (Unit {0}) (ToShortOther s t) s t lt (short_others s t) (unbanned_of s) (to_turn s t) (turn_steps s t ok lt steady waiting) state.0 state.1 enough in
-      let P : List Action → Type 0 = λ now. AreEnough s.table (so_far s now) in
-      let there : AreEnough s.table (so_far s (before_turn s t)) = subst P (sym (turn_late s t)) end in
+      let end = enough_along (Unit {0}) (ToShortOther s t) s t lt (λ acts u g. g.1) (short_others s t) (unbanned_of s) (to_turn s t) (turn_steps s t ok lt steady waiting) state.0 state.1 enough in
+      let P : List Action → Type 0 = λ now. AreEnough s (so_far s now) in
+      let there : AreEnough s (so_far s (before_turn s t)) = subst P (sym (turn_late s t)) end in
       omega (arith, there, few_at_turn)
 
   -- and none was owed to the task after the first
@@ -106,15 +108,15 @@ module _ (s : Setting) (t : ℕ) (ok : IsTable s.table) (lt : t < length s.table
       let each = unbans_steps (Unit {0}) NoGrant s (frees s []) tt in
       let lowest = lowest_along (Unit {0}) NoGrant s t o lt (never_granted t) (frees s []) (unbans s (frees s [])) each first first_waits found.2 in
       let x = so_far s (unbanned_of s) in
-      let opening : IsOpening s.table x o = ⊎_elim
+      let opening : IsOpening s x o = ⊎_elim
       (λ enough. inl enough)
       (λ (below : NoneBannedBelow x s.table.cores). let free : is_free (holder_of x o) ≡ true = ap is_free lowest.free in
       inr (and_from (is_free (holder_of x o)) (not (is_banned x o)) free (ap not (below o found.1 free))))
       (after_unbans s t (frees s []) lt first first_waits) in
       let state = unbanned_state s t ok lt steady waiting in
-      let end = owed_along (Unit {0}) (ToShortOther s t) s t o lt (short_others s t) (unbanned_of s) (to_turn s t) (turn_steps s t ok lt steady waiting) state.0 state.1 (lowest, opening) in
-      let P : List Action → Type 0 = λ now. IsLowestOwed (so_far s now) t o × IsOpening s.table (so_far s now) o in
-      let there : IsLowestOwed (so_far s (before_turn s t)) t o × IsOpening s.table (so_far s (before_turn s t)) o = subst P (sym (turn_late s t)) end in
+      let end = owed_along (Unit {0}) (ToShortOther s t) s t o lt (short_others s t) (λ acts u g. g.1) (unbanned_of s) (to_turn s t) (turn_steps s t ok lt steady waiting) state.0 state.1 (lowest, opening) in
+      let P : List Action → Type 0 = λ now. IsLowestOwed (so_far s now) t o × IsOpening s (so_far s now) o in
+      let there : IsLowestOwed (so_far s (before_turn s t)) t o × IsOpening s (so_far s (before_turn s t)) o = subst P (sym (turn_late s t)) end in
       let y = so_far s (before_turn s t) in
       ⊎_elim
       (λ enough. omega (arith, enough, few_at_turn))

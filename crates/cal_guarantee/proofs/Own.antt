@@ -1,11 +1,12 @@
 -- Where a task's own cores are the same, it is short and waits as before.
-use Rattle.cal_guarantee.proofs.Common.{◌≡◌, ℕ, ◌<◌, ◌⊎◌, Bool, true, false, not, ◌&&◌, ◌||◌, cond, eqb, ltb, List, length, Option, Some, None, refl, ap, sym, ◌∙◌, arith, inl, inr, ⊎_elim, zero, suc, and_parts, and_from, or_left, false_from_ne_true, eqb-true, eq-eqb, cases_eq, is_some, Table, owner_of, thread_of, limit_of, is_latency_critical, task_there, Action, Holder, holder_of, is_booked_for, is_with, booked_by, cores_of_thread, cap_of, Setting, kept_now, has_room, count_below, best_below, better, thread_choice, thread_rank, thread_delay, may_book, is_granted_in, is_untaken, is_in_flight, is_late, pressing, made_now, is_new_in_flight, new_helpers, is_short, surplus, waits, waits_short}
+use Rattle.cal_guarantee.proofs.Common.{◌≡◌, ℕ, ◌<◌, ◌⊎◌, Bool, true, false, not, ◌&&◌, ◌||◌, cond, eqb, ltb, List, length, Option, Some, None, refl, ap, sym, ◌∙◌, arith, inl, inr, ⊎_elim, zero, suc, and_parts, and_from, or_left, false_from_ne_true, eqb-true, eq-eqb, cases_eq, is_some, Table, owner_of, thread_of, limit_of, is_latency_critical, task_there, Action, Holder, holder_of, is_booked_for, is_with, booked_by, cores_of_thread, cap_of, Setting, kept_now, has_room, count_below, best_below, better, thread_choice, thread_rank, thread_delay, may_book, is_granted_in, is_untaken, is_in_flight, is_late, pressing, made_now, is_new_in_flight, new_helpers, is_short, lacks, surplus, waits, waits_short, spare, needs}
+use Rattle.std.specs.Prelude.{min}
 use Rattle.std.proofs.Math.Bool.{and-false}
 use Rattle.cal_signal.specs.declared.record.Record.{Record}
 use Rattle.cal_policy.specs.declared.board.holders.Holder.TheVariants as holders
-use Rattle.cal_guarantee.proofs.Sums.{count_same}
+use Rattle.cal_guarantee.proofs.Sums.{count_same, none_counts}
 use Rattle.cal_guarantee.proofs.Holders.{Moves, Stays}
-use Rattle.cal_guarantee.proofs.Counts.{short_same, short_parts}
+use Rattle.cal_guarantee.proofs.Counts.{short_same, short_parts, lacks_same}
 
 -- core c was granted in this pass
 abbrev pub is_new : Setting → List Action → ℕ → Bool
@@ -107,7 +108,7 @@ same_flight s t k x y own m = ap (λ n. not (eqb n 0)) (same_count s t x y (is_u
 pub thread_owner : (table : Table) (t j : ℕ) → t < length table.tasks → j < limit_of table t → owner_of table (thread_of table t j) ≡ t
 thread_owner table t j lt low = task_there table.tasks t (thread_of table t j) lt (omega arith) (omega (arith, low))
 
-same_pressing : (s : Setting) (t : ℕ) (x y : List Action) → t < length s.table.tasks → IsSameFor s t x y → pressing s y t ≡ pressing s x t
+pub same_pressing : (s : Setting) (t : ℕ) (x y : List Action) → t < length s.table.tasks → IsSameFor s t x y → pressing s y t ≡ pressing s x t
 same_pressing s t x y lt m = count_same
     (λ j. is_late s (thread_of s.table t j) && not (is_in_flight s y (thread_of s.table t j)))
     (λ j. is_late s (thread_of s.table t j) && not (is_in_flight s x (thread_of s.table t j))) (limit_of s.table t)
@@ -165,3 +166,27 @@ same_waits s t x y lt m e =
     and_from (is_short s.table y t) (waits s y t) short
     (and_from (ltb (surplus s y t) (pressing s y t) && may_book s y t) (is_some (thread_choice s y t))
     (and_from (ltb (surplus s y t) (pressing s y t)) (may_book s y t) press book) choice)
+
+-- and it needs as many
+pub same_spare : (s : Setting) (t : ℕ) (x y : List Action) → t < length s.table.tasks → IsSameFor s t x y → spare s y t ≡ spare s x t
+same_spare s t x y lt m = count_same
+    (λ j. is_some (thread_rank s y (thread_of s.table t j)))
+    (λ j. is_some (thread_rank s x (thread_of s.table t j))) (limit_of s.table t)
+    (λ j low. ap (λ n. is_some (cond (eqb n 0 && has_room s (thread_of s.table t j)) (Some (thread_delay s (thread_of s.table t j))) None))
+    (same_cores s t (thread_of s.table t j) x y (thread_owner s.table t j lt low) m))
+
+pub same_needs : (s : Setting) (t : ℕ) (x y : List Action) → t < length s.table.tasks → IsSameFor s t x y → needs s y t ≡ needs s x t
+same_needs s t x y lt m =
+    ap (λ n. min n (min (pressing s y t) (spare s y t))) (lacks_same s.table x y t (same_books s t x y m))
+    ∙ ap (λ n. min (lacks s.table x t) (min n (spare s y t))) (same_pressing s t x y lt m)
+    ∙ ap (λ n. min (lacks s.table x t) (min (pressing s x t) n)) (same_spare s t x y lt m)
+
+-- where no core was granted in this pass, the task has no helper of this pass
+pub no_helpers : (s : Setting) (t : ℕ) (x : List Action) → ((c : ℕ) → is_new s x c ≡ false) → new_helpers s x t ≡ 0
+no_helpers s t x none = none_counts
+    (λ j. is_new_in_flight s x (thread_of s.table t j) && not (is_late s (thread_of s.table t j))) (limit_of s.table t)
+    (λ j low. ap (λ b. b && not (is_late s (thread_of s.table t j))) (ap (λ n. not (eqb n 0)) (none_newly (thread_of s.table t j))))
+  where
+    none_newly : (k : ℕ) → count_below (λ c. is_new s x c && is_untaken (kept_now s k) k (holder_of x c)) s.table.cores ≡ 0
+    none_newly k = none_counts (λ c. is_new s x c && is_untaken (kept_now s k) k (holder_of x c)) s.table.cores
+        (λ c low. ap (λ b. b && is_untaken (kept_now s k) k (holder_of x c)) (none c))

@@ -3,9 +3,9 @@ use Rattle.cal_guarantee.proofs.Common.{◌≡◌, ℕ, ◌<◌, ◌⊎◌, true
 use Rattle.cal_guarantee.proofs.Steps.{open_taken}
 use Rattle.cal_guarantee.proofs.Own.{thread_owner, waits_parts}
 use Rattle.cal_guarantee.proofs.FewKept.{few_kept}
-use Rattle.cal_guarantee.proofs.PassTurns.{before_turn, the_turn, turn_state}
+use Rattle.cal_guarantee.proofs.PassTurns.{before_turn, with_turn, first_act, the_turn, turn_state}
 use Rattle.cal_guarantee.proofs.Missed.{enough_missed, owed_missed}
-use Rattle.cal_guarantee.proofs.Coming.{turn_grants}
+use Rattle.cal_guarantee.proofs.Coming.{act_grants}
 use Rattle.cal_guarantee.proofs.Histories.{steady_after}
 
 -- an action in the middle of a list
@@ -19,19 +19,23 @@ module _ (s : Setting) (t : ℕ) (ok : IsTable s.table) (lt : t < length s.table
   served_by k taken =
       let now = before_turn s t in
       let x = so_far s now in
-      let waits = (waits_parts s x t (turn_state s t ok lt steady waiting).1).1 in
-      let turn = turn_grants s now t k waits taken (open_taken s x t k taken).1.1 in
+      let parts = waits_parts s x t (turn_state s t ok lt steady waiting).1 in
+      let turn = act_grants s now t k parts.0 parts.1 taken (open_taken s x t k taken).1.1 in
       let thread = turn.0 in
       let longest = best_ranked (λ rank best. ltb best rank) (λ j. thread_rank s x (thread_of s.table t j)) (limit_of s.table t) thread turn.1 in
       let grant = Grant k.number (thread_of s.table t thread.number) (class_number k.rank) in
-      let rest = the_turn s t ok lt steady waiting in
-      let whole : pass_of s ≡ now ++ grant ∷ rest.rest = rest.pass ∙ ap (λ g. (now ++ g) ++ rest.rest) turn.2 ∙ append_assoc now (grant ∷ []) rest.rest in
+      let first = first_act s t ok lt in
+      let rest = the_turn s t ok lt in
+      let later = first.rest ++ rest.rest in
+      let begun : with_turn s t ≡ (now ++ grant ∷ []) ++ first.rest = first.turn ∙ ap (λ g. (now ++ g) ++ first.rest) turn.2 in
+      let whole : pass_of s ≡ now ++ grant ∷ later =
+      rest.pass ∙ ap (λ acts. acts ++ rest.rest) begun ∙ append_assoc (now ++ grant ∷ []) first.rest rest.rest ∙ append_assoc now (grant ∷ []) later in
       record {
         place = length now;
         core = k.number;
         thread = thread_of s.table t thread.number;
         class = class_number k.rank;
-        granted = ap (λ xs. slice_get xs (length now)) whole ∙ stands_at now rest.rest grant;
+        granted = ap (λ xs. slice_get xs (length now)) whole ∙ stands_at now later grant;
         task = thread_owner s.table t thread.number lt longest.0;
       }
 
@@ -45,7 +49,7 @@ module _ (s : Setting) (t : ℕ) (ok : IsTable s.table) (lt : t < length s.table
 
 -- the laws of one pass
 pub few_cores : FewCoresAreKept
-few_cores s x t short none = few_kept s x t short none
+few_cores s x t waiting none = let parts = waits_parts s x t waiting in few_kept s x t parts.0 parts.1 none
 
 pub open_come : OpenCoresCome
 open_come s t w enough =

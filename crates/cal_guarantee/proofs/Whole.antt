@@ -11,31 +11,31 @@ use Rattle.cal_guarantee.proofs.Coming.{IsComing, coming_or_nothing, left_along}
 use Rattle.cal_guarantee.proofs.Nothing.{nothing_calm}
 use Rattle.cal_guarantee.proofs.Histories.{acts_to, setting_in, after_pass, entry_at, steady_at, freed_was_left}
 use Rattle.cal_guarantee.proofs.Served.{served_or_missed}
-use Rattle.cal_guarantee.proofs.Quiet.{rest_calm, quiet_pass, none_left}
+use Rattle.cal_guarantee.proofs.Quiet.{idle_calm, quiet_pass, none_left}
 
-left_task : (t : ℕ) (h : Holder) → leaves_for t h ≡ true → left_for h ≡ Some t
+pub left_task : (t : ℕ) (h : Holder) → leaves_for t h ≡ true → left_for h ≡ Some t
 left_task t holders.Free e = cc
 left_task t (holders.Held p) e = cc
 left_task t (holders.Leaving p (causes.Preempt task)) e = ap (λ n. Some n) (eqb-true task t e)
 left_task t (holders.Leaving p (causes.Ban by)) e = cc
 left_task t (holders.Leaving p causes.Bandwidth) e = cc
 
-left_leaving : (t : ℕ) (h : Holder) → leaves_for t h ≡ true → is_leaving h ≡ true
+pub left_leaving : (t : ℕ) (h : Holder) → leaves_for t h ≡ true → is_leaving h ≡ true
 left_leaving t holders.Free e = cc
 left_leaving t (holders.Held p) e = cc
 left_leaving t (holders.Leaving p cause) e = refl
 
 -- what the pass frees, and what it does not
-freed_holder : (s : Setting) (c : ℕ) → c < s.table.cores → was_left s c ≡ true → holder_of (so_far s (frees s [])) c ≡ holders.Free
+pub freed_holder : (s : Setting) (c : ℕ) → c < s.table.cores → was_left s c ≡ true → holder_of (so_far s (frees s [])) c ≡ holders.Free
 freed_holder s c low e =
     (after_frees s).holder c ∙ ap (λ b. cond b holders.Free (holder_of (actions_of s.history) c)) (and_from (ltb c s.table.cores) (was_left s c) (lt-ltb c s.table.cores low) e)
 
-freed_owed : (s : Setting) (c : ℕ) → c < s.table.cores → was_left s c ≡ true → owed_to (so_far s (frees s [])) c ≡ left_for (holder_of (actions_of s.history) c)
+pub freed_owed : (s : Setting) (c : ℕ) → c < s.table.cores → was_left s c ≡ true → owed_to (so_far s (frees s [])) c ≡ left_for (holder_of (actions_of s.history) c)
 freed_owed s c low e =
     (after_frees s).owed c ∙ ap (λ b. cond b (left_for (holder_of (actions_of s.history) c)) (owed_to (actions_of s.history) c))
     (and_from (ltb c s.table.cores) (was_left s c) (lt-ltb c s.table.cores low) e)
 
-kept_holder : (s : Setting) (c : ℕ) → was_left s c ≡ false → holder_of (so_far s (frees s [])) c ≡ holder_of (actions_of s.history) c
+pub kept_holder : (s : Setting) (c : ℕ) → was_left s c ≡ false → holder_of (so_far s (frees s [])) c ≡ holder_of (actions_of s.history) c
 kept_holder s c e =
     (after_frees s).holder c ∙ ap (λ b. cond b holders.Free (holder_of (actions_of s.history) c)) (and_right (ltb c s.table.cores) (was_left s c) e)
 
@@ -51,11 +51,80 @@ record IsMissed (table : Table) (history : List PassEntry) (t d q : ℕ) : Type 
   pub none : Misses table history t q entry
 
 module _ (table : Table) (history : List PassEntry) (t d p : ℕ) (w : WaitsFromTo table history t d p) where
-  in_range : (q : ℕ) → q ≤ p + d → q < length history
+  pub in_range : (q : ℕ) → q ≤ p + d → q < length history
   in_range q le = let all = w.passes in omega (arith, all, le)
 
-  steady_in : (q : ℕ) → q ≤ p + d → IsSteady table (acts_to history q)
+  pub steady_in : (q : ℕ) → q ≤ p + d → IsSteady table (acts_to history q)
   steady_in q le = steady_at table history w.accepted w.legal q (let lt = in_range q le in omega (arith, lt))
+
+  -- what is being left for the task where a pass begins, and is not freed in it, is being left for it after
+  pub left_past : (q c : ℕ) (entry : PassEntry) → q ≤ p + d → slice_get history q ≡ Some entry → was_left (setting_in table history q entry) c ≡ false →
+      leaves_for t (holder_of (acts_to history q) c) ≡ true → leaves_for t (holder_of (acts_to history (q + 1)) c) ≡ true
+  left_past q c entry to e stays left =
+      let s = setting_in table history q entry in
+      let there : leaves_for t (holder_of (so_far s (frees s [])) c) ≡ true = ap (leaves_for t) (kept_holder s c stays) ∙ left in
+      let same = left_along (Unit {0}) ToAny s t c (frees s []) (after_freed s) (after_steps s w.accepted) (frees_steady s (steady_in q to)) there in
+      let P : List Action → Type 0 = λ x. leaves_for t (holder_of x c) ≡ true in
+      let Q : List Action → Type 0 = λ all. leaves_for t (holder_of (so_far s all) c) ≡ true in
+      subst P (sym (after_pass table history q entry w.legal e)) (subst Q (sym (pass_freed s)) (ap (leaves_for t) same ∙ there))
+
+  -- what is being left from pass p on is freed in the last
+  pub freed_last : (c : ℕ) (entry : PassEntry) → c < table.cores → slice_get history (p + d) ≡ Some entry → ((q : ℕ) → p < q → q ≤ p + d → is_leaving (holder_of (acts_to history q) c) ≡ true) →
+      was_left (setting_in table history (p + d) entry) c ≡ true
+  freed_last c entry low e stays =
+      let s = setting_in table history (p + d) entry in
+      let freed = w.left entry e c low (record { since = p; early = omega arith; left = stays }) in
+      freed_was_left s freed.place c w.accepted (ap (λ xs. slice_get xs freed.place) (sym (w.legal.passes (p + d) entry e).actions) ∙ freed.freed)
+
+  -- where the passes after p stay calm
+  module _ (quiet : (q : ℕ) → p < q → q < p + d → IsCalm table (acts_to history q) → IsCalm table (acts_to history (q + 1)) × NoneLeaves (acts_to history q) (acts_to history (q + 1))) where
+    -- calm after each pass, and what is being left there was being left after those before it
+    calm_to : IsCalm table (acts_to history (p + 1)) → (n : ℕ) → n < d →
+        IsCalm table (acts_to history (p + 1 + n)) × ((k : ℕ) → k ≤ n → NoneLeaves (acts_to history (p + 1 + k)) (acts_to history (p + 1 + n)))
+    calm_to calm zero lt =
+        let same : p + 1 ≡ p + 1 + 0 = omega arith in
+        let P : ℕ → Type 0 = λ j. IsCalm table (acts_to history j) in (
+          subst P same calm,
+          λ k le. let zero_is : 0 ≡ k = omega (arith, le) in
+              let Q : ℕ → Type 0 = λ j. NoneLeaves (acts_to history (p + 1 + j)) (acts_to history (p + 1 + 0)) in subst Q zero_is (leaves_refl (acts_to history (p + 1 + 0))),
+        )
+    calm_to calm (suc n) lt =
+        let before = calm_to calm n (omega (arith, lt)) in
+        let q = p + 1 + n in
+        let there = quiet q (omega arith) (omega (arith, lt)) before.0 in
+        let same : q + 1 ≡ p + 1 + suc n = omega arith in
+        let C : ℕ → Type 0 = λ j. IsCalm table (acts_to history j) × NoneLeaves (acts_to history q) (acts_to history j) in
+        let end = subst C same there in (
+          end.0,
+          λ k le. ⊎_elim
+              (λ (l : k < suc n). leaves_chain (acts_to history (p + 1 + k)) (acts_to history q) (acts_to history (p + 1 + suc n)) (before.1 k (omega (arith, l))) end.1)
+              (λ (g : suc n ≤ k). let top : suc n ≡ k = omega (arith, g, le) in
+              let Q : ℕ → Type 0 = λ j. NoneLeaves (acts_to history (p + 1 + j)) (acts_to history (p + 1 + suc n)) in subst Q top (leaves_refl (acts_to history (p + 1 + suc n))))
+              (cases_lt k (suc n)),
+        )
+
+    -- the last begins calm, and after its first part nothing is being left
+    pub calm_last : IsCalm table (acts_to history (p + 1)) → (entry : PassEntry) → slice_get history (p + d) ≡ Some entry →
+        IsCalm table (acts_to history (p + d)) × ((c : ℕ) → c < table.cores →
+        is_leaving (holder_of (so_far (setting_in table history (p + d) entry) (frees (setting_in table history (p + d) entry) [])) c) ≡ true → ⊥)
+    calm_last calm entry e =
+        let some = w.some in
+        let all = calm_to calm (d - 1) (omega (arith, some)) in
+        let last : p + 1 + (d - 1) ≡ p + d = omega (arith, some) in
+        let s = setting_in table history (p + d) entry in
+        let P : ℕ → Type 0 = λ k. IsCalm table (acts_to history k) in
+        let here : IsCalm table (acts_to history (p + d)) = subst P last all.0 in (
+          here,
+          λ c low is.
+              let at_start = (calm_frees s here).1.before c is in
+              let stays : (q : ℕ) → p < q → q ≤ p + d → is_leaving (holder_of (acts_to history q) c) ≡ true = λ q from to.
+              let same : p + 1 + (q - (p + 1)) ≡ q = omega (arith, from) in
+              let Q : ℕ → Type 0 = λ k. is_leaving (holder_of (acts_to history k) c) ≡ true in
+              let there : is_leaving (holder_of (acts_to history (p + 1 + (d - 1))) c) ≡ true = subst Q (sym last) at_start in
+              subst Q same ((all.1 (q - (p + 1)) (omega (arith, from, to, some))).before c there) in
+              let free = freed_holder s c low (freed_last c entry low e stays) in
+              let clash : false ≡ true = sym (ap is_leaving free) ∙ is in cc,
+        )
 
   -- a pass grants the task a core, or misses it
   given_or_missed : (q : ℕ) → p ≤ q → q ≤ p + d → IsGiven table history t d p ⊎ IsMissed table history t d q
@@ -114,13 +183,7 @@ module _ (table : Table) (history : List PassEntry) (t d p : ℕ) (w : WaitsFrom
     left_on : (q c : ℕ) → p ≤ q → q ≤ p + d → c < table.cores → leaves_for t (holder_of (acts_to history q) c) ≡ true → leaves_for t (holder_of (acts_to history (q + 1)) c) ≡ true
     left_on q c from to low left =
         let m = missed q from to in
-        let s = setting_in table history q m.entry in
-        let stays = false_from_ne_true (was_left s c) (λ is. not_freed q c from to m low left is) in
-        let there : leaves_for t (holder_of (so_far s (frees s [])) c) ≡ true = ap (leaves_for t) (kept_holder s c stays) ∙ left in
-        let same = left_along (Unit {0}) ToAny s t c (frees s []) (after_freed s) (after_steps s w.accepted) (frees_steady s (steady_in q to)) there in
-        let P : List Action → Type 0 = λ x. leaves_for t (holder_of x c) ≡ true in
-        let Q : List Action → Type 0 = λ all. leaves_for t (holder_of (so_far s all) c) ≡ true in
-        subst P (sym (next_is q m)) (subst Q (sym (pass_freed s)) (ap (leaves_for t) same ∙ there))
+        left_past q c m.entry to m.is_pass (false_from_ne_true (was_left (setting_in table history q m.entry) c) (λ is. not_freed q c from to m low left is)) left
 
     left_to : (c : ℕ) → c < table.cores → leaves_for t (holder_of (acts_to history (p + 1)) c) ≡ true → (n : ℕ) → n < d → leaves_for t (holder_of (acts_to history (p + 1 + n)) c) ≡ true
     left_to c low first zero lt = let same : p + 1 ≡ p + 1 + 0 = omega arith in let P : ℕ → Type 0 = λ k. leaves_for t (holder_of (acts_to history k) c) ≡ true in subst P same first
@@ -129,14 +192,6 @@ module _ (table : Table) (history : List PassEntry) (t d p : ℕ) (w : WaitsFrom
         let next = left_on (p + 1 + n) c (omega arith) (omega (arith, lt)) low before in
         let same : p + 1 + n + 1 ≡ p + 1 + suc n = omega arith in
         let P : ℕ → Type 0 = λ k. leaves_for t (holder_of (acts_to history k) c) ≡ true in subst P same next
-
-    -- what is being left from pass p on is freed in the last
-    freed_last : (c : ℕ) → c < table.cores → ((q : ℕ) → p < q → q ≤ p + d → is_leaving (holder_of (acts_to history q) c) ≡ true) → (m : IsMissed table history t d (p + d)) →
-        was_left (setting_in table history (p + d) m.entry) c ≡ true
-    freed_last c low stays m =
-        let s = setting_in table history (p + d) m.entry in
-        let freed = w.left m.entry m.is_pass c low (record { since = p; early = omega arith; left = stays }) in
-        freed_was_left s freed.place c w.accepted (ap (λ xs. slice_get xs freed.place) (sym (w.legal.passes (p + d) m.entry m.is_pass).actions) ∙ freed.freed)
 
     -- no core is coming to it
     none_coming : (c : ℕ) → c < table.cores → leaves_for t (holder_of (acts_to history (p + 1)) c) ≡ true → ⊥
@@ -147,57 +202,23 @@ module _ (table : Table) (history : List PassEntry) (t d p : ℕ) (w : WaitsFrom
         let some = w.some in
         let m = missed (p + d) (omega arith) (omega arith) in
         not_freed (p + d) c (omega arith) (omega arith) m low (each (p + d) (omega (arith, some)) (omega arith))
-        (freed_last c low (λ q from to. left_leaving t (holder_of (acts_to history q) c) (each q from to)) m)
-
-    -- calm after each pass, and what is being left there was being left after those before it
-    calm_to : IsCalm table (acts_to history (p + 1)) → (n : ℕ) → n < d →
-        IsCalm table (acts_to history (p + 1 + n)) × ((k : ℕ) → k ≤ n → NoneLeaves (acts_to history (p + 1 + k)) (acts_to history (p + 1 + n)))
-    calm_to calm zero lt =
-        let same : p + 1 ≡ p + 1 + 0 = omega arith in
-        let P : ℕ → Type 0 = λ j. IsCalm table (acts_to history j) in (
-          subst P same calm,
-          λ k le. let zero_is : 0 ≡ k = omega (arith, le) in
-              let Q : ℕ → Type 0 = λ j. NoneLeaves (acts_to history (p + 1 + j)) (acts_to history (p + 1 + 0)) in subst Q zero_is (leaves_refl (acts_to history (p + 1 + 0))),
-        )
-    calm_to calm (suc n) lt =
-        let before = calm_to calm n (omega (arith, lt)) in
-        let q = p + 1 + n in
-        let m = missed q (omega arith) (omega (arith, lt)) in
-        let s = setting_in table history q m.entry in
-        let one = quiet_pass s t w.accepted w.own (steady_in q (omega (arith, lt))) m.waiting m.none before.0 in
-        let P : List Action → Type 0 = λ x. IsCalm table x × NoneLeaves (acts_to history q) x in
-        let there : IsCalm table (acts_to history (q + 1)) × NoneLeaves (acts_to history q) (acts_to history (q + 1)) = subst P (sym (next_is q m)) one in
-        let same : q + 1 ≡ p + 1 + suc n = omega arith in
-        let C : ℕ → Type 0 = λ j. IsCalm table (acts_to history j) × NoneLeaves (acts_to history q) (acts_to history j) in
-        let end = subst C same there in (
-          end.0,
-          λ k le. ⊎_elim
-              (λ (l : k < suc n). leaves_chain (acts_to history (p + 1 + k)) (acts_to history q) (acts_to history (p + 1 + suc n)) (before.1 k (omega (arith, l))) end.1)
-              (λ (g : suc n ≤ k). let top : suc n ≡ k = omega (arith, g, le) in
-              let Q : ℕ → Type 0 = λ j. NoneLeaves (acts_to history (p + 1 + j)) (acts_to history (p + 1 + suc n)) in subst Q top (leaves_refl (acts_to history (p + 1 + suc n))))
-              (cases_lt k (suc n)),
-        )
+        (freed_last c m.entry low m.is_pass (λ q from to. left_leaving t (holder_of (acts_to history q) c) (each q from to)))
 
     -- and nothing to take
+    quiet_after : (q : ℕ) → p < q → q < p + d → IsCalm table (acts_to history q) → IsCalm table (acts_to history (q + 1)) × NoneLeaves (acts_to history q) (acts_to history (q + 1))
+    quiet_after q from to calm =
+        let m = missed q (omega (arith, from)) (omega (arith, to)) in
+        let s = setting_in table history q m.entry in
+        let one = quiet_pass s t w.accepted w.own (steady_in q (omega (arith, to))) m.waiting m.none calm in
+        let P : List Action → Type 0 = λ x. IsCalm table x × NoneLeaves (acts_to history q) x in
+        subst P (sym (next_is q m)) one
+
     some_to_take : IsCalm table (acts_to history (p + 1)) → ⊥
     some_to_take calm =
-        let some = w.some in
-        let all = calm_to calm (d - 1) (omega (arith, some)) in
-        let last : p + 1 + (d - 1) ≡ p + d = omega (arith, some) in
         let m = missed (p + d) (omega arith) (omega arith) in
         let s = setting_in table history (p + d) m.entry in
-        let P : ℕ → Type 0 = λ k. IsCalm table (acts_to history k) in
-        let here : IsCalm table (acts_to history (p + d)) = subst P last all.0 in
-        none_left s t w.accepted w.own (steady_in (p + d) (omega arith)) m.waiting m.none here
-        (λ c low is.
-        let at_start = (calm_frees s here).1.before c is in
-        let stays : (q : ℕ) → p < q → q ≤ p + d → is_leaving (holder_of (acts_to history q) c) ≡ true = λ q from to.
-        let same : p + 1 + (q - (p + 1)) ≡ q = omega (arith, from) in
-        let Q : ℕ → Type 0 = λ k. is_leaving (holder_of (acts_to history k) c) ≡ true in
-        let there : is_leaving (holder_of (acts_to history (p + 1 + (d - 1))) c) ≡ true = subst Q (sym last) at_start in
-        subst Q same ((all.1 (q - (p + 1)) (omega (arith, from, to, some))).before c there) in
-        let free = freed_holder s c low (freed_last c low stays m) in
-        let clash : false ≡ true = sym (ap is_leaving free) ∙ is in cc)
+        let last = calm_last quiet_after calm m.entry m.is_pass in
+        none_left s t w.accepted w.own (steady_in (p + d) (omega arith)) m.waiting m.none last.0 last.1
 
     contradiction : ⊥
     contradiction =
@@ -208,8 +229,8 @@ module _ (table : Table) (history : List PassEntry) (t d p : ℕ) (w : WaitsFrom
         let C : List Action → Type 0 = λ x. IsCalm table x in ⊎_elim
         (λ coming. let there : IsComing table (acts_to history (p + 1)) t = subst P (sym (next_is p m)) coming in none_coming there.0 there.1 there.2)
         (λ nothing.
-        let calm = nothing_calm s t w.accepted w.own steady m.waiting (w.rooms m.entry m.is_pass) nothing.0 in
-        some_to_take (subst C (sym (next_is p m)) (rest_calm s t w.accepted w.own steady m.waiting m.none nothing.1 calm).0))
+        let calm = nothing_calm s t w.accepted w.own steady m.waiting (w.rooms m.entry m.is_pass) nothing.0.0 nothing.1 in
+        some_to_take (subst C (sym (next_is p m)) (idle_calm s t w.accepted w.own steady m.waiting m.none nothing.0.1 calm).0))
         (coming_or_nothing s t w.accepted w.own steady m.waiting m.none)
 
   given : IsGiven table history t d p

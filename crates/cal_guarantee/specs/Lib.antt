@@ -1,3 +1,4 @@
 pub mod Enough
 pub mod Example
 pub mod OnePass
+pub mod WholeGuarantee

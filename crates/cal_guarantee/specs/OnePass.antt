@@ -12,10 +12,10 @@ use Rattle.cal_policy.specs.Assured.Pass.{unbanned_of, bounded_of, pass_of, IsLe
 use Rattle.cal_policy.specs.Assured.Short.{is_short, lacking, open_cores, waits_short}
 use Rattle.cal_policy.specs.Assured.Taking.{open_choice}
 
--- a short task that may take no open core: fewer are open than are lacking
+-- a short task that waits and may take no open core: fewer are open than are lacking
 abbrev pub FewCoresAreKept : Type 0
-FewCoresAreKept = (s : Setting) (x : List Action) (t : ℕ) → is_short s.table x t ≡ true →
-    open_choice s x t ≡ None → open_cores s.table x < lacking s.table x
+FewCoresAreKept = (s : Setting) (x : List Action) (t : ℕ) → waits_short s x t ≡ true →
+    open_choice s x t ≡ None → open_cores s.table x < lacking s x
 
 -- task t is short and waits where the grants of this pass begin, after a legal history
 pub record IsWaiting (s : Setting) (t : ℕ) : Type 0 where
@@ -53,7 +53,7 @@ pub record IsServed (s : Setting) (t : ℕ) : Type 0 where
 -- where as many cores are open as are lacking after the second part, it does
 abbrev pub OpenCoresCome : Type 0
 OpenCoresCome = (s : Setting) (t : ℕ) → IsWaiting s t →
-    lacking s.table (so_far s (unbanned_of s)) ≤ open_cores s.table (so_far s (unbanned_of s)) →
+    lacking s (so_far s (unbanned_of s)) ≤ open_cores s.table (so_far s (unbanned_of s)) →
     IsServed s t
 
 -- so it does where a core is owed to the task after the first part

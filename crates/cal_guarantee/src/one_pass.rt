@@ -20,8 +20,8 @@ pub fn waits_last_to_the_turn()
     ensures { WaitsLastToTheTurn }
 {}
 
-/// If a short task may take no open core, then fewer cores are open than are lacking: of each other
-/// short task that waits, at most as many are kept from it as that one lacks.
+/// If a short task that waits may take no open core, then fewer cores are open than are lacking: of
+/// each other short task that waits, at most as many are kept from it as that one lacks.
 pub fn few_cores_are_kept()
     ensures { FewCoresAreKept }
 {}
