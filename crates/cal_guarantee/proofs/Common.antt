@@ -17,7 +17,7 @@ pub use Rattle.cal_policy.proofs.PassLemmas.Steady.{Shrinks_ban, Shrinks_cap, Sh
 pub use Rattle.cal_policy.specs.Assured.Acted.{has_acted}
 pub use Rattle.cal_policy.specs.Assured.Grants.{act_in_place, act_of, acts_in_place, grants, grants_of_first, may_act, turn_in_place}
 pub use Rattle.cal_policy.specs.Assured.Hyperthreads.{bans, bans_at, due_for, unban_at, unban_for, unbans}
-pub use Rattle.cal_policy.specs.Assured.InFlight.{coming, is_in_flight, is_late, is_new_in_flight, is_untaken, made_now, new_helpers, pressing}
+pub use Rattle.cal_policy.specs.Assured.InFlight.{coming, helpers, is_in_flight, is_late, is_new_in_flight, is_untaken, made_now, new_helpers, pressing}
 pub use Rattle.cal_policy.specs.Assured.Order.{goes_before, group_of, place_of, task_in_place}
 pub use Rattle.cal_policy.specs.Assured.Owed.{is_task, left_for, owed_below, owed_made, owed_to}
 pub use Rattle.cal_policy.specs.Assured.Pass.{IsLegal, IsPass, bounded_of, pass_of, unbanned_of}

@@ -23,7 +23,7 @@ count_of_two p q r (suc n) e =
     omega (arith, count_of_two p q r n (λ c lt is. e c (omega (arith, lt)) is), one_of_two (p n) (q n) (r n) (e n (omega arith)))
 
 -- core c is being left for task t where each of the passes p + 1 to p + 1 + n begins
-left_since : List PassEntry → ℕ → ℕ → ℕ → ℕ → Bool
+abbrev left_since : List PassEntry → ℕ → ℕ → ℕ → ℕ → Bool
 left_since history t p zero c = leaves_for t (holder_of (acts_to history (p + 1)) c)
 left_since history t p (suc n) c = left_since history t p n c && leaves_for t (holder_of (acts_to history (p + 1 + suc n)) c)
 

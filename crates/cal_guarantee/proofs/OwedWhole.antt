@@ -1,5 +1,5 @@
 -- Of the cores that are owed to a short task that waits it is granted as many as it needs, or all of them.
-use Rattle.cal_guarantee.proofs.Common.{◌≡◌, ℕ, ◌+◌, ◌<◌, ◌≤◌, ◌⊎◌, Bool, true, false, not, ◌&&◌, cond, eqb, ltb, List, [], ◌∷◌, ◌++◌, length, Option, Some, None, refl, ap, sym, ◌∙◌, subst, arith, inl, inr, ⊎_elim, zero, suc, cases_eq, cases_lt, cases_Bool, and_parts, and_from, ne_eqb, eq-eqb, eqb-true, ltb-false, false_from_ne_true, unwrap_if, IsTable, Action, Free, Unban, Ban, Revoke, Cap, Grant, actions_of, holder_of, is_banned, is_free, Setting, so_far, frees, EachAfter, IsSteady, count_below, count_le, count_le_one, so_far_more, unbans, owed_to, is_task, owed_below, is_short, is_open, needs, lacking, open_cores, waits, waits_short, is_kept, is_kept_for, is_kept_for_short, may_take, open_choice, unbanned_of, bounded_of, acts_in_place}
+use Rattle.cal_guarantee.proofs.Common.{◌≡◌, ℕ, ◌+◌, ◌<◌, ◌≤◌, ◌⊎◌, Bool, true, false, not, ◌&&◌, cond, eqb, ltb, List, [], ◌∷◌, ◌++◌, length, Option, Some, None, refl, ap, sym, ◌∙◌, subst, arith, inl, inr, ⊎_elim, zero, suc, cases_eq, cases_lt, cases_Bool, and_parts, and_from, ne_eqb, eq-eqb, eqb-true, ltb-false, false_from_ne_true, unwrap_if, IsTable, Action, Free, Unban, Ban, Revoke, Cap, Grant, actions_of, holder_of, is_banned, is_free, Setting, so_far, frees, EachAfter, IsSteady, count_below, count_le, count_le_one, so_far_more, unbans, owed_to, is_task, owed_below, is_short, is_open, needs, lacking, are_lacked, open_cores, waits, waits_short, is_kept, is_kept_for, is_kept_for_short, may_take, open_choice, unbanned_of, bounded_of, acts_in_place}
 use Rattle.std.specs.Prelude.{min}
 use Rattle.std.proofs.lemmas.List.Sums.{sum_by_push}
 use Rattle.cal_policy.specs.declared.history.action.Cause.{Cause}
@@ -145,7 +145,7 @@ module _ (U : Type 0) (G : List Action → ℕ → Type 0) (s : Setting) (t m : 
       go : (b : Bool) → is_free (holder_of (so_far s acts) core) ≡ b → AreEnough s (so_far s acts ++ Ban core thread started ∷ []) ⊎ AreOpen s t (so_far s acts ++ Ban core thread started ∷ [])
       go true free =
           let x = so_far s acts in
-          let spared = ap (λ b. b && _) (sym free) ∙ q.spared in
+          let spared : are_lacked s x ≡ false = ap (λ b. b && are_lacked s x) (sym free) ∙ q.spared in
           let more = not_lacked s x (some_waits s x t lt waiting) spared in
           inl (omega (arith, more, no_more_lacking U s acts (Ban core thread started) q steady, open_banned s.table x core thread started))
       go false busy =

@@ -1,6 +1,6 @@
 -- A pass that finds nothing to take leaves all calm; and where nothing is being left after the first
 -- part, the next finds a core.
-use Rattle.cal_guarantee.proofs.Common.{◌≡◌, ℕ, ◌+◌, ◌<◌, ◌≤◌, true, false, not, List, [], ◌∷◌, ◌++◌, length, take, None, refl, ap, sym, ◌∙◌, subst, arith, ⊎_elim, zero, suc, append-nil, cases_Bool, and_from, eq-eqb, not-true, false_from_ne_true, Table, IsTable, no_task, owner_of, guaranteed_of, Action, Holder, actions_of, holder_of, is_banned, is_free, is_held_for, held_by, Setting, so_far, sum_below, frees, EachAfter, IsSteady, held_le_booked, is_leaving, unbans, lowest_passes, eqb, is_short, lacks, lacks_waiting, is_open, waits_short, open_choice, task_in_place, place_of, acts_in_place, turn_in_place, unbanned_of, bounded_of, pass_of}
+use Rattle.cal_guarantee.proofs.Common.{◌≡◌, ℕ, ◌+◌, ◌<◌, ◌≤◌, true, false, not, List, [], ◌∷◌, ◌++◌, length, take, Some, None, refl, ap, sym, ◌∙◌, subst, arith, ⊎_elim, zero, suc, append-nil, cases_Bool, and_from, eq-eqb, not-true, false_from_ne_true, Table, IsTable, no_task, owner_of, guaranteed_of, Action, Holder, actions_of, holder_of, is_banned, is_free, is_held_for, held_by, Setting, so_far, sum_below, frees, EachAfter, IsSteady, held_le_booked, is_leaving, unbans, lowest_passes, eqb, is_short, lacks, lacks_waiting, is_open, waits_short, open_choice, task_in_place, place_of, acts_in_place, turn_in_place, unbanned_of, bounded_of, pass_of}
 use Rattle.std.proofs.lemmas.List.Sums.{sum_by_more, sum_by-take-le}
 use Rattle.std.specs.Prelude.{sum_by}
 use Rattle.cal_policy.specs.declared.board.holders.Placement as placements

@@ -1,8 +1,9 @@
 -- At the end of its turn a short task that waits finds nothing to do; and it waits there, where it was
 -- granted less than it needs.
-use Rattle.cal_guarantee.proofs.Common.{◌≡◌, ℕ, ◌+◌, ◌<◌, ◌≤◌, ◌⊎◌, Bool, true, false, not, ◌&&◌, ◌||◌, cond, ltb, List, [], ◌∷◌, ◌++◌, length, Option, Some, None, refl, ap, sym, ◌∙◌, subst, arith, inl, inr, ⊎_elim, zero, suc, append_assoc, append-nil, cases_Bool, and_parts, and_from, or_left, ltb-false, option_or, is_some, IsTable, is_latency_critical, Action, Revoke, Grant, CoreClass, Candidate, actions_of, holder_of, is_banned, is_free, is_held, in_turn, Setting, so_far, EachAfter, IsSteady, thread_choice, grant_of, is_granted_in, pressing, coming, new_helpers, is_short, lacks, surplus, waits, waits_short, spare, needs, is_open, open_choice, held_choice, fewer_come, more_press, may_preempt, choice_for, has_acted, act_of, acts_in_place, turn_in_place, task_in_place, place_of, grants_of_first, bounded_of}
+use Rattle.cal_guarantee.proofs.Common.{◌≡◌, ℕ, ◌+◌, ◌<◌, ◌≤◌, ◌⊎◌, Bool, true, false, not, ◌&&◌, ◌||◌, cond, ltb, List, [], ◌∷◌, ◌++◌, length, Option, Some, None, refl, ap, sym, ◌∙◌, subst, arith, inl, inr, ⊎_elim, zero, suc, append_assoc, append-nil, cases_Bool, and_parts, and_from, or_left, ltb-false, option_or, is_some, IsTable, thread_of, is_latency_critical, Action, Revoke, Grant, CoreClass, Candidate, actions_of, holder_of, class_number, is_idle, is_banned, is_free, is_held, in_turn, Setting, so_far, EachAfter, IsSteady, thread_choice, grant_of, is_granted_in, pressing, coming, helpers, new_helpers, is_short, lacks, surplus, waits, waits_short, spare, needs, is_open, open_choice, held_choice, fewer_come, more_press, may_preempt, choice_for, has_acted, act_of, acts_in_place, turn_in_place, task_in_place, place_of, grants_of_first, bounded_of}
 use Rattle.std.proofs.Common.{length-append}
 use Rattle.std.proofs.lemmas.Bool.{or_right}
+use Rattle.cal_policy.specs.declared.history.action.Cause.TheVariants as causes
 use Rattle.cal_policy.proofs.AssuredLemmas.Walks.{first_turns}
 use Rattle.cal_policy.proofs.AssuredLemmas.BooksNoMore.{AllMove, act_moves}
 use Rattle.cal_policy.proofs.AssuredLemmas.Done.{IsServing, grants_made}
@@ -52,13 +53,13 @@ count_or_idle s acts t (suc n) = ⊎_elim
         let so = acts_in_place n s (Some t) acts in
         inr (ap (λ l. act_of s (acts ++ l) t) (ap (λ l. so ++ l) none ∙ append-nil so) ∙ none)
 
+either_some : (b : Bool) (x y : Action) → cond b (x ∷ []) (y ∷ []) ≡ [] → ⊥
+either_some true x y e = cc
+either_some false x y e = cc
+
 some_given : (s : Setting) (t : ℕ) (o : Option (Candidate ℕ)) (k : Candidate CoreClass) → is_some o ≡ true → grant_of s t o (Some k) ≡ [] → ⊥
 some_given s t None k some e = cc
-some_given s t (Some thread) k some e = by_class _ e
-  where
-    by_class : (b : Bool) → cond b (Grant k.number _ _ ∷ []) (Revoke k.number _ ∷ []) ≡ [] → ⊥
-    by_class true f = cc
-    by_class false f = cc
+some_given s t (Some thread) k some e = either_some (is_idle k.rank) (Grant k.number (thread_of s.table t thread.number) (class_number k.rank)) (Revoke k.number (causes.Preempt t)) e
 
 module _ (s : Setting) (t : ℕ) (ok : IsTable s.table) (lt : t < length s.table.tasks) where
   -- each action of the turn takes a core
@@ -191,7 +192,7 @@ module _ (s : Setting) (t : ℕ) (ok : IsTable s.table) (lt : t < length s.table
           let y = so_far s (with_turn s t) in
           let got = turn_got s t (before_turn s t) s.table.cores ok lt short_there turn_begins in
           let helped = got.helped in
-          let over : surplus s y t ≡ new_helpers s y t = ap (λ b. cond b (new_helpers s y t) _) short_still in
+          let over : surplus s y t ≡ new_helpers s y t = ap (λ b. cond b (new_helpers s y t) (helpers s y t)) short_still in
           let enough = ltb-false (coming s y t + surplus s y t) (pressing s y t) f in
           inl (omega (arith, helped, enough, over, needs_there, none_new_there))
       go true true e f =
