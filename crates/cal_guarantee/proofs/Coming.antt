@@ -56,10 +56,12 @@ either_none : (b : Bool) (o : Option (Candidate CoreClass)) → o ≡ None → c
 either_none true o e = e
 either_none false o e = refl
 
-pub act_is : (s : Setting) (acts : List Action) (t : ℕ) → is_short s.table (so_far s acts) t ≡ true → waits s (so_far s acts) t ≡ true →
+pub short_acts : (s : Setting) (acts : List Action) (t : ℕ) → is_short s.table (so_far s acts) t ≡ true → may_act s acts t ≡ true
+short_acts s acts t short = or_left (is_short s.table (so_far s acts) t) (not (has_acted s.table acts t)) short
+
+pub act_is : (s : Setting) (acts : List Action) (t : ℕ) → may_act s acts t ≡ true → waits s (so_far s acts) t ≡ true →
     act_of s acts t ≡ grant_of s t (thread_choice s (so_far s acts) t) (choice_for s acts t)
-act_is s acts t short w =
-    let may : may_act s acts t ≡ true = or_left (is_short s.table (so_far s acts) t) (not (has_acted s.table acts t)) short in
+act_is s acts t may w =
     ap (λ b. cond b (grant_of s t (thread_choice s (so_far s acts) t) (choice_for s acts t)) []) (and_from (waits s (so_far s acts) t) (may_act s acts t) w may)
 
 choice_is : (s : Setting) (acts : List Action) (t : ℕ) → open_choice s (so_far s acts) t ≡ None → choice_for s acts t ≡ cond (may_preempt s acts t) (held_choice s acts t) None
@@ -78,15 +80,15 @@ pub given_grant : (s : Setting) (t : ℕ) (o : Option (Candidate ℕ)) (k : Cand
 given_grant s t None k some class = cc
 given_grant s t (Some thread) k some class = (thread, refl, rw class refl)
 
--- an act of a short task that may take an open core
-pub act_grants : (s : Setting) (acts : List Action) (t : ℕ) (k : Candidate CoreClass) → is_short s.table (so_far s acts) t ≡ true → waits s (so_far s acts) t ≡ true →
+-- an act of a task that may take an open core
+pub act_grants : (s : Setting) (acts : List Action) (t : ℕ) (k : Candidate CoreClass) → may_act s acts t ≡ true → waits s (so_far s acts) t ≡ true →
     open_choice s (so_far s acts) t ≡ Some k → is_idle k.rank ≡ true →
     (thread : Candidate ℕ) × (thread_choice s (so_far s acts) t ≡ Some thread)
     × (act_of s acts t ≡ Grant k.number (thread_of s.table t thread.number) (class_number k.rank) ∷ [])
-act_grants s acts t k short w e class =
+act_grants s acts t k may w e class =
     let given = given_grant s t (thread_choice s (so_far s acts) t) k (waits_thread s (so_far s acts) t w) class in
     let choice : choice_for s acts t ≡ Some k = ap (λ o. option_or o (cond (may_preempt s acts t) (held_choice s acts t) None)) e in
-    (given.0, given.1, act_is s acts t short w ∙ ap (grant_of s t (thread_choice s (so_far s acts) t)) choice ∙ given.2)
+    (given.0, given.1, act_is s acts t may w ∙ ap (grant_of s t (thread_choice s (so_far s acts) t)) choice ∙ given.2)
 
 -- some core is being left for the task
 abbrev pub IsComing : Table → List Action → ℕ → Type 0
@@ -147,7 +149,7 @@ module _ (s : Setting) (t : ℕ) (ok : IsTable s.table) (lt : t < length s.table
       let lost = held_lost s now t k ok e in
       let choice : choice_for s now t ≡ Some k = choice_is s now t none ∙ ap (λ b. cond b (held_choice s now t) None) may ∙ e in
       let gives : act_of s now t ≡ Revoke k.number (causes.Preempt t) ∷ [] =
-      act_is s now t at_turn.0 at_turn.1 ∙ ap (grant_of s t (thread_choice s x t)) choice ∙ given_revoke s t (thread_choice s x t) k (waits_thread s x t at_turn.1) lost.1.0 in
+      act_is s now t (short_acts s now t at_turn.0) at_turn.1 ∙ ap (grant_of s t (thread_choice s x t)) choice ∙ given_revoke s t (thread_choice s x t) k (waits_thread s x t at_turn.1) lost.1.0 in
       let st = steady_along now (act_of s now t) (act_steps ⊥ ToAny s now t ok lt (λ core low may_take taken. tt)) (turn_state s t ok lt steady waiting).0 in
       let m = moves_revoke x k.number (causes.Preempt t) lost.1.1.loser (revoked_last s now k.number lost.1.1 (turn_state s t ok lt steady waiting).0) in
       let left : leaves_for t (holder_of (x ++ Revoke k.number (causes.Preempt t) ∷ []) k.number) ≡ true = ap (leaves_for t) m.here ∙ eq-eqb t t refl in
@@ -164,7 +166,7 @@ module _ (s : Setting) (t : ℕ) (ok : IsTable s.table) (lt : t < length s.table
       let now = before_turn s t in
       let x = so_far s now in
       let choice : choice_for s now t ≡ None = choice_is s now t none ∙ either_none (may_preempt s now t) (held_choice s now t) e in
-      let gives : act_of s now t ≡ [] = act_is s now t at_turn.0 at_turn.1 ∙ ap (grant_of s t (thread_choice s x t)) choice ∙ none_given s t (thread_choice s x t) in
+      let gives : act_of s now t ≡ [] = act_is s now t (short_acts s now t at_turn.0) at_turn.1 ∙ ap (grant_of s t (thread_choice s x t)) choice ∙ none_given s t (thread_choice s x t) in
       (e, idle_acts s now (Some t) s.table.cores gives)
 
   -- at the end of the pass a core is coming; or there was nothing, and none was coming at the turn

@@ -1,5 +1,6 @@
 -- What holds along the actions of a pass, where each keeps it.
 use Rattle.cal_guarantee.proofs.Common.{◌≡◌, ℕ, ◌<◌, ◌≤◌, Bool, true, false, not, ◌&&◌, ◌||◌, cond, eqb, ltb, leb, List, [], ◌∷◌, ◌++◌, length, Some, None, refl, ap, sym, ◌∙◌, subst, arith, ⊎_elim, append_assoc, append-nil, cases_Bool, and_parts, and_from, false_from_ne_true, eqb-true, ne_eqb, ltb-true, leb-false, not-true, Table, owner_of, limit_of, guaranteed_of, is_latency_critical, threads_of_table, next_le, Action, Free, Unban, Ban, Revoke, Cap, Grant, holder_of, is_banned, last_placement, last_thread, thread_granted, placed, placement_of, is_free, is_held, is_booked_for, held_by, booked_by, cap_of, Setting, so_far, EachAfter, may_book, is_granted_in, IsSteady, held_le_booked, so_far_more, Steady_shrinks, Steady_grant, Shrinks_unban, Shrinks_ban, Shrinks_cap, Shrinks_revoke, pressing, is_short, lacks, lacks_waiting, lacking, is_open, open_cores, surplus, waits, waits_short, some_waits_short, are_lacked, is_kept, may_take, last_thread_push, is_some, option_or}
+use Rattle.cal_policy.specs.declared.board.holders.Placement as placements
 use Rattle.cal_policy.specs.declared.board.holders.Holder.TheVariants as holders
 use Rattle.cal_policy.proofs.AssuredLemmas.Acts.{made_are}
 use Rattle.cal_guarantee.proofs.Sums.{count_some}
@@ -110,25 +111,52 @@ new_push s acts a c e =
 abbrev pub NotTo : (List Action → ℕ → Type 0) → ℕ → Type 0
 NotTo G t = (acts : List Action) (u : ℕ) → G acts u → u ≡ t → ⊥
 
--- no step but a grant to it changes which cores a short task has
-pub own_step : (U : Type 0) (G : List Action → ℕ → Type 0) (s : Setting) (t : ℕ) (acts : List Action) (a : Action) → NotTo G t → IsStep U G s acts a → IsSteady s.table (so_far s acts) →
-    is_short s.table (so_far s acts) t ≡ true → IsSameFor s t (so_far s acts) (so_far s acts ++ a ∷ [])
-own_step U G s t acts (Free core) other q was short = absurd q
-own_step U G s t acts (Unban core) other q was short = let x = so_far s acts in same_stay s t x (x ++ Unban core ∷ []) (stays_unban x core) (λ c. new_push s acts (Unban core) c refl)
-own_step U G s t acts (Ban core thread started) other q was short =
+-- a revocation is of no core of task t
+abbrev pub IsOffTask : Setting → ℕ → List Action → Action → Type 0
+IsOffTask s t acts (Free core) = Unit {0}
+IsOffTask s t acts (Unban core) = Unit {0}
+IsOffTask s t acts (Ban core thread started) = Unit {0}
+IsOffTask s t acts (Cap task cap) = Unit {0}
+IsOffTask s t acts (Revoke core cause) = (p : placements.Placement) → holder_of (so_far s acts) core ≡ holders.Held p → eqb (owner_of s.table p.thread) t ≡ false
+IsOffTask s t acts (Grant core thread class) = Unit {0}
+
+-- no step but a grant to it and a revocation of one of its changes which cores a task has
+pub own_step_off : (U : Type 0) (G : List Action → ℕ → Type 0) (s : Setting) (t : ℕ) (acts : List Action) (a : Action) → NotTo G t → IsStep U G s acts a → IsSteady s.table (so_far s acts) →
+    IsOffTask s t acts a → IsSameFor s t (so_far s acts) (so_far s acts ++ a ∷ [])
+own_step_off U G s t acts (Free core) other q was from = absurd q
+own_step_off U G s t acts (Unban core) other q was from = let x = so_far s acts in same_stay s t x (x ++ Unban core ∷ []) (stays_unban x core) (λ c. new_push s acts (Unban core) c refl)
+own_step_off U G s t acts (Ban core thread started) other q was from =
     let x = so_far s acts in same_stay s t x (x ++ Ban core thread started ∷ []) (stays_ban x core thread started) (λ c. new_push s acts (Ban core thread started) c refl)
-own_step U G s t acts (Cap task cap) other q was short = let x = so_far s acts in same_stay s t x (x ++ Cap task cap ∷ []) (stays_cap x task cap) (λ c. new_push s acts (Cap task cap) c refl)
-own_step U G s t acts (Revoke core cause) other q was short =
+own_step_off U G s t acts (Cap task cap) other q was from = let x = so_far s acts in same_stay s t x (x ++ Cap task cap ∷ []) (stays_cap x task cap) (λ c. new_push s acts (Cap task cap) c refl)
+own_step_off U G s t acts (Revoke core cause) other q was from =
     let x = so_far s acts in
-    let off = lost_another s acts core t q short in
+    let off = from q.loser q.held in
     same_moved s t x (x ++ Revoke core cause ∷ []) core (holders.Leaving q.loser cause) (moves_revoke x core cause q.loser (revoked_last s acts core q was))
     (ap (is_booked_for s.table t) q.held ∙ off) off (λ c ne. new_push s acts (Revoke core cause) c refl)
-own_step U G s t acts (Grant core thread class) other q was short =
+own_step_off U G s t acts (Grant core thread class) other q was from =
     let x = so_far s acts in
     let free = open_free x core (taken_open s x q.task core q.may).0 in
     same_moved s t x (x ++ Grant core thread class ∷ []) core (holders.Held (placed x thread)) (moves_grant x core thread class) (booked_none s.table t (holder_of x core) free)
     (ap (λ u. eqb u t) (grant_owner G s acts core thread q) ∙ ne_eqb q.task t (other acts q.task q.good))
     (λ c ne. new_push s acts (Grant core thread class) c (ap (λ b. cond b (Some thread) None) (ne_eqb core c (λ same. ne (sym same)))))
+
+-- no core of a short task is revoked
+pub short_off : (U : Type 0) (G : List Action → ℕ → Type 0) (s : Setting) (t : ℕ) (acts : List Action) (a : Action) → IsStep U G s acts a → is_short s.table (so_far s acts) t ≡ true → IsOffTask s t acts a
+short_off U G s t acts (Free core) q short = tt
+short_off U G s t acts (Unban core) q short = tt
+short_off U G s t acts (Ban core thread started) q short = tt
+short_off U G s t acts (Cap task cap) q short = tt
+short_off U G s t acts (Revoke core cause) q short = λ p held.
+    let both : holders.Held q.loser ≡ holders.Held p = sym q.held ∙ held in
+    let same : q.loser ≡ p = cc in
+    let P : placements.Placement → Type 0 = λ r. eqb (owner_of s.table r.thread) t ≡ false in
+    subst P same (lost_another s acts core t q short)
+short_off U G s t acts (Grant core thread class) q short = tt
+
+-- so no step but a grant to it changes which cores a short task has
+pub own_step : (U : Type 0) (G : List Action → ℕ → Type 0) (s : Setting) (t : ℕ) (acts : List Action) (a : Action) → NotTo G t → IsStep U G s acts a → IsSteady s.table (so_far s acts) →
+    is_short s.table (so_far s acts) t ≡ true → IsSameFor s t (so_far s acts) (so_far s acts ++ a ∷ [])
+own_step U G s t acts a other q was short = own_step_off U G s t acts a other q was (short_off U G s t acts a q short)
 
 -- steady; the task has the cores that it had after x, and is short
 abbrev Owns : Setting → ℕ → List Action → List Action → Type 0

@@ -27,4 +27,7 @@ pub mod TurnEnds
 pub mod OwedWhole
 pub mod CalmWhole
 pub mod GivenWhole
+pub mod Looser
+pub mod PlacesKeep
+pub mod LeftOpen
 pub mod FourPasses

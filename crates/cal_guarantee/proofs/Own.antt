@@ -88,12 +88,12 @@ other_thread table t k j own e = false_from_ne_true (eqb j k) (λ is.
     let yes : eqb (owner_of table j) t ≡ true = eq-eqb (owner_of table j) t (ap (owner_of table) same ∙ own) in
     let no : true ≡ false = sym yes ∙ e in cc)
 
-with_own : (table : Table) (t k : ℕ) → owner_of table k ≡ t → (h : Holder) → is_booked_for table t h ≡ false → is_with k h ≡ false
+pub with_own : (table : Table) (t k : ℕ) → owner_of table k ≡ t → (h : Holder) → is_booked_for table t h ≡ false → is_with k h ≡ false
 with_own table t k own holders.Free e = refl
 with_own table t k own (holders.Held p) e = other_thread table t k p.thread own e
 with_own table t k own (holders.Leaving p cause) e = other_thread table t k p.thread own e
 
-untaken_own : (table : Table) (t k : ℕ) (rec : Record) → owner_of table k ≡ t → (h : Holder) → is_booked_for table t h ≡ false → is_untaken rec k h ≡ false
+pub untaken_own : (table : Table) (t k : ℕ) (rec : Record) → owner_of table k ≡ t → (h : Holder) → is_booked_for table t h ≡ false → is_untaken rec k h ≡ false
 untaken_own table t k rec own holders.Free e = refl
 untaken_own table t k rec own (holders.Held p) e = ap (λ b. b && ltb rec.taken p.number) (other_thread table t k p.thread own e)
 untaken_own table t k rec own (holders.Leaving p cause) e = refl
@@ -130,7 +130,7 @@ short_surplus s x t e = rw e refl
 same_surplus : (s : Setting) (t : ℕ) (x y : List Action) → t < length s.table.tasks → IsSameFor s t x y → is_short s.table y t ≡ true → is_short s.table x t ≡ true → surplus s y t ≡ surplus s x t
 same_surplus s t x y lt m after before = short_surplus s y t after ∙ same_new_helpers s t x y lt m ∙ sym (short_surplus s x t before)
 
-best_same : {R : Type 0} (beats : R → R → Bool) (f g : ℕ → Option R) (n : ℕ) → ((k : ℕ) → k < n → f k ≡ g k) → best_below beats f n ≡ best_below beats g n
+pub best_same : {R : Type 0} (beats : R → R → Bool) (f g : ℕ → Option R) (n : ℕ) → ((k : ℕ) → k < n → f k ≡ g k) → best_below beats f n ≡ best_below beats g n
 best_same beats f g zero e = refl
 best_same beats f g (suc n) e = ap (λ o. better beats o (f n) n) (best_same beats f g n (λ k lt. e k (omega arith))) ∙ ap (λ r. better beats (best_below beats g n) r n) (e n (omega arith))
 

@@ -149,11 +149,14 @@ turns_between G s m n ok le good =
     (more.0, ap (λ g. b ++ g) more.1 ∙ sym (append_assoc b (in_turn f b m) more.0), more.2)
 
 -- with the turn in a place the next one begins
-pub after_own : (s : Setting) (u k : ℕ) → task_in_place s (so_far s (bounded_of s)) k ≡ Some u → up_to s (suc k) ≡ up_to s k ++ turn_in_place s (up_to s k) (Some u)
-after_own s u k e =
+pub after_place : (s : Setting) (k : ℕ) → up_to s (suc k) ≡ up_to s k ++ turn_in_place s (up_to s k) (task_in_place s (so_far s (bounded_of s)) k)
+after_place s k =
     let b = bounded_of s in
     let first = grants_of_first k s b in
-    ap (λ o. b ++ (first ++ turn_in_place s (b ++ first) o)) e ∙ sym (append_assoc b first (turn_in_place s (b ++ first) (Some u)))
+    sym (append_assoc b first (turn_in_place s (b ++ first) (task_in_place s (so_far s b) k)))
+
+pub after_own : (s : Setting) (u k : ℕ) → task_in_place s (so_far s (bounded_of s)) k ≡ Some u → up_to s (suc k) ≡ up_to s k ++ turn_in_place s (up_to s k) (Some u)
+after_own s u k e = after_place s k ∙ ap (λ o. up_to s k ++ turn_in_place s (up_to s k) o) e
 
 -- the turns before that of a task give it nothing
 pub to_place : (s : Setting) (u place : ℕ) → IsTable s.table → place_of s (so_far s (bounded_of s)) u ≡ place → EachAfter (IsStep ⊥ (ToOther u) s) (bounded_of s) (grants_of_first place s (bounded_of s))

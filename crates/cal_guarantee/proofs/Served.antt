@@ -5,7 +5,7 @@ use Rattle.cal_guarantee.proofs.Own.{thread_owner, waits_parts}
 use Rattle.cal_guarantee.proofs.FewKept.{few_kept}
 use Rattle.cal_guarantee.proofs.PassTurns.{before_turn, with_turn, first_act, the_turn, turn_state}
 use Rattle.cal_guarantee.proofs.Missed.{enough_missed, owed_missed}
-use Rattle.cal_guarantee.proofs.Coming.{act_grants}
+use Rattle.cal_guarantee.proofs.Coming.{short_acts, act_grants}
 use Rattle.cal_guarantee.proofs.Histories.{steady_after}
 
 -- an action in the middle of a list
@@ -20,7 +20,7 @@ module _ (s : Setting) (t : ℕ) (ok : IsTable s.table) (lt : t < length s.table
       let now = before_turn s t in
       let x = so_far s now in
       let parts = waits_parts s x t (turn_state s t ok lt steady waiting).1 in
-      let turn = act_grants s now t k parts.0 parts.1 taken (open_taken s x t k taken).1.1 in
+      let turn = act_grants s now t k (short_acts s now t parts.0) parts.1 taken (open_taken s x t k taken).1.1 in
       let thread = turn.0 in
       let longest = best_ranked (λ rank best. ltb best rank) (λ j. thread_rank s x (thread_of s.table t j)) (limit_of s.table t) thread turn.1 in
       let grant = Grant k.number (thread_of s.table t thread.number) (class_number k.rank) in

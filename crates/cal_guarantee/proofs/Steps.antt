@@ -183,7 +183,7 @@ bandwidth_steps U G s acts ok = either_step (IsStep U G s) acts (ltb s.table.ban
     (cut_of_step U G s acts ok (victim_of s (so_far s acts)) refl) (rise_step U G s acts _)
 
 -- the last part: what is chosen
-or_some : {X : Type 0} (o p : Option X) (k : X) → option_or o p ≡ Some k → (o ≡ Some k) ⊎ ((o ≡ None) × (p ≡ Some k))
+pub or_some : {X : Type 0} (o p : Option X) (k : X) → option_or o p ≡ Some k → (o ≡ Some k) ⊎ ((o ≡ None) × (p ≡ Some k))
 or_some None p k e = inr (refl, e)
 or_some (Some y) p k e = inl e
 
@@ -212,7 +212,7 @@ open_taken s x t k e = ⊎_elim
     (found.0, open_class_taken s x t k.number k.rank found.1))
     (or_some (best_below comes_before (owed_class s x t) s.table.cores) (best_below comes_before (open_class s x t) s.table.cores) k e)
 
-preempt_cases : (critical over : Bool) (r : CoreClass) →
+pub preempt_cases : (critical over : Bool) (r : CoreClass) →
     cond (not critical) (Some classes.BestEffortBurstable) (cond over (Some classes.LatencyCriticalBurstable) None) ≡ Some r →
     (is_idle r ≡ false) × ((critical ≡ false) ⊎ (over ≡ true))
 preempt_cases false over r e = let same : classes.BestEffortBurstable ≡ r = cc in (ap is_idle (sym same), inl refl)
@@ -320,7 +320,7 @@ pub acts_steps : (U : Type 0) (G : List Action → ℕ → Type 0) (s : Setting)
 acts_steps U G s acts t n ok own good = each_turn (IsStep U G s) (λ made act. act_in_place s made (Some t)) acts n
     (λ k lt. act_steps U G s (acts ++ acts_in_place k s (Some t) acts) t ok own (good k))
 
-none_in_turn : (s : Setting) (acts : List Action) (n : ℕ) → acts_in_place n s None acts ≡ []
+pub none_in_turn : (s : Setting) (acts : List Action) (n : ℕ) → acts_in_place n s None acts ≡ []
 none_in_turn s acts zero = refl
 none_in_turn s acts (suc n) = ap (λ l. l ++ []) (none_in_turn s acts n)
 

@@ -21,7 +21,7 @@ use Rattle.cal_guarantee.proofs.KeptAlong.{own_along, taken_open, open_free}
 use Rattle.cal_guarantee.proofs.PassTurns.{before_turn, with_turn, ToOther, others, to_place, bounded_steady, place_steady, own_turn}
 use Rattle.cal_guarantee.proofs.NoneOpen.{none_new}
 use Rattle.cal_guarantee.proofs.TurnKeeps.{turn_got}
-use Rattle.cal_guarantee.proofs.Coming.{act_is, waits_thread}
+use Rattle.cal_guarantee.proofs.Coming.{short_acts, act_is, waits_thread}
 
 each_first : {X : Type 0} (P : List X → X → Type 0) (before xs ys : List X) → EachAfter P before (xs ++ ys) → EachAfter P before xs
 each_first P before [] ys e = tt
@@ -119,7 +119,7 @@ module _ (s : Setting) (t : ℕ) (ok : IsTable s.table) (lt : t < length s.table
           let now = with_turn s t in
           let y = so_far s now in
           let parts = waits_parts s y t w in
-          let gives = act_is s now t parts.0 parts.1 ∙ ap (grant_of s t (thread_choice s y t)) e in
+          let gives = act_is s now t (short_acts s now t parts.0) parts.1 ∙ ap (grant_of s t (thread_choice s y t)) e in
           absurd (some_given s t (thread_choice s y t) k (waits_thread s y t parts.1) (sym gives ∙ none))
 
   -- it may take no open core, and where one may be revoked for it there is none

@@ -1,4 +1,5 @@
 pub mod Enough
 pub mod Example
 pub mod OnePass
+pub mod OpenCores
 pub mod WholeGuarantee

@@ -15,6 +15,6 @@ pub use guarantee::{
     first_and_last_are_enough, guarantees_are_given, guarantees_are_given_whole, the_bound_is_reached,
 };
 pub use one_pass::{
-    few_cores_are_kept, open_cores_come, owed_cores_come, short_lasts_to_the_turn,
-    waits_last_to_the_grants, waits_last_to_the_turn,
+    few_cores_are_kept, nothing_is_kept_from_everybody, open_cores_come, owed_cores_come,
+    short_lasts_to_the_turn, waits_last_to_the_grants, waits_last_to_the_turn,
 };

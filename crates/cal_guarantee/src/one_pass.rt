@@ -3,6 +3,7 @@
 ghost use Rattle.cal_guarantee.specs.OnePass.{ShortLastsToTheTurn, WaitsLastToTheGrants};
 ghost use Rattle.cal_guarantee.specs.OnePass.{WaitsLastToTheTurn, FewCoresAreKept};
 ghost use Rattle.cal_guarantee.specs.OnePass.{OpenCoresCome, OwedCoresCome};
+ghost use Rattle.cal_guarantee.specs.OpenCores.{NothingIsKeptFromEverybody};
 
 /// Whether a task is short is the same after the first part of a pass and at its own turn.
 pub fn short_lasts_to_the_turn()
@@ -37,4 +38,10 @@ pub fn open_cores_come()
 /// of the pass, the pass grants the task one.
 pub fn owed_cores_come()
     ensures { OwedCoresCome }
+{}
+
+/// Nothing is kept from everybody: if a core is open after a pass, and a task waits that was granted
+/// none in it, then the core is owed to another task, which was granted one.
+pub fn nothing_is_kept_from_everybody()
+    ensures { NothingIsKeptFromEverybody }
 {}
