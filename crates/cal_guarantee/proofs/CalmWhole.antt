@@ -8,7 +8,7 @@ use Rattle.cal_guarantee.proofs.KeptAlong.{NoGrant, AreShort, along, steady_step
 use Rattle.cal_guarantee.proofs.Unbanned.{after_unbans}
 use Rattle.cal_guarantee.proofs.Calm.{IsCalm, NoneLeaves, Rests, calm_along, calm_frees, leaves_chain}
 use Rattle.cal_guarantee.proofs.PassTurns.{before_turn, with_turn, from_freed, turn_freed, ToOther, ToShortOther, freed_steady, freed_waits, freed_steps, the_turn}
-use Rattle.cal_guarantee.proofs.Coming.{left_along}
+use Rattle.cal_guarantee.proofs.Left.{left_along}
 use Rattle.cal_guarantee.proofs.Nothing.{SteadyWithin, within_along, within_there, calm_at}
 use Rattle.cal_guarantee.proofs.Quiet.{rest_calm, all_open}
 use Rattle.cal_guarantee.proofs.TurnKeeps.{ToShortSelf}

@@ -1,6 +1,6 @@
 -- The names from outside these proofs that several of them cite, passed on from one place. Declares nothing.
 pub use Rattle.cal_assured.specs.Guarantee.{AsksOfPass, GuaranteesAreGiven, IsFreedIn, IsGiven, WasLongRevoked, is_leaving}
-pub use Rattle.cal_guarantee.specs.OnePass.{FewCoresAreKept, IsServed, OpenCoresCome, OwedCoresCome, ShortLastsToTheTurn, WaitsLastToTheGrants, WaitsLastToTheTurn}
+pub use Rattle.cal_guarantee.specs.OnePass.{FewCoresAreKept, OpenCoresCome, OwedCoresCome, ShortLastsToTheTurn, WaitsLastToTheGrants, WaitsLastToTheTurn}
 pub use Rattle.cal_machine.proofs.Booleans.{some_else, some_then, unwrap_if}
 pub use Rattle.cal_machine.proofs.ThreadNumbers.{next_le, task_in, task_there}
 pub use Rattle.cal_machine.specs.Machine.{sibling_of}

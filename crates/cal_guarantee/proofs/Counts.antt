@@ -128,14 +128,6 @@ one_less_lacks s x y u m short wait =
     omega (arith, before, all, most, none, low))
     (cases_lt (booked_by table y u) (guaranteed_of table u))
 
--- where it was not, as many are
-not_short_more : (critical : Bool) (booked guaranteed : ℕ) → (critical && ltb booked guaranteed) ≡ false → (critical && ltb (booked + 1) guaranteed) ≡ false
-not_short_more false booked guaranteed e = refl
-not_short_more true booked guaranteed e = le-ltb (booked + 1) guaranteed (let ge = ltb-false booked guaranteed e in omega (arith, ge))
-
-pub short_never : (table : Table) (x y : List Action) (u : ℕ) → booked_by table y u ≡ booked_by table x u + 1 → is_short table x u ≡ false → is_short table y u ≡ false
-short_never table x y u e not_short = ap (λ n. is_latency_critical table u && ltb n (guaranteed_of table u)) e ∙ not_short_more (is_latency_critical table u) (booked_by table x u) (guaranteed_of table u) not_short
-
 -- the open cores: a revocation of a held core, and what names no core's holder or ban
 open_at : (x y : List Action) (c : ℕ) → is_free (holder_of y c) ≡ is_free (holder_of x c) → is_banned y c ≡ is_banned x c → is_open y c ≡ is_open x c
 open_at x y c e f = ap (λ b. b && not (is_banned y c)) e ∙ ap (λ b. is_free (holder_of x c) && not b) f

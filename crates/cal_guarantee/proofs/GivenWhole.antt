@@ -6,11 +6,13 @@ use Rattle.cal_guarantee.specs.WholeGuarantee.{grants_to, granted_to, granted_be
 use Rattle.cal_guarantee.proofs.Sums.{one_if, count_same}
 use Rattle.cal_guarantee.proofs.Freed.{was_left}
 use Rattle.cal_guarantee.proofs.Calm.{IsCalm, NoneLeaves}
-use Rattle.cal_guarantee.proofs.PassTurns.{with_turn, the_turn}
+use Rattle.cal_guarantee.proofs.PassTurns.{with_turn}
 use Rattle.cal_guarantee.proofs.Histories.{acts_to, setting_in, after_pass, entry_at}
-use Rattle.cal_guarantee.proofs.OwedWhole.{owed_cores, owed_granted}
+use Rattle.cal_guarantee.specs.OnePass.{owed_cores}
+use Rattle.cal_guarantee.proofs.OwedWhole.{owed_granted}
+use Rattle.cal_guarantee.proofs.Served.{turn_part}
 use Rattle.cal_guarantee.proofs.CalmWhole.{coming_or_calm, calm_whole, none_left_whole}
-use Rattle.cal_guarantee.proofs.Whole.{left_task, left_leaving, freed_owed, in_range, steady_in, left_past, freed_last, calm_last}
+use Rattle.cal_guarantee.proofs.Windows.{left_task, left_leaving, freed_owed, in_range, steady_in, left_past, freed_last, calm_last}
 
 -- where each that passes the first test passes one of two others
 one_of_two : (a b c : Bool) → (a ≡ true → (b ≡ true) ⊎ (c ≡ true)) → one_if a ≤ one_if b + one_if c
@@ -41,43 +43,36 @@ left_each history t p (suc n) c is k le =
     let Q : ℕ → Type 0 = λ j. leaves_for t (holder_of (acts_to history (p + 1 + j)) c) ≡ true in subst Q top both.1)
     (cases_lt k (suc n))
 
-module _ (table : Table) (history : List PassEntry) (t d n p : ℕ) (w : NeedsFromTo table history t d n p) where
+module _ (table : Table) (history : List PassEntry) (t d p : ℕ) (w : WaitsFromTo table history t d p) where
   -- what a pass grants
-  granted_more : (q : ℕ) (entry : PassEntry) → slice_get history q ≡ Some entry →
+  pub granted_more : (q : ℕ) (entry : PassEntry) → slice_get history q ≡ Some entry →
       granted_before table history t (q + 1) ≡ granted_before table history t q + granted_to table t (pass_of (setting_in table history q entry))
   granted_more q entry e =
-      ap (granted_to table t) (after_pass table history q entry w.waits.legal e) ∙ sum_by-append (grants_to table t) (acts_to history q) (pass_of (setting_in table history q entry))
+      ap (granted_to table t) (after_pass table history q entry w.legal e) ∙ sum_by-append (grants_to table t) (acts_to history q) (pass_of (setting_in table history q entry))
 
   -- no fewer are granted before a later pass
-  granted_on : (q k : ℕ) → q + k ≤ p + d + 1 → granted_before table history t q ≤ granted_before table history t (q + k)
+  pub granted_on : (q k : ℕ) → q + k ≤ p + d + 1 → granted_before table history t q ≤ granted_before table history t (q + k)
   granted_on q zero to = let same : q ≡ q + 0 = omega arith in let P : ℕ → Type 0 = λ j. granted_before table history t q ≤ granted_before table history t j in subst P same (omega arith)
   granted_on q (suc k) to =
-      let found = entry_at history (q + k) (in_range table history t d p w.waits (q + k) (omega (arith, to))) in
+      let found = entry_at history (q + k) (in_range table history t d p w (q + k) (omega (arith, to))) in
       let before = granted_on q k (omega (arith, to)) in
       let more = granted_more (q + k) found.0 found.1 in
       let same : q + k + 1 ≡ q + suc k = omega arith in
       let P : ℕ → Type 0 = λ j. granted_before table history t q ≤ granted_before table history t j in
       subst P same (omega (arith, before, more))
 
-  -- the turn of the task is part of its pass
-  turn_part : (q : ℕ) (entry : PassEntry) → granted_to table t (with_turn (setting_in table history q entry) t) ≤ granted_to table t (pass_of (setting_in table history q entry))
-  turn_part q entry =
-      let s = setting_in table history q entry in
-      let turn = the_turn s t w.waits.accepted w.waits.own in
-      let whole = ap (granted_to table t) turn.pass ∙ sum_by-append (grants_to table t) (with_turn s t) turn.rest in
-      omega (arith, whole)
-
+module _ (table : Table) (history : List PassEntry) (t d n p : ℕ) (w : NeedsFromTo table history t d n p) where
   -- where fewer than n are granted in them
   module _ (less : granted_before table history t (p + d + 1) < granted_before table history t p + n) where
     -- each pass grants fewer than the task needs
     few_in : (q : ℕ) (entry : PassEntry) → p ≤ q → q ≤ p + d → slice_get history q ≡ Some entry →
         granted_to table t (with_turn (setting_in table history q entry) t) < needs_at (setting_in table history q entry) t
     few_in q entry from to e =
-        let all = granted_on (q + 1) (p + d - q) (omega (arith, to)) in
+        let all = granted_on table history t d p w.waits (q + 1) (p + d - q) (omega (arith, to)) in
         let same : q + 1 + (p + d - q) ≡ p + d + 1 = omega (arith, to) in
         let P : ℕ → Type 0 = λ j. granted_before table history t (q + 1) ≤ granted_before table history t j in
         let most = subst P same all in
-        omega (arith, most, less, granted_more q entry e, w.needs q entry from to e, turn_part q entry)
+        omega (arith, most, less, granted_more table history t d p w.waits q entry e, w.needs q entry from to e, turn_part (setting_in table history q entry) t w.waits.accepted w.waits.own)
 
     -- what is owed to it is granted to it
     freed_granted : (q : ℕ) (entry : PassEntry) → p ≤ q → q ≤ p + d → slice_get history q ≡ Some entry →
@@ -86,7 +81,7 @@ module _ (table : Table) (history : List PassEntry) (t d n p : ℕ) (w : NeedsFr
     freed_granted q entry from to e =
         let s = setting_in table history q entry in
         let owed = owed_granted s t w.waits.accepted w.waits.own (steady_in table history t d p w.waits q to) (w.waits.waiting q entry from to e) (few_in q entry from to e) in
-        omega (arith, owed, turn_part q entry, granted_more q entry e)
+        omega (arith, owed, turn_part (setting_in table history q entry) t w.waits.accepted w.waits.own, granted_more table history t d p w.waits q entry e)
 
     -- a core that was left for the task is owed to it once it is freed
     owed_once : (q c : ℕ) (entry : PassEntry) → c < table.cores → leaves_for t (holder_of (acts_to history q) c) ≡ true → was_left (setting_in table history q entry) c ≡ true →
@@ -176,7 +171,7 @@ module _ (table : Table) (history : List PassEntry) (t d n p : ℕ) (w : NeedsFr
         let C : List Action → Type 0 = λ x. coming s x t ≡ coming s (so_far s (pass_of s)) t in
         let there : count_below (left_since history t p 0) table.cores ≡ coming s (so_far s (pass_of s)) t = subst C (sym after) refl in
         let first = w.needs p found.0 (omega arith) (omega arith) found.1 in
-        omega (arith, enough, there, first, turn_part p found.0, granted_more p found.0 found.1, all_come, less))
+        omega (arith, enough, there, first, turn_part s t w.waits.accepted w.waits.own, granted_more table history t d p w.waits p found.0 found.1, all_come, less))
         (λ calm. never_calm (let C : List Action → Type 0 = λ x. IsCalm table x in subst C (sym after) calm))
         (coming_or_calm s t w.waits.accepted w.waits.own (steady_in table history t d p w.waits p (omega arith)) (w.waits.waiting p found.0 (omega arith) (omega arith) found.1)
         (few_in p found.0 (omega arith) (omega arith) found.1) (w.waits.rooms found.0 found.1))

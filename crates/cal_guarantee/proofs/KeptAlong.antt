@@ -316,12 +316,3 @@ with_along U G s t P lt other step acts more each steady waiting h =
     ))
     acts more each ((steady, same_refl s t x, (waits_parts s x t waiting).0), h) in
     (end.0.0, same_waits s t x (so_far s (acts ++ more)) lt end.0.1 waiting, end.1)
-
--- as many open cores as are lacking stay so
-pub enough_along : (U : Type 0) (G : List Action → ℕ → Type 0) (s : Setting) (t : ℕ) → t < length s.table.tasks → AreShort G s → NotTo G t →
-    (acts more : List Action) → EachAfter (IsStep U G s) acts more → IsSteady s.table (so_far s acts) → waits_short s (so_far s acts) t ≡ true → AreEnough s (so_far s acts) →
-    AreEnough s (so_far s (acts ++ more))
-enough_along U G s t lt shorts other acts more each steady waiting h =
-    (with_along U G s t (AreEnough s) lt other
-    (λ now a q st w was. enough_step U G s now a shorts q st (some_waits s (so_far s now) t lt w) was)
-    acts more each steady waiting h).2

@@ -17,10 +17,9 @@ use Rattle.cal_guarantee.proofs.Own.{IsSameFor, same_refl, same_back, same_chain
 use Rattle.cal_guarantee.proofs.FewKept.{none_taken}
 use Rattle.cal_guarantee.proofs.KeptAlong.{along, steady_step, waits_books, revoked_last, grant_owner, grant_one, new_push, IsOffTask, own_step_off, short_off}
 use Rattle.cal_guarantee.proofs.PassTurns.{up_to, before_turn, with_turn, ToAny, ToOther, others, place_is, short_first, turns_between, after_own, place_steady, bounded_steady, first_act}
-use Rattle.cal_guarantee.proofs.Coming.{act_grants}
+use Rattle.cal_guarantee.proofs.Chosen.{act_grants}
 use Rattle.cal_guarantee.proofs.Histories.{steady_after}
 use Rattle.cal_guarantee.proofs.NoneOpen.{were_between}
-use Rattle.cal_guarantee.proofs.Missed.{task_some}
 use Rattle.cal_guarantee.proofs.Looser.{IsLooser, looser_same, looser_left, looser_waits}
 use Rattle.cal_guarantee.proofs.PlacesKeep.{to_act, IsKeptFrom, places_keep, IsForCritical, IsAct, act_is_act}
 

@@ -1,5 +1,5 @@
--- Where a short task found nothing to take at its turn, no task holds more than it is guaranteed.
-use Rattle.cal_guarantee.proofs.Common.{◌≡◌, ℕ, ◌<◌, ◌≤◌, ◌⊎◌, Bool, true, false, not, ◌&&◌, cond, eqb, ltb, List, [], ◌∷◌, ◌++◌, length, Some, None, refl, ap, sym, ◌∙◌, subst, arith, inl, inr, ⊎_elim, cases_eq, cases_lt, and_from, lt-ltb, ne_eqb, is_some, option_or, Table, IsTable, owner_of, guaranteed_of, is_latency_critical, threads_of_table, Action, Free, Unban, Ban, Revoke, Cap, Grant, actions_of, holder_of, last_thread, thread_granted, placed, comes_before, placement_of, is_held_for, held_by, booked_by, is_over, Setting, so_far, has_room, is_held_with_room, frees, is_granted_in, preempt_class, IsSteady, held_le_booked, so_far_more, EachAfter, coming, lacks, is_short, waits_short, fewer_come, may_take_from, held_class, held_choice, bounded_of}
+-- Where a short task finds no core to revoke, no task holds more than it is guaranteed.
+use Rattle.cal_guarantee.proofs.Common.{◌≡◌, ℕ, ◌<◌, ◌≤◌, ◌⊎◌, Bool, true, false, not, ◌&&◌, cond, eqb, ltb, List, [], ◌∷◌, ◌++◌, length, Some, None, refl, ap, sym, ◌∙◌, subst, arith, inl, inr, ⊎_elim, cases_eq, cases_lt, and_from, lt-ltb, ne_eqb, is_some, option_or, Table, IsTable, owner_of, guaranteed_of, is_latency_critical, threads_of_table, Action, Free, Unban, Ban, Revoke, Cap, Grant, actions_of, holder_of, last_thread, thread_granted, placed, comes_before, placement_of, is_held_for, held_by, booked_by, is_over, Setting, so_far, has_room, is_held_with_room, frees, is_granted_in, preempt_class, IsSteady, held_le_booked, so_far_more, EachAfter, is_short, waits_short, fewer_come, may_take_from, held_class, held_choice, bounded_of}
 use Rattle.std.proofs.lemmas.Bool.{or_right}
 use Rattle.cal_policy.specs.declared.history.core_class.CoreClass.TheVariants as classes
 use Rattle.cal_policy.specs.declared.board.holders.Placement as placements
@@ -7,13 +7,12 @@ use Rattle.cal_policy.specs.declared.board.holders.Holder.TheVariants as holders
 use Rattle.cal_guarantee.proofs.Sums.{some_counted}
 use Rattle.cal_guarantee.proofs.Holders.{Stays, moves_revoke, moves_grant, stays_unban, stays_ban, stays_cap}
 use Rattle.cal_guarantee.proofs.Steps.{IsStep, held_of}
-use Rattle.cal_guarantee.proofs.Counts.{books_stay, books_left, short_parts, lacks_short}
-use Rattle.cal_guarantee.proofs.Own.{waits_parts}
+use Rattle.cal_guarantee.proofs.Counts.{books_stay, books_left, short_parts}
 use Rattle.cal_guarantee.proofs.FewKept.{best_missing}
 use Rattle.cal_guarantee.proofs.KeptAlong.{AreShort, along_acts, steady_step, revoked_last, grant_one, grant_owner}
 use Rattle.cal_guarantee.proofs.NoneGranted.{granted_push, none_granted}
 use Rattle.cal_guarantee.proofs.Calm.{IsCalm}
-use Rattle.cal_guarantee.proofs.PassTurns.{before_turn, from_freed, turn_freed, ToShortOther, freed_steady, freed_steps, turn_state}
+use Rattle.cal_guarantee.proofs.PassTurns.{before_turn, from_freed, turn_freed, ToShortOther, freed_steady, freed_steps}
 
 -- task u is latency-critical and books no more than it is guaranteed
 abbrev pub IsWithin : Table → List Action → ℕ → Type 0
@@ -162,12 +161,3 @@ module _ (s : Setting) (t : ℕ) (ok : IsTable s.table) (lt : t < length s.table
       let end = within_along (Unit {0}) (ToShortOther s t) s (λ acts u g. g.1) (frees s []) (from_freed s t)
       (freed_steps s t ok lt steady waiting) (freed_steady s t ok lt steady waiting, start) in
       subst (SteadyWithin s) (sym (turn_freed s t)) end
-
-  pub nothing_calm : ((k : ℕ) → k < threads_of_table s.table → has_room s k ≡ true) → held_choice s (before_turn s t) t ≡ None → coming s (so_far s (before_turn s t)) t ≡ 0 →
-      IsCalm s.table (so_far s (before_turn s t))
-  nothing_calm rooms nothing none_comes =
-      let x = so_far s (before_turn s t) in
-      let short = (waits_parts s x t (turn_state s t ok lt steady waiting).1).0 in
-      let lacked = lacks_short s.table x t short in
-      let low_books = (short_parts s.table x t short).1 in
-      calm_at s t (before_turn s t) short within_there rooms nothing (lt-ltb (coming s x t) (lacks s.table x t) (omega (arith, none_comes, lacked, low_books)))

@@ -8,6 +8,7 @@ use Rattle.cal_policy.proofs.AssuredLemmas.BooksNoMore.{Moves}
 use Rattle.cal_policy.proofs.AssuredLemmas.TurnOrder.{tasks_placed}
 use Rattle.cal_assured.specs.Laws.{is_open_for, owed_open}
 use Rattle.cal_assured.proofs.OwedTaken.{owed_taken}
+use Rattle.cal_guarantee.specs.OnePass.{owed_cores}
 use Rattle.cal_guarantee.specs.WholeGuarantee.{grants_to, granted_to, needs_at}
 use Rattle.cal_guarantee.proofs.Sums.{count_same, none_counts}
 use Rattle.cal_guarantee.proofs.Holders.{owed_push}
@@ -19,13 +20,9 @@ use Rattle.cal_guarantee.proofs.KeptAlong.{NoGrant, NotTo, AreShort, AreEnough, 
 use Rattle.cal_guarantee.proofs.Unbanned.{NoneBannedBelow, after_unbans}
 use Rattle.cal_guarantee.proofs.PassTurns.{before_turn, with_turn, freed_needs, to_turn, turn_late, ToShortOther, short_others, never_granted, freed_steady, freed_waits, unbanned_state, turn_steps, turn_state}
 use Rattle.cal_guarantee.proofs.NoneOpen.{owed_off, revoked_off}
-use Rattle.cal_guarantee.proofs.Missed.{owed_free, task_some}
+use Rattle.cal_guarantee.proofs.OwedFree.{owed_free, task_some}
 use Rattle.cal_guarantee.proofs.TurnKeeps.{ToShortSelf, IsKeptByActs, turn_keeps}
 use Rattle.cal_guarantee.proofs.TurnEnds.{short_there, needs_there, turn_begins, short_still, waits_still, none_open_still}
-
--- so many cores are owed to task t
-abbrev pub owed_cores : Setting → ℕ → List Action → ℕ
-owed_cores s t x = owed_below x t s.table.cores
 
 -- each core that is owed to the task is open
 abbrev AreOpen : Setting → ℕ → List Action → Type 0

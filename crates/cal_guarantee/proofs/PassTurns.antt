@@ -3,7 +3,7 @@
 use Rattle.cal_guarantee.proofs.Common.{◌≡◌, ℕ, ◌<◌, ◌≤◌, Bool, true, false, cond, eqb, ltb, List, [], ◌++◌, length, Some, refl, ap, sym, ◌∙◌, subst, arith, ⊎_elim, append_assoc, zero, suc, append-nil, cases_Bool, cases_lt, eqb-true, lt-ltb, IsTable, is_latency_critical, Action, actions_of, in_turn, Setting, so_far, frees, EachAfter, IsSteady, lowest_passes, each_append, unbans, bans, is_short, needs, waits_short, group_of, goes_before, place_of, task_in_place, act_of, act_in_place, turn_in_place, grants_of_first, grants, unbanned_of, bounded_of, pass_of}
 use Rattle.cal_policy.specs.Pass.Bandwidth.{bandwidth_part}
 use Rattle.cal_policy.proofs.AssuredLemmas.TurnOrder.{tasks_placed, place_lower}
-use Rattle.cal_guarantee.proofs.Steps.{IsStep, IsGoodTurn, unbans_steps, bans_steps, bandwidth_steps, act_steps, acts_steps, grants_steps, place_step}
+use Rattle.cal_guarantee.proofs.Steps.{IsStep, IsGoodTurn, unbans_steps, bans_steps, bandwidth_steps, act_steps, grants_steps, place_step}
 use Rattle.cal_guarantee.proofs.Acting.{acts_short}
 use Rattle.cal_guarantee.proofs.Counts.{short_same}
 use Rattle.cal_guarantee.proofs.Own.{IsSameFor, same_back, same_needs, same_waits, waits_parts}
@@ -186,11 +186,7 @@ the_rest G s t ok lt good =
       each = subst P upto more.2;
     }
 
--- the turn itself
-pub turn_itself : (s : Setting) (t : ℕ) → IsTable s.table → t < length s.table.tasks → EachAfter (IsStep ⊥ ToAny s) (before_turn s t) (turn_in_place s (before_turn s t) (Some t))
-turn_itself s t ok lt = acts_steps ⊥ ToAny s (before_turn s t) t s.table.cores ok lt (λ n core low may taken. tt)
-
--- and after its first act
+-- the turn, after its first act
 pub record IsActed (s : Setting) (t : ℕ) : Type 0 where
   pub rest : List Action
   pub turn : with_turn s t ≡ (before_turn s t ++ act_of s (before_turn s t) t) ++ rest

@@ -1,6 +1,6 @@
--- A pass that finds nothing to take leaves all calm; and where nothing is being left after the first
--- part, the next finds a core.
-use Rattle.cal_guarantee.proofs.Common.{◌≡◌, ℕ, ◌+◌, ◌<◌, ◌≤◌, true, false, not, List, [], ◌∷◌, ◌++◌, length, take, Some, None, refl, ap, sym, ◌∙◌, subst, arith, ⊎_elim, zero, suc, append-nil, cases_Bool, and_from, eq-eqb, not-true, false_from_ne_true, Table, IsTable, no_task, owner_of, guaranteed_of, Action, Holder, actions_of, holder_of, is_banned, is_free, is_held_for, held_by, Setting, so_far, sum_below, frees, EachAfter, IsSteady, held_le_booked, is_leaving, unbans, lowest_passes, eqb, is_short, lacks, lacks_waiting, is_open, waits_short, open_choice, task_in_place, place_of, acts_in_place, turn_in_place, unbanned_of, bounded_of, pass_of}
+-- All stays calm after the turn of a short task that may take no open core; and where nothing is being left
+-- and no free core is banned, as many cores are open as are lacking.
+use Rattle.cal_guarantee.proofs.Common.{◌≡◌, ℕ, ◌+◌, ◌<◌, ◌≤◌, true, false, not, List, ◌++◌, length, take, Some, None, refl, ap, sym, ◌∙◌, subst, arith, ⊎_elim, zero, suc, cases_Bool, and_from, eq-eqb, not-true, false_from_ne_true, Table, IsTable, no_task, owner_of, guaranteed_of, Action, Holder, actions_of, holder_of, is_banned, is_free, is_held_for, held_by, Setting, so_far, sum_below, IsSteady, held_le_booked, is_leaving, lowest_passes, eqb, is_short, lacks, lacks_waiting, is_open, open_choice, task_in_place, place_of, acts_in_place, bounded_of, pass_of}
 use Rattle.std.proofs.lemmas.List.Sums.{sum_by_more, sum_by-take-le}
 use Rattle.std.specs.Prelude.{sum_by}
 use Rattle.cal_policy.specs.declared.board.holders.Placement as placements
@@ -8,17 +8,14 @@ use Rattle.cal_policy.specs.declared.board.holders.Holder.TheVariants as holders
 use Rattle.cal_policy.proofs.ListLemmas.OneNumberMore.{count_both}
 use Rattle.cal_policy.proofs.AssuredLemmas.TurnOrder.{tasks_placed, place_lower}
 use Rattle.cal_guarantee.proofs.Sums.{sum_le, sum_add, covered}
-use Rattle.cal_guarantee.proofs.Steps.{IsStep, IsGoodTurn, acts_steps, unbans_steps}
+use Rattle.cal_guarantee.proofs.Steps.{IsGoodTurn, acts_steps}
 use Rattle.cal_guarantee.proofs.Acting.{acts_short}
 use Rattle.cal_guarantee.proofs.Counts.{lacks_short, lacks_none, waiting_most}
-use Rattle.cal_guarantee.proofs.Own.{waits_parts}
-use Rattle.cal_guarantee.proofs.KeptAlong.{NoGrant, AreEnough, taken_open}
-use Rattle.cal_guarantee.proofs.Unbanned.{NoneBannedBelow, after_unbans}
-use Rattle.cal_guarantee.proofs.Calm.{IsCalm, NoneLeaves, Rests, held_owner, calm_along, calm_choice, calm_frees, leaves_refl, leaves_chain}
-use Rattle.cal_guarantee.proofs.PassTurns.{up_to, before_turn, with_turn, from_freed, turn_freed, ToAny, ToShortOther, short_first, place_is, after_own, place_steady, own_turn, freed_steady, freed_waits, freed_steps, turn_state, the_rest}
+use Rattle.cal_guarantee.proofs.KeptAlong.{AreEnough, taken_open}
+use Rattle.cal_guarantee.proofs.Unbanned.{NoneBannedBelow}
+use Rattle.cal_guarantee.proofs.Calm.{IsCalm, NoneLeaves, held_owner, calm_along}
+use Rattle.cal_guarantee.proofs.PassTurns.{up_to, with_turn, ToAny, ToShortOther, short_first, place_is, after_own, place_steady, own_turn, the_rest}
 use Rattle.cal_guarantee.proofs.NoneOpen.{were_along, none_open}
-use Rattle.cal_guarantee.proofs.Missed.{enough_missed}
-use Rattle.cal_guarantee.proofs.Coming.{nothing_from}
 
 -- after the turn of a short task that may take no open core
 module _ (s : Setting) (t : ℕ) (ok : IsTable s.table) (lt : t < length s.table.tasks) (steady : IsSteady s.table (actions_of s.history))
@@ -57,40 +54,6 @@ module _ (s : Setting) (t : ℕ) (ok : IsTable s.table) (lt : t < length s.table
       let end = calm_along ⊥ (ToShortOther s t) s (λ acts core thread g. g.good.1) now turn.rest turn.each st calm in
       let P : List Action → Type 0 = λ all. IsCalm s.table (so_far s all) × NoneLeaves (so_far s now) (so_far s all) in
       subst P (sym turn.pass) (end.1, end.2)
-
-module _ (s : Setting) (t : ℕ) (ok : IsTable s.table) (lt : t < length s.table.tasks) (steady : IsSteady s.table (actions_of s.history))
-    (waiting : waits_short s (so_far s (bounded_of s)) t ≡ true) (none : open_choice s (so_far s (before_turn s t)) t ≡ None) where
-  -- from a turn that is empty to the end of the pass
-  pub idle_calm : turn_in_place s (before_turn s t) (Some t) ≡ [] → IsCalm s.table (so_far s (before_turn s t)) →
-      IsCalm s.table (so_far s (pass_of s)) × NoneLeaves (so_far s (before_turn s t)) (so_far s (pass_of s))
-  idle_calm idle calm =
-      let now = before_turn s t in
-      let state = turn_state s t ok lt steady waiting in
-      let short = (waits_parts s (so_far s now) t state.1).0 in
-      let here : with_turn s t ≡ now = ap (λ more. now ++ more) idle ∙ append-nil now in
-      let S : List Action → Type 0 = λ acts. is_short s.table (so_far s acts) t ≡ true in
-      let N : List Action → Type 0 = λ acts. open_choice s (so_far s acts) t ≡ None in
-      let C : List Action → Type 0 = λ acts. IsCalm s.table (so_far s acts) in
-      let T : List Action → Type 0 = λ acts. IsSteady s.table (so_far s acts) in
-      let P : List Action → Type 0 = λ acts. IsCalm s.table (so_far s (pass_of s)) × NoneLeaves (so_far s acts) (so_far s (pass_of s)) in
-      let back = sym here in
-      subst P here (rest_calm s t ok lt steady (subst S back short) (subst N back none) (subst C back calm) (subst T back state.0))
-
-  -- from the beginning to the end
-  pub quiet_pass : IsCalm s.table (actions_of s.history) → IsCalm s.table (so_far s (pass_of s)) × NoneLeaves (actions_of s.history) (so_far s (pass_of s))
-  quiet_pass calm =
-      let h = actions_of s.history in
-      let x = so_far s (frees s []) in
-      let first = calm_frees s calm in
-      let end = calm_along (Unit {0}) (ToShortOther s t) s (λ acts core thread g. g.good.1) (frees s []) (from_freed s t) (freed_steps s t ok lt steady waiting)
-      (freed_steady s t ok lt steady waiting) first.0 in
-      let P : List Action → Type 0 = λ now. Rests s.table x (so_far s now) in
-      let there : Rests s.table x (so_far s (before_turn s t)) = subst P (sym (turn_freed s t)) end in
-      let nothing = nothing_from s t ok lt steady waiting none (calm_choice s (before_turn s t) t ok there.0 there.1) in
-      let rest = idle_calm nothing.1 there.1 in
-      let y = so_far s (before_turn s t) in
-      let z = so_far s (pass_of s) in
-      (rest.0, leaves_chain h y z (leaves_chain h x y first.1 there.2) rest.1)
 
 -- what the tasks are guaranteed in all
 abbrev sum_of : Table → ℕ → ℕ
@@ -143,17 +106,3 @@ all_open s x ok steady calm stays below =
     let each = sum_le (λ u. lacks_waiting s x u + held_by table x u) (guaranteed_of table) m
     (λ u low. omega (arith, waiting_most s x u, lacks_held table x u (calm.within u low))) in
     omega (arith, both, held, split, each, guaranteed_all table ok)
-
--- a pass that begins calm, and after whose first part nothing is being left, does not miss the task
-pub none_left : (s : Setting) (t : ℕ) (ok : IsTable s.table) (lt : t < length s.table.tasks) (steady : IsSteady s.table (actions_of s.history)) →
-    (waiting : waits_short s (so_far s (bounded_of s)) t ≡ true) → open_choice s (so_far s (before_turn s t)) t ≡ None → IsCalm s.table (actions_of s.history) →
-    ((c : ℕ) → c < s.table.cores → is_leaving (holder_of (so_far s (frees s [])) c) ≡ true → ⊥) → ⊥
-none_left s t ok lt steady waiting none calm gone =
-    let first = freed_steady s t ok lt steady waiting in
-    let first_waits = freed_waits s t ok lt steady waiting in
-    let x = so_far s (unbanned_of s) in
-    let end = calm_along (Unit {0}) NoGrant s (λ acts core thread g. absurd g.good) (frees s []) (unbans s (frees s [])) (unbans_steps (Unit {0}) NoGrant s (frees s []) tt) first (calm_frees s calm).0 in
-    enough_missed s t ok lt steady waiting none (⊎_elim
-    (λ enough. enough)
-    (λ below. all_open s x ok end.0 end.1 (λ c low. false_from_ne_true (is_leaving (holder_of x c)) (λ is. gone c low (end.2.before c is))) below)
-    (after_unbans s t (frees s []) lt first first_waits))

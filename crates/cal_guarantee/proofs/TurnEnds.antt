@@ -21,7 +21,7 @@ use Rattle.cal_guarantee.proofs.KeptAlong.{own_along, taken_open, open_free}
 use Rattle.cal_guarantee.proofs.PassTurns.{before_turn, with_turn, ToOther, others, to_place, bounded_steady, place_steady, own_turn}
 use Rattle.cal_guarantee.proofs.NoneOpen.{none_new}
 use Rattle.cal_guarantee.proofs.TurnKeeps.{turn_got}
-use Rattle.cal_guarantee.proofs.Coming.{short_acts, act_is, waits_thread}
+use Rattle.cal_guarantee.proofs.Chosen.{short_acts, act_is, waits_thread}
 
 each_first : {X : Type 0} (P : List X → X → Type 0) (before xs ys : List X) → EachAfter P before (xs ++ ys) → EachAfter P before xs
 each_first P before [] ys e = tt

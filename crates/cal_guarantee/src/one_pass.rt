@@ -28,14 +28,14 @@ pub fn few_cores_are_kept()
 {}
 
 /// A task is short and waits where the grants begin. If as many cores were open as were lacking
-/// after the second part of the pass, the pass grants the task one: no ban takes a core that is
-/// lacking, and neither does a task that is not short.
+/// after the second part of the pass, the pass grants the task as many as it needs: no ban takes a
+/// core that is lacking, and neither does a task that is not short.
 pub fn open_cores_come()
     ensures { OpenCoresCome }
 {}
 
-/// A task is short and waits where the grants begin. If a core was owed to it after the first part
-/// of the pass, the pass grants the task one.
+/// A task is short and waits where the grants begin. Of the cores that were owed to it after the first
+/// part of the pass, the pass grants it as many as it needs, or as many as there were.
 pub fn owed_cores_come()
     ensures { OwedCoresCome }
 {}
