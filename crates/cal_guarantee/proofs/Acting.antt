@@ -1,9 +1,6 @@
 -- A task that is short where its turn begins is short wherever it acts in it.
-use Rattle.cal_guarantee.proofs.Common.{◌≡◌, ℕ, ◌<◌, ◌⊎◌, Bool, true, false, not, ◌&&◌, ◌||◌, cond, ltb, List, [], ◌∷◌, ◌++◌, Option, Some, None, refl, ap, sym, ◌∙◌, subst, arith, inl, inr, ⊎_elim, append_assoc, zero, suc, append-nil, and_from, or_left, lt-ltb, eq-eqb, thread_of, limit_of, Action, Revoke, Grant, CoreClass, Candidate, class_number, is_idle, Setting, so_far, grant_of, thread_choice, thread_rank, best_ranked, is_short, waits, choice_for, has_acted, may_act, act_of, acts_in_place}
-use Rattle.std.proofs.lemmas.Bool.{le-leb, or_right}
+use Rattle.cal_guarantee.proofs.Common.{◌≡◌, ℕ, ◌<◌, ◌⊎◌, Bool, true, false, not, ◌&&◌, ◌||◌, cond, ltb, List, [], ◌∷◌, ◌++◌, Option, Some, None, refl, ap, sym, ◌∙◌, subst, arith, inl, inr, ⊎_elim, append_assoc, zero, suc, append-nil, and_from, or_left, lt-ltb, eq-eqb, le-leb, or_right, thread_of, limit_of, Action, Revoke, Grant, CoreClass, Candidate, class_number, is_idle, Setting, so_far, grant_of, thread_choice, thread_rank, best_ranked, is_short, waits, choice_for, has_acted, is_own, may_act, act_of, acts_in_place, acted_more}
 use Rattle.cal_policy.specs.declared.history.action.Cause.TheVariants as causes
-use Rattle.cal_policy.specs.Assured.Acted.{is_own}
-use Rattle.cal_policy.proofs.AssuredLemmas.Acts.{acted_more}
 
 -- an act is of the task, where it is one at all
 abbrev IsItsAct : Setting → ℕ → List Action → Type 0

@@ -1,6 +1,6 @@
 -- While no task holds more than it is guaranteed, no core is revoked; and so it stays where only short
 -- tasks are granted cores.
-use Rattle.cal_guarantee.proofs.Common.{◌≡◌, ℕ, ◌<◌, ◌≤◌, ◌⊎◌, Bool, true, false, cond, eqb, List, [], ◌∷◌, ◌++◌, length, Option, Some, None, refl, ap, sym, ◌∙◌, arith, inl, inr, cases_eq, ne_eqb, Table, IsTable, owner_of, guaranteed_of, task_in, Action, Free, Unban, Ban, Revoke, Cap, Grant, CoreClass, Candidate, Holder, actions_of, holder_of, placed, placement_of, is_free, is_held_for, held_by, Setting, so_far, frees, EachAfter, IsSteady, count_le, held_le_booked, is_leaving, is_short, held_choice}
+use Rattle.cal_guarantee.proofs.Common.{◌≡◌, ℕ, ◌<◌, ◌≤◌, ◌⊎◌, Bool, true, false, cond, eqb, List, [], ◌∷◌, ◌++◌, length, refl, ap, sym, ◌∙◌, arith, inl, inr, cases_eq, ne_eqb, Table, owner_of, guaranteed_of, task_in, Action, Free, Unban, Ban, Revoke, Cap, Grant, Holder, actions_of, holder_of, placed, placement_of, is_free, is_held_for, held_by, Setting, so_far, frees, EachAfter, IsSteady, count_le, held_le_booked, is_leaving, is_short}
 use Rattle.cal_policy.specs.declared.board.holders.Placement as placements
 use Rattle.cal_policy.specs.declared.board.holders.Holder.TheVariants as holders
 use Rattle.cal_guarantee.proofs.Holders.{Stays, moved_same, stays_same, moves_grant, stays_unban, stays_ban, stays_cap}

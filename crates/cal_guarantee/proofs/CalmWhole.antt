@@ -1,7 +1,6 @@
 -- A pass that grants a short task fewer cores than it needs leaves as many coming to it as it needs more, or
 -- all calm; and it does not where all was calm and nothing was being left.
-use Rattle.cal_guarantee.proofs.Common.{◌≡◌, ℕ, ◌+◌, ◌<◌, ◌≤◌, ◌⊎◌, true, List, [], ◌++◌, length, Some, None, refl, ap, sym, ◌∙◌, subst, arith, inl, inr, ⊎_elim, false_from_ne_true, IsTable, threads_of_table, Action, actions_of, holder_of, Setting, so_far, has_room, frees, EachAfter, IsSteady, count_le, is_leaving, unbans, leaves_for, coming, is_short, waits_short, fewer_come, held_choice, unbanned_of, bounded_of, pass_of, turn_in_place, acts_in_place}
-use Rattle.cal_guarantee.specs.WholeGuarantee.{granted_to, needs_at}
+use Rattle.cal_guarantee.proofs.Common.{◌≡◌, ℕ, ◌+◌, ◌<◌, ◌≤◌, ◌⊎◌, true, List, [], ◌++◌, length, Some, refl, ap, sym, ◌∙◌, subst, arith, inl, inr, ⊎_elim, false_from_ne_true, IsTable, threads_of_table, Action, actions_of, holder_of, Setting, so_far, has_room, frees, EachAfter, IsSteady, count_le, is_leaving, unbans, leaves_for, coming, is_short, waits_short, unbanned_of, bounded_of, pass_of, turn_in_place, granted_to, needs_at}
 use Rattle.cal_guarantee.proofs.Steps.{IsStep, acts_steps, unbans_steps}
 use Rattle.cal_guarantee.proofs.Acting.{acts_short}
 use Rattle.cal_guarantee.proofs.KeptAlong.{NoGrant, AreShort, along, steady_step}
@@ -9,7 +8,7 @@ use Rattle.cal_guarantee.proofs.Unbanned.{after_unbans}
 use Rattle.cal_guarantee.proofs.Calm.{IsCalm, NoneLeaves, Rests, calm_along, calm_frees, leaves_chain}
 use Rattle.cal_guarantee.proofs.PassTurns.{before_turn, with_turn, from_freed, turn_freed, ToOther, ToShortOther, freed_steady, freed_waits, freed_steps, the_turn}
 use Rattle.cal_guarantee.proofs.Left.{left_along}
-use Rattle.cal_guarantee.proofs.Nothing.{SteadyWithin, within_along, within_there, calm_at}
+use Rattle.cal_guarantee.proofs.Nothing.{within_along, within_there, calm_at}
 use Rattle.cal_guarantee.proofs.Quiet.{rest_calm, all_open}
 use Rattle.cal_guarantee.proofs.TurnKeeps.{ToShortSelf}
 use Rattle.cal_guarantee.proofs.TurnEnds.{short_there, turn_begins, short_still, none_open_still, coming_or_none}

@@ -1,5 +1,5 @@
 -- An act of a task, by what is chosen for it.
-use Rattle.cal_guarantee.proofs.Common.{◌≡◌, ℕ, true, ◌&&◌, cond, ltb, List, [], ◌∷◌, Option, Some, None, refl, ap, ◌∙◌, and_parts, and_from, or_left, not, is_some, option_or, thread_of, Action, Grant, CoreClass, Candidate, class_number, is_idle, Setting, so_far, thread_choice, grant_of, may_book, pressing, is_short, surplus, waits, open_choice, held_choice, may_preempt, choice_for, has_acted, may_act, act_of}
+use Rattle.cal_guarantee.proofs.Common.{◌≡◌, ℕ, true, ◌&&◌, cond, ltb, List, [], ◌∷◌, Option, Some, None, refl, ap, ◌∙◌, not, and_parts, and_from, or_left, is_some, option_or, thread_of, Action, Grant, CoreClass, Candidate, class_number, is_idle, Setting, so_far, thread_choice, grant_of, may_book, pressing, is_short, surplus, waits, open_choice, held_choice, may_preempt, choice_for, has_acted, may_act, act_of}
 
 -- a short task may act
 pub short_acts : (s : Setting) (acts : List Action) (t : ℕ) → is_short s.table (so_far s acts) t ≡ true → may_act s acts t ≡ true

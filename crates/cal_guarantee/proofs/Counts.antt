@@ -1,6 +1,5 @@
 -- What one more action does to what tasks book and lack, and to the open cores.
-use Rattle.cal_guarantee.proofs.Common.{◌≡◌, ℕ, ◌+◌, ◌-◌, ◌<◌, ◌≤◌, ◌⊎◌, Bool, true, false, not, ◌&&◌, cond, eqb, ltb, List, [], ◌∷◌, ◌++◌, length, Some, None, refl, ap, sym, ◌∙◌, arith, inl, inr, subst, zero, suc, ⊎_elim, cases_eq, cases_lt, and_parts, and_from, and_left, and_right, eq-eqb, ne_eqb, ltb-true, ltb-false, lt-ltb, le-ltb, not-true, is_some, unwrap_or, Table, owner_of, guaranteed_of, is_latency_critical, Action, Unban, Ban, Revoke, Cap, Grant, Holder, holder_of, ban_of, is_banned, last_placement, placed, is_free, is_booked_for, booked_by, sum_below, Setting, holder_push, ban_push, count_le, count_le_one, is_short, lacks, lacks_waiting, lacking, is_open, open_cores, waits}
-use Rattle.cal_policy.specs.declared.history.action.Cause.{Cause}
+use Rattle.cal_guarantee.proofs.Common.{◌≡◌, ℕ, ◌+◌, ◌-◌, ◌<◌, ◌≤◌, ◌⊎◌, Bool, true, false, not, ◌&&◌, cond, eqb, ltb, List, [], ◌∷◌, ◌++◌, length, Some, None, refl, ap, sym, ◌∙◌, arith, inl, inr, subst, zero, suc, ⊎_elim, cases_eq, cases_lt, and_parts, and_from, and_left, and_right, eq-eqb, ne_eqb, ltb-true, ltb-false, lt-ltb, le-ltb, not-true, is_some, unwrap_or, Table, owner_of, guaranteed_of, is_latency_critical, Action, Unban, Ban, Revoke, Cap, Grant, Holder, holder_of, ban_of, is_banned, last_placement, placed, is_free, is_booked_for, booked_by, sum_below, Setting, holder_push, ban_push, count_le, count_le_one, is_short, lacks, lacks_waiting, lacking, is_open, open_cores, waits, Cause}
 use Rattle.cal_policy.specs.declared.board.holders.Placement as placements
 use Rattle.cal_policy.specs.declared.board.holders.Holder.TheVariants as holders
 use Rattle.cal_guarantee.proofs.Sums.{one_if, sum_le, count_same, count_but_one}

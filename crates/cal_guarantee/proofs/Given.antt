@@ -1,8 +1,5 @@
 -- A guarantee is given: a task that waits through the passes needs a core in each of them.
-use Rattle.cal_guarantee.proofs.Common.{◌≡◌, ℕ, ◌+◌, ◌-◌, ◌<◌, ◌≤◌, ◌⊎◌, Bool, true, false, ◌&&◌, cond, eqb, ltb, List, [], ◌∷◌, length, Option, Some, None, slice_get, refl, ap, sym, ◌∙◌, subst, arith, ⊎_elim, zero, suc, cases_lt, and_parts, eqb-true, ltb-true, is_some, Table, owner_of, thread_of, limit_of, Action, Free, Unban, Ban, Revoke, Cap, Grant, PassEntry, Candidate, Setting, so_far, thread_choice, thread_rank, may_book, best_ranked, pressing, is_short, lacks, surplus, waits, waits_short, spare, needs, bounded_of, pass_of, IsGiven, GuaranteesAreGiven}
-use Rattle.std.proofs.lemmas.List.Sums.{sum_by-cons}
-use Rattle.cal_guarantee.specs.Enough.{WaitsFromTo, FirstAndLastAreEnough}
-use Rattle.cal_guarantee.specs.WholeGuarantee.{grants_to, granted_to, granted_before, NeedsFromTo}
+use Rattle.cal_guarantee.proofs.Common.{◌≡◌, ℕ, ◌+◌, ◌-◌, ◌<◌, ◌≤◌, Bool, true, false, ◌&&◌, cond, eqb, ltb, List, [], ◌∷◌, Option, Some, None, slice_get, refl, ap, ◌∙◌, subst, arith, ⊎_elim, zero, suc, cases_lt, and_parts, eqb-true, ltb-true, is_some, Table, owner_of, thread_of, limit_of, Action, Free, Unban, Ban, Revoke, Cap, Grant, PassEntry, Candidate, Setting, so_far, thread_choice, thread_rank, may_book, best_ranked, pressing, surplus, waits, waits_short, spare, needs, bounded_of, pass_of, IsGiven, GuaranteesAreGiven, sum_by-cons, WaitsFromTo, FirstAndLastAreEnough, grants_to, granted_to, granted_before, NeedsFromTo}
 use Rattle.cal_guarantee.proofs.Sums.{count_some}
 use Rattle.cal_guarantee.proofs.Counts.{lacks_short, short_parts}
 use Rattle.cal_guarantee.proofs.Own.{waits_parts}

@@ -1,14 +1,10 @@
 -- A guarantee is given, whole: the passes together.
-use Rattle.cal_guarantee.proofs.Common.{◌≡◌, ℕ, ◌+◌, ◌-◌, ◌<◌, ◌≤◌, ◌⊎◌, Bool, true, false, ◌&&◌, cond, List, [], ◌∷◌, ◌++◌, length, Some, slice_get, refl, ap, sym, ◌∙◌, subst, arith, inl, inr, ⊎_elim, zero, suc, cases_lt, cases_Bool, and_parts, and_from, eq-eqb, Table, Action, PassEntry, actions_of, holder_of, Setting, so_far, frees, IsSteady, count_below, leaves_for, coming, is_task, left_for, owed_to, pass_of}
-use Rattle.std.proofs.lemmas.List.Sums.{sum_by-append}
-use Rattle.cal_guarantee.specs.Enough.{WaitsFromTo}
-use Rattle.cal_guarantee.specs.WholeGuarantee.{grants_to, granted_to, granted_before, needs_at, NeedsFromTo, GuaranteesAreGivenWhole}
-use Rattle.cal_guarantee.proofs.Sums.{one_if, count_same}
+use Rattle.cal_guarantee.proofs.Common.{◌≡◌, ℕ, ◌+◌, ◌-◌, ◌<◌, ◌≤◌, ◌⊎◌, Bool, true, false, ◌&&◌, List, [], Some, slice_get, refl, ap, sym, ◌∙◌, subst, arith, inl, inr, ⊎_elim, zero, suc, cases_lt, cases_Bool, and_parts, and_from, eq-eqb, Table, Action, PassEntry, holder_of, so_far, frees, count_below, leaves_for, coming, is_task, owed_to, pass_of, sum_by-append, WaitsFromTo, grants_to, granted_to, granted_before, needs_at, NeedsFromTo, GuaranteesAreGivenWhole, owed_cores}
+use Rattle.cal_guarantee.proofs.Sums.{one_if}
 use Rattle.cal_guarantee.proofs.Freed.{was_left}
 use Rattle.cal_guarantee.proofs.Calm.{IsCalm, NoneLeaves}
 use Rattle.cal_guarantee.proofs.PassTurns.{with_turn}
 use Rattle.cal_guarantee.proofs.Histories.{acts_to, setting_in, after_pass, entry_at}
-use Rattle.cal_guarantee.specs.OnePass.{owed_cores}
 use Rattle.cal_guarantee.proofs.OwedWhole.{owed_granted}
 use Rattle.cal_guarantee.proofs.Served.{turn_part}
 use Rattle.cal_guarantee.proofs.CalmWhole.{coming_or_calm, calm_whole, none_left_whole}

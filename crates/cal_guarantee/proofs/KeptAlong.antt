@@ -1,8 +1,7 @@
 -- What holds along the actions of a pass, where each keeps it.
-use Rattle.cal_guarantee.proofs.Common.{◌≡◌, ℕ, ◌<◌, ◌≤◌, Bool, true, false, not, ◌&&◌, ◌||◌, cond, eqb, ltb, leb, List, [], ◌∷◌, ◌++◌, length, Some, None, refl, ap, sym, ◌∙◌, subst, arith, ⊎_elim, append_assoc, append-nil, cases_Bool, and_parts, and_from, false_from_ne_true, eqb-true, ne_eqb, ltb-true, leb-false, not-true, Table, owner_of, limit_of, guaranteed_of, is_latency_critical, threads_of_table, next_le, Action, Free, Unban, Ban, Revoke, Cap, Grant, holder_of, is_banned, last_placement, last_thread, thread_granted, placed, placement_of, is_free, is_held, is_booked_for, held_by, booked_by, cap_of, Setting, so_far, EachAfter, may_book, is_granted_in, IsSteady, held_le_booked, so_far_more, Steady_shrinks, Steady_grant, Shrinks_unban, Shrinks_ban, Shrinks_cap, Shrinks_revoke, pressing, is_short, lacks, lacks_waiting, lacking, is_open, open_cores, surplus, waits, waits_short, some_waits_short, are_lacked, is_kept, may_take, last_thread_push, is_some, option_or}
+use Rattle.cal_guarantee.proofs.Common.{◌≡◌, ℕ, ◌<◌, ◌≤◌, Bool, true, false, not, ◌&&◌, ◌||◌, cond, eqb, ltb, leb, List, [], ◌∷◌, ◌++◌, length, Some, None, refl, ap, sym, ◌∙◌, subst, arith, ⊎_elim, append_assoc, append-nil, cases_Bool, and_parts, and_from, false_from_ne_true, eqb-true, ne_eqb, ltb-true, leb-false, not-true, Table, owner_of, limit_of, guaranteed_of, is_latency_critical, threads_of_table, next_le, Action, Free, Unban, Ban, Revoke, Cap, Grant, holder_of, is_banned, last_placement, last_thread, thread_granted, placed, placement_of, is_free, is_held, is_booked_for, held_by, booked_by, cap_of, Setting, so_far, EachAfter, may_book, is_granted_in, IsSteady, held_le_booked, so_far_more, Steady_shrinks, Steady_grant, Shrinks_unban, Shrinks_ban, Shrinks_cap, Shrinks_revoke, pressing, is_short, lacks, lacks_waiting, lacking, is_open, open_cores, surplus, waits, waits_short, some_waits_short, are_lacked, is_kept, may_take, last_thread_push, is_some, option_or, made_are}
 use Rattle.cal_policy.specs.declared.board.holders.Placement as placements
 use Rattle.cal_policy.specs.declared.board.holders.Holder.TheVariants as holders
-use Rattle.cal_policy.proofs.AssuredLemmas.Acts.{made_are}
 use Rattle.cal_guarantee.proofs.Sums.{count_some}
 use Rattle.cal_guarantee.proofs.Holders.{moves_revoke, moves_grant, stays_unban, stays_ban, stays_cap}
 use Rattle.cal_guarantee.proofs.Steps.{IsStep, IsRevokeStep, IsGrantStep}

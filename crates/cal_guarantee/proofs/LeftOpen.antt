@@ -1,26 +1,20 @@
 -- Nothing is kept from everybody.
-use Rattle.cal_guarantee.proofs.Common.{◌≡◌, ◌⊎◌, ℕ, ◌+◌, ◌<◌, ◌≤◌, Bool, true, false, not, ◌&&◌, ◌||◌, cond, eqb, ltb, List, [], ◌∷◌, ◌++◌, length, Option, Some, None, refl, ap, sym, ◌∙◌, subst, arith, inl, inr, ⊎_elim, append_assoc, append-nil, zero, suc, cases_eq, cases_Bool, cases_lt, and_parts, and_from, and_left, or_left, eq-eqb, eqb-true, eqb-false, lt-ltb, le-ltb, not-true, not-false, ne_eqb, false_from_ne_true, unwrap_or, Table, IsTable, task_at, owner_of, thread_of, limit_of, guaranteed_of, is_latency_critical, Action, Free, Unban, Ban, Revoke, Cap, Grant, CoreClass, Candidate, actions_of, holder_of, class_number, booked_by, cap_of, Setting, so_far, EachAfter, IsSteady, so_far_more, best_ranked, lowest_passes, thread_choice, thread_rank, owed_to, is_task, owed_below, is_short, is_open, needs, waits, waits_short, is_kept, is_kept_for, is_kept_for_short, may_take, open_choice, may_act, act_of, acts_in_place, group_of, goes_before, task_in_place, place_of, grants_of_first, bounded_of, pass_of}
-use Rattle.std.proofs.lemmas.List.Sums.{sum_by_push, sum_by-append}
-use Rattle.cal_machine.specs.declared.task.Task.{Task}
+use Rattle.cal_guarantee.proofs.Common.{◌≡◌, ◌⊎◌, ℕ, ◌+◌, ◌<◌, ◌≤◌, Bool, true, false, not, ◌&&◌, cond, eqb, ltb, List, [], ◌∷◌, ◌++◌, length, Option, Some, None, refl, ap, sym, ◌∙◌, subst, arith, inl, inr, ⊎_elim, zero, suc, append-nil, cases_eq, cases_Bool, cases_lt, and_parts, and_from, and_left, eq-eqb, eqb-true, eqb-false, lt-ltb, not-true, not-false, false_from_ne_true, unwrap_or, Table, IsTable, task_at, owner_of, thread_of, limit_of, guaranteed_of, is_latency_critical, Action, Free, Unban, Ban, Revoke, Cap, Grant, CoreClass, Candidate, actions_of, class_number, booked_by, cap_of, Setting, so_far, EachAfter, IsSteady, so_far_more, best_ranked, thread_rank, owed_to, owed_below, is_short, is_open, needs, waits, waits_short, is_kept, is_kept_for, is_kept_for_short, may_take, open_choice, act_of, acts_in_place, grants_of_first, group_of, goes_before, task_in_place, place_of, bounded_of, pass_of, sum_by_push, sum_by-append, Task, last_cap_push, Moves, tasks_placed, place_lower, grants_to, granted_to}
 use Rattle.cal_policy.specs.declared.board.holders.Placement as placements
 use Rattle.cal_policy.specs.declared.board.holders.Holder.TheVariants as holders
-use Rattle.cal_policy.proofs.HistoryLemmas.OneMore.{last_cap_push}
-use Rattle.cal_policy.proofs.AssuredLemmas.BooksNoMore.{Moves}
-use Rattle.cal_policy.proofs.AssuredLemmas.TurnOrder.{tasks_placed, place_lower}
 use Rattle.cal_assured.proofs.OwnTurn.{acts_first_time}
-use Rattle.cal_guarantee.specs.WholeGuarantee.{grants_to, granted_to}
-use Rattle.cal_guarantee.specs.OpenCores.{WaitsBesideOpen, IsLeftToAnother, NothingIsKeptFromEverybody}
+use Rattle.cal_guarantee.specs.OpenCores.{NothingIsKeptFromEverybody}
 use Rattle.cal_guarantee.proofs.Holders.{moves_revoke, stays_ban, stays_cap}
-use Rattle.cal_guarantee.proofs.Steps.{IsStep, IsGrantStep, grants_steps, open_taken}
-use Rattle.cal_guarantee.proofs.Counts.{short_same, short_parts, short_from, not_short_books, books_stay, books_left}
+use Rattle.cal_guarantee.proofs.Steps.{IsStep, grants_steps, open_taken}
+use Rattle.cal_guarantee.proofs.Counts.{short_same, short_parts, not_short_books, books_stay, books_left}
 use Rattle.cal_guarantee.proofs.Own.{IsSameFor, same_refl, same_back, same_chain, same_books, thread_owner}
 use Rattle.cal_guarantee.proofs.FewKept.{none_taken}
 use Rattle.cal_guarantee.proofs.KeptAlong.{along, steady_step, waits_books, revoked_last, grant_owner, grant_one, new_push, IsOffTask, own_step_off, short_off}
-use Rattle.cal_guarantee.proofs.PassTurns.{up_to, before_turn, with_turn, ToAny, ToOther, others, place_is, short_first, turns_between, after_own, place_steady, bounded_steady, first_act}
+use Rattle.cal_guarantee.proofs.PassTurns.{up_to, before_turn, ToAny, ToOther, others, place_is, short_first, turns_between, after_own, place_steady, bounded_steady, first_act}
 use Rattle.cal_guarantee.proofs.Chosen.{act_grants}
 use Rattle.cal_guarantee.proofs.Histories.{steady_after}
 use Rattle.cal_guarantee.proofs.NoneOpen.{were_between}
-use Rattle.cal_guarantee.proofs.Looser.{IsLooser, looser_same, looser_left, looser_waits}
+use Rattle.cal_guarantee.proofs.Looser.{looser_same, looser_left, looser_waits}
 use Rattle.cal_guarantee.proofs.PlacesKeep.{to_act, IsKeptFrom, places_keep, IsForCritical, IsAct, act_is_act}
 
 -- an action that grants the task none

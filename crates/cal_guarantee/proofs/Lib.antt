@@ -32,3 +32,4 @@ pub mod PlacesKeep
 pub mod LeftOpen
 pub mod WaitsLast
 pub mod FourPasses
+pub mod HonestWaits

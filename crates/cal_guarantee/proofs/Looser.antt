@@ -1,6 +1,5 @@
 -- A task that loses cores, and is granted none, waits as before.
-use Rattle.cal_guarantee.proofs.Common.{◌≡◌, ℕ, ◌<◌, ◌≤◌, ◌⊎◌, Bool, true, false, not, ◌&&◌, ◌||◌, cond, eqb, ltb, List, [], ◌∷◌, ◌++◌, length, Option, Some, None, refl, ap, sym, ◌∙◌, subst, arith, inl, inr, ⊎_elim, and_parts, and_from, and_left, ne_eqb, ltb-true, lt-ltb, cases_lt, cases_eq, is_some, thread_of, limit_of, is_latency_critical, Action, Revoke, Grant, Holder, holder_of, placed, is_booked_for, is_with, booked_by, cap_of, count_below, count_le, Setting, so_far, kept_now, has_room, IsSteady, thread_choice, thread_rank, thread_delay, may_book, is_untaken, is_in_flight, is_late, is_new_in_flight, pressing, helpers, new_helpers, surplus, is_short, waits}
-use Rattle.cal_policy.specs.declared.history.action.Cause.{Cause}
+use Rattle.cal_guarantee.proofs.Common.{◌≡◌, ℕ, ◌<◌, ◌≤◌, ◌⊎◌, Bool, true, false, not, ◌&&◌, ◌||◌, cond, eqb, ltb, List, length, Some, None, refl, ap, sym, ◌∙◌, arith, inl, inr, ⊎_elim, and_parts, and_from, ne_eqb, ltb-true, lt-ltb, cases_lt, cases_eq, is_some, thread_of, limit_of, is_latency_critical, Action, Holder, holder_of, is_booked_for, is_with, booked_by, cap_of, count_below, count_le, Setting, kept_now, has_room, thread_choice, thread_rank, thread_delay, may_book, is_untaken, is_in_flight, is_late, is_new_in_flight, pressing, helpers, new_helpers, surplus, is_short, waits, Cause}
 use Rattle.cal_policy.specs.declared.board.holders.Placement as placements
 use Rattle.cal_policy.specs.declared.board.holders.Holder.TheVariants as holders
 use Rattle.cal_guarantee.proofs.Sums.{count_same}

@@ -1,6 +1,5 @@
 -- Before the grants of a pass none of its cores is granted.
-use Rattle.cal_guarantee.proofs.Common.{◌≡◌, ℕ, false, List, [], ◌∷◌, ◌++◌, None, ap, sym, ◌∙◌, refl, subst, is_some, option_or, IsTable, Action, Free, Unban, Ban, Revoke, Cap, Grant, last_thread, thread_granted, last_thread_push, Setting, so_far, frees, is_granted_in, made_now, new_helpers, bounded_of}
-use Rattle.cal_policy.proofs.AssuredLemmas.Acts.{made_are}
+use Rattle.cal_guarantee.proofs.Common.{◌≡◌, ℕ, false, List, [], ◌∷◌, ◌++◌, None, ap, sym, ◌∙◌, refl, subst, is_some, option_or, IsTable, Action, Free, Unban, Ban, Revoke, Cap, Grant, last_thread, thread_granted, last_thread_push, Setting, so_far, frees, is_granted_in, new_helpers, bounded_of, made_are}
 use Rattle.cal_guarantee.proofs.Steps.{IsStep}
 use Rattle.cal_guarantee.proofs.Own.{no_helpers}
 use Rattle.cal_guarantee.proofs.KeptAlong.{NoGrant, along_acts}

@@ -1,16 +1,13 @@
 -- Where a short task that waits found nothing at its turn, no core is open once all short tasks have had
 -- theirs.
-use Rattle.cal_guarantee.proofs.Common.{◌≡◌, ℕ, ◌+◌, ◌<◌, ◌≤◌, ◌⊎◌, Bool, true, false, not, ◌&&◌, cond, eqb, List, [], ◌∷◌, ◌++◌, length, Option, Some, None, refl, ap, sym, ◌∙◌, subst, arith, inl, inr, ⊎_elim, zero, suc, append-nil, cases_eq, cases_lt, and_parts, and_from, eq-eqb, eqb-true, ne_eqb, unwrap_if, IsTable, Action, Free, Unban, Ban, Revoke, Cap, Grant, actions_of, holder_of, placed, is_free, booked_by, Setting, so_far, EachAfter, IsSteady, count_below, owed_to, is_task, owed_below, new_helpers, is_short, is_open, needs, waits_short, open_choice, task_in_place, place_of, turn_in_place, grants_of_first, bounded_of}
+use Rattle.cal_guarantee.proofs.Common.{◌≡◌, ℕ, ◌<◌, ◌≤◌, true, false, cond, eqb, List, [], ◌∷◌, ◌++◌, length, Option, Some, None, refl, ap, sym, ◌∙◌, subst, arith, ⊎_elim, suc, cases_lt, and_parts, eqb-true, ne_eqb, unwrap_if, IsTable, Action, Free, Unban, Ban, Revoke, Cap, Grant, actions_of, holder_of, placed, is_free, booked_by, Setting, so_far, EachAfter, IsSteady, owed_to, is_task, owed_below, new_helpers, is_short, is_open, needs, waits_short, open_choice, task_in_place, place_of, grants_of_first, bounded_of, tasks_placed, owed_taken, kept_taken}
 use Rattle.cal_policy.specs.declared.board.holders.Holder.TheVariants as holders
-use Rattle.cal_policy.proofs.AssuredLemmas.TurnOrder.{tasks_placed}
 use Rattle.cal_assured.specs.Laws.{is_open_for, owed_open, after_turn}
-use Rattle.cal_assured.proofs.OwedTaken.{owed_taken}
-use Rattle.cal_assured.proofs.KeptTaken.{kept_taken}
 use Rattle.cal_guarantee.proofs.Sums.{first_ones}
 use Rattle.cal_guarantee.proofs.Holders.{moves_grant, owed_push}
 use Rattle.cal_guarantee.proofs.Steps.{IsStep, IsRevokeStep}
 use Rattle.cal_guarantee.proofs.Counts.{short_same, open_revoked_at, open_capped_at, open_granted_at, open_banned_was}
-use Rattle.cal_guarantee.proofs.Own.{IsSameFor, same_back, same_books, same_waits, same_needs, same_new_helpers, waits_parts}
+use Rattle.cal_guarantee.proofs.Own.{IsSameFor, same_back, same_waits, same_needs, same_new_helpers, waits_parts}
 use Rattle.cal_guarantee.proofs.FewKept.{kept_why, short_within}
 use Rattle.cal_guarantee.proofs.KeptAlong.{along, steady_step, own_along, other_along, revoked_last, open_free}
 use Rattle.cal_guarantee.proofs.NoneGranted.{no_helpers_yet}

@@ -1,6 +1,5 @@
 -- Where a short task finds no core to revoke, no task holds more than it is guaranteed.
-use Rattle.cal_guarantee.proofs.Common.{◌≡◌, ℕ, ◌<◌, ◌≤◌, ◌⊎◌, Bool, true, false, not, ◌&&◌, cond, eqb, ltb, List, [], ◌∷◌, ◌++◌, length, Some, None, refl, ap, sym, ◌∙◌, subst, arith, inl, inr, ⊎_elim, cases_eq, cases_lt, and_from, lt-ltb, ne_eqb, is_some, option_or, Table, IsTable, owner_of, guaranteed_of, is_latency_critical, threads_of_table, Action, Free, Unban, Ban, Revoke, Cap, Grant, actions_of, holder_of, last_thread, thread_granted, placed, comes_before, placement_of, is_held_for, held_by, booked_by, is_over, Setting, so_far, has_room, is_held_with_room, frees, is_granted_in, preempt_class, IsSteady, held_le_booked, so_far_more, EachAfter, is_short, waits_short, fewer_come, may_take_from, held_class, held_choice, bounded_of}
-use Rattle.std.proofs.lemmas.Bool.{or_right}
+use Rattle.cal_guarantee.proofs.Common.{◌≡◌, ℕ, ◌<◌, ◌≤◌, ◌⊎◌, Bool, true, false, not, ◌&&◌, cond, eqb, ltb, List, [], ◌∷◌, ◌++◌, length, Some, None, refl, ap, sym, ◌∙◌, subst, arith, inl, inr, ⊎_elim, cases_eq, cases_lt, and_from, lt-ltb, ne_eqb, or_right, Table, IsTable, owner_of, guaranteed_of, is_latency_critical, threads_of_table, Action, Free, Unban, Ban, Revoke, Cap, Grant, actions_of, holder_of, thread_granted, placed, comes_before, placement_of, is_held_for, held_by, booked_by, is_over, Setting, so_far, has_room, is_held_with_room, frees, is_granted_in, preempt_class, IsSteady, held_le_booked, so_far_more, EachAfter, is_short, waits_short, fewer_come, may_take_from, held_class, held_choice, bounded_of}
 use Rattle.cal_policy.specs.declared.history.core_class.CoreClass.TheVariants as classes
 use Rattle.cal_policy.specs.declared.board.holders.Placement as placements
 use Rattle.cal_policy.specs.declared.board.holders.Holder.TheVariants as holders

@@ -1,28 +1,20 @@
 -- Of the cores that are owed to a short task that waits it is granted as many as it needs, or all of them.
-use Rattle.cal_guarantee.proofs.Common.{◌≡◌, ℕ, ◌+◌, ◌<◌, ◌≤◌, ◌⊎◌, Bool, true, false, not, ◌&&◌, cond, eqb, ltb, List, [], ◌∷◌, ◌++◌, length, Option, Some, None, refl, ap, sym, ◌∙◌, subst, arith, inl, inr, ⊎_elim, zero, suc, cases_eq, cases_lt, cases_Bool, and_parts, and_from, ne_eqb, eq-eqb, eqb-true, ltb-false, false_from_ne_true, unwrap_if, IsTable, Action, Free, Unban, Ban, Revoke, Cap, Grant, actions_of, holder_of, is_banned, is_free, Setting, so_far, frees, EachAfter, IsSteady, count_below, count_le, count_le_one, so_far_more, unbans, owed_to, is_task, owed_below, is_short, is_open, needs, lacking, are_lacked, open_cores, waits, waits_short, is_kept, is_kept_for, is_kept_for_short, may_take, open_choice, unbanned_of, bounded_of, acts_in_place}
-use Rattle.std.specs.Prelude.{min}
-use Rattle.std.proofs.lemmas.List.Sums.{sum_by_push}
-use Rattle.cal_policy.specs.declared.history.action.Cause.{Cause}
+use Rattle.cal_guarantee.proofs.Common.{◌≡◌, ℕ, ◌+◌, ◌<◌, ◌≤◌, ◌⊎◌, Bool, true, false, not, ◌&&◌, cond, eqb, ltb, List, [], ◌∷◌, ◌++◌, length, Option, Some, None, refl, ap, sym, ◌∙◌, subst, arith, inl, inr, ⊎_elim, zero, suc, cases_eq, cases_lt, and_parts, and_from, ne_eqb, eq-eqb, eqb-true, ltb-false, false_from_ne_true, unwrap_if, IsTable, Action, Free, Unban, Ban, Revoke, Cap, Grant, actions_of, holder_of, is_banned, is_free, Setting, so_far, frees, IsSteady, count_below, count_le, count_le_one, so_far_more, unbans, owed_to, is_task, owed_below, is_short, is_open, needs, are_lacked, waits, waits_short, is_kept, is_kept_for, is_kept_for_short, unbanned_of, bounded_of, min, sum_by_push, owed_taken, owed_cores, grants_to, granted_to, needs_at}
 use Rattle.cal_policy.specs.declared.board.holders.Holder.TheVariants as holders
-use Rattle.cal_policy.proofs.AssuredLemmas.BooksNoMore.{Moves}
-use Rattle.cal_policy.proofs.AssuredLemmas.TurnOrder.{tasks_placed}
 use Rattle.cal_assured.specs.Laws.{is_open_for, owed_open}
-use Rattle.cal_assured.proofs.OwedTaken.{owed_taken}
-use Rattle.cal_guarantee.specs.OnePass.{owed_cores}
-use Rattle.cal_guarantee.specs.WholeGuarantee.{grants_to, granted_to, needs_at}
 use Rattle.cal_guarantee.proofs.Sums.{count_same, none_counts}
 use Rattle.cal_guarantee.proofs.Holders.{owed_push}
-use Rattle.cal_guarantee.proofs.Steps.{IsStep, IsRevokeStep, IsGrantStep, unbans_steps}
+use Rattle.cal_guarantee.proofs.Steps.{IsStep, IsGrantStep, unbans_steps}
 use Rattle.cal_guarantee.proofs.Counts.{open_revoked_at, open_capped_at, open_granted_at, open_banned_at, open_banned, open_unbanned_at}
 use Rattle.cal_guarantee.proofs.Own.{same_needs, waits_parts}
 use Rattle.cal_guarantee.proofs.FewKept.{few_kept}
 use Rattle.cal_guarantee.proofs.KeptAlong.{NoGrant, NotTo, AreShort, AreEnough, own_step, no_more_lacking, enough_step, with_along, some_waits, not_lacked, revoked_last, taken_open, grant_owner}
 use Rattle.cal_guarantee.proofs.Unbanned.{NoneBannedBelow, after_unbans}
-use Rattle.cal_guarantee.proofs.PassTurns.{before_turn, with_turn, freed_needs, to_turn, turn_late, ToShortOther, short_others, never_granted, freed_steady, freed_waits, unbanned_state, turn_steps, turn_state}
+use Rattle.cal_guarantee.proofs.PassTurns.{before_turn, with_turn, freed_needs, to_turn, turn_late, ToShortOther, short_others, never_granted, freed_steady, freed_waits, unbanned_state, turn_steps}
 use Rattle.cal_guarantee.proofs.NoneOpen.{owed_off, revoked_off}
 use Rattle.cal_guarantee.proofs.OwedFree.{owed_free, task_some}
 use Rattle.cal_guarantee.proofs.TurnKeeps.{ToShortSelf, IsKeptByActs, turn_keeps}
-use Rattle.cal_guarantee.proofs.TurnEnds.{short_there, needs_there, turn_begins, short_still, waits_still, none_open_still}
+use Rattle.cal_guarantee.proofs.TurnEnds.{short_there, turn_begins, waits_still, none_open_still}
 
 -- each core that is owed to the task is open
 abbrev AreOpen : Setting → ℕ → List Action → Type 0

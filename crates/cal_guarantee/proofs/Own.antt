@@ -1,6 +1,5 @@
 -- Where a task's own cores are the same, it is short and waits as before.
-use Rattle.cal_guarantee.proofs.Common.{◌≡◌, ℕ, ◌<◌, ◌⊎◌, Bool, true, false, not, ◌&&◌, ◌||◌, cond, eqb, ltb, List, length, Option, Some, None, refl, ap, sym, ◌∙◌, arith, inl, inr, ⊎_elim, zero, suc, and_parts, and_from, or_left, false_from_ne_true, eqb-true, eq-eqb, cases_eq, is_some, Table, owner_of, thread_of, limit_of, is_latency_critical, task_there, Action, Holder, holder_of, is_booked_for, is_with, booked_by, cores_of_thread, cap_of, Setting, kept_now, has_room, count_below, best_below, better, thread_choice, thread_rank, thread_delay, may_book, is_granted_in, is_untaken, is_in_flight, is_late, pressing, made_now, is_new_in_flight, new_helpers, is_short, lacks, surplus, waits, waits_short, spare, needs}
-use Rattle.std.specs.Prelude.{min}
+use Rattle.cal_guarantee.proofs.Common.{◌≡◌, ℕ, ◌<◌, ◌⊎◌, Bool, true, false, not, ◌&&◌, ◌||◌, cond, eqb, ltb, List, length, Option, Some, None, refl, ap, sym, ◌∙◌, arith, inl, inr, ⊎_elim, zero, suc, and_parts, and_from, or_left, false_from_ne_true, eqb-true, eq-eqb, cases_eq, is_some, Table, owner_of, thread_of, limit_of, is_latency_critical, task_there, Action, Holder, holder_of, is_booked_for, is_with, booked_by, cores_of_thread, cap_of, Setting, kept_now, has_room, count_below, best_below, better, thread_choice, thread_rank, thread_delay, may_book, is_granted_in, is_untaken, is_in_flight, is_late, pressing, made_now, is_new_in_flight, new_helpers, is_short, lacks, surplus, waits, waits_short, spare, needs, min}
 use Rattle.std.proofs.Math.Bool.{and-false}
 use Rattle.cal_signal.specs.declared.record.Record.{Record}
 use Rattle.cal_policy.specs.declared.board.holders.Holder.TheVariants as holders

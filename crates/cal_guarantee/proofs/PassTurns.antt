@@ -1,8 +1,7 @@
 -- A pass in which a task is short and waits where the grants begin: up to the turn of the task, the
 -- turn, and the rest.
-use Rattle.cal_guarantee.proofs.Common.{◌≡◌, ℕ, ◌<◌, ◌≤◌, Bool, true, false, cond, eqb, ltb, List, [], ◌++◌, length, Some, refl, ap, sym, ◌∙◌, subst, arith, ⊎_elim, append_assoc, zero, suc, append-nil, cases_Bool, cases_lt, eqb-true, lt-ltb, IsTable, is_latency_critical, Action, actions_of, in_turn, Setting, so_far, frees, EachAfter, IsSteady, lowest_passes, each_append, unbans, bans, is_short, needs, waits_short, group_of, goes_before, place_of, task_in_place, act_of, act_in_place, turn_in_place, grants_of_first, grants, unbanned_of, bounded_of, pass_of}
+use Rattle.cal_guarantee.proofs.Common.{◌≡◌, ℕ, ◌<◌, ◌≤◌, Bool, true, false, cond, eqb, ltb, List, [], ◌++◌, length, Some, refl, ap, sym, ◌∙◌, subst, arith, ⊎_elim, append_assoc, zero, suc, append-nil, cases_Bool, cases_lt, eqb-true, lt-ltb, IsTable, is_latency_critical, Action, actions_of, in_turn, Setting, so_far, frees, EachAfter, IsSteady, lowest_passes, each_append, unbans, bans, is_short, needs, waits_short, group_of, goes_before, place_of, task_in_place, act_of, act_in_place, turn_in_place, grants_of_first, grants, unbanned_of, bounded_of, pass_of, tasks_placed, place_lower}
 use Rattle.cal_policy.specs.Pass.Bandwidth.{bandwidth_part}
-use Rattle.cal_policy.proofs.AssuredLemmas.TurnOrder.{tasks_placed, place_lower}
 use Rattle.cal_guarantee.proofs.Steps.{IsStep, IsGoodTurn, unbans_steps, bans_steps, bandwidth_steps, act_steps, grants_steps, place_step}
 use Rattle.cal_guarantee.proofs.Acting.{acts_short}
 use Rattle.cal_guarantee.proofs.Counts.{short_same}

@@ -1,11 +1,10 @@
 -- What each act keeps holds from place to place of the order; and what an act revokes.
-use Rattle.cal_guarantee.proofs.Common.{◌≡◌, ◌⊎◌, ℕ, ◌<◌, ◌≤◌, Bool, true, false, not, ◌&&◌, ◌||◌, cond, eqb, ltb, List, [], ◌∷◌, ◌++◌, length, Option, Some, None, refl, ap, sym, ◌∙◌, subst, arith, inl, inr, ⊎_elim, append_assoc, zero, suc, append-nil, cases_lt, and_parts, and_from, eqb-true, some_then, IsTable, owner_of, thread_of, guaranteed_of, is_latency_critical, Action, Free, Unban, Ban, Revoke, Cap, Grant, CoreClass, Candidate, Holder, actions_of, holder_of, class_number, is_idle, comes_before, is_held_for, booked_by, is_over, Setting, so_far, is_held_with_room, is_granted_in, preempt_class, thread_choice, grant_of, EachAfter, IsSteady, best_ranked, lowest_passes, is_short, waits, open_choice, held_class, held_choice, fewer_come, more_press, may_preempt, may_take_from, choice_for, has_acted, may_act, act_of, acts_in_place, turn_in_place, task_in_place, place_of, bounded_of}
+use Rattle.cal_guarantee.proofs.Common.{◌≡◌, ◌⊎◌, ℕ, ◌<◌, ◌≤◌, Bool, true, false, not, ◌&&◌, ◌||◌, cond, eqb, ltb, List, [], ◌∷◌, ◌++◌, length, Option, Some, None, refl, ap, sym, ◌∙◌, subst, arith, inl, inr, ⊎_elim, append_assoc, zero, suc, append-nil, cases_lt, and_parts, and_from, some_then, IsTable, owner_of, thread_of, guaranteed_of, is_latency_critical, Action, Free, Unban, Ban, Revoke, Cap, Grant, CoreClass, Candidate, Holder, actions_of, holder_of, class_number, is_idle, comes_before, booked_by, is_over, Setting, so_far, is_held_with_room, is_granted_in, preempt_class, thread_choice, grant_of, EachAfter, IsSteady, best_ranked, lowest_passes, is_short, waits, open_choice, held_class, held_choice, fewer_come, more_press, may_preempt, may_take_from, choice_for, has_acted, may_act, act_of, acts_in_place, turn_in_place, task_in_place, place_of, bounded_of, Moves, AllMove, act_moves}
 use Rattle.cal_policy.specs.declared.history.action.Cause.TheVariants as causes
 use Rattle.cal_policy.specs.declared.board.holders.Placement as placements
 use Rattle.cal_policy.specs.declared.board.holders.Holder.TheVariants as holders
-use Rattle.cal_policy.proofs.AssuredLemmas.BooksNoMore.{Moves, AllMove, act_moves}
 use Rattle.cal_guarantee.proofs.Steps.{IsStep, act_steps, acts_steps, none_in_turn, open_taken, preempt_cases, or_some}
-use Rattle.cal_guarantee.proofs.KeptAlong.{along, steady_step, IsOffTask}
+use Rattle.cal_guarantee.proofs.KeptAlong.{along, steady_step}
 use Rattle.cal_guarantee.proofs.PassTurns.{up_to, ToAny, after_place, place_steady}
 
 -- the actions of a pass before an act of task v in this place
@@ -57,11 +56,14 @@ held_whose s acts t c r (holders.Held p) there e =
     let other = owner_of s.table p.thread in
     let below = ltb (booked_by s.table x t) (guaranteed_of s.table t) in
     let both = some_then (is_held_with_room s (holders.Held p) && not (is_granted_in acts c) && may_take_from s x t other) (preempt_class s.table x t other) r e in
-    let found = preempt_cases (is_latency_critical s.table other) (below && not (eqb other t) && is_over s.table x other) r both.1 in
-    (p, there, ⊎_elim
-    (λ best. inl best)
-    (λ over. inr (and_parts below (not (eqb other t)) (and_parts (below && not (eqb other t)) (is_over s.table x other) over).0).0)
-    found.1)
+    let found = preempt_cases (is_latency_critical s.table other) (below && not (eqb other t) && is_over s.table x other) r both.1 in (
+      p,
+      there,
+      ⊎_elim
+          (λ best. inl best)
+          (λ over. inr (and_parts below (not (eqb other t)) (and_parts (below && not (eqb other t)) (is_over s.table x other) over).0).0)
+          found.1,
+    )
 
 -- what is known of each revocation: it is for a latency-critical task, of a core of a best-effort one where that is
 -- not short

@@ -1,12 +1,9 @@
 -- All stays calm after the turn of a short task that may take no open core; and where nothing is being left
 -- and no free core is banned, as many cores are open as are lacking.
-use Rattle.cal_guarantee.proofs.Common.{◌≡◌, ℕ, ◌+◌, ◌<◌, ◌≤◌, true, false, not, List, ◌++◌, length, take, Some, None, refl, ap, sym, ◌∙◌, subst, arith, ⊎_elim, zero, suc, cases_Bool, and_from, eq-eqb, not-true, false_from_ne_true, Table, IsTable, no_task, owner_of, guaranteed_of, Action, Holder, actions_of, holder_of, is_banned, is_free, is_held_for, held_by, Setting, so_far, sum_below, IsSteady, held_le_booked, is_leaving, lowest_passes, eqb, is_short, lacks, lacks_waiting, is_open, open_choice, task_in_place, place_of, acts_in_place, bounded_of, pass_of}
-use Rattle.std.proofs.lemmas.List.Sums.{sum_by_more, sum_by-take-le}
-use Rattle.std.specs.Prelude.{sum_by}
+use Rattle.cal_guarantee.proofs.Common.{◌≡◌, ℕ, ◌+◌, ◌<◌, ◌≤◌, true, false, not, List, ◌++◌, length, take, Some, None, refl, ap, sym, ◌∙◌, subst, arith, ⊎_elim, zero, suc, eqb, cases_Bool, and_from, eq-eqb, not-true, Table, IsTable, no_task, owner_of, guaranteed_of, Action, Holder, actions_of, holder_of, is_banned, is_free, is_held_for, held_by, Setting, so_far, sum_below, IsSteady, held_le_booked, is_leaving, lowest_passes, is_short, lacks, lacks_waiting, is_open, open_choice, task_in_place, place_of, acts_in_place, bounded_of, pass_of, sum_by_more, sum_by-take-le, sum_by, tasks_placed, place_lower}
 use Rattle.cal_policy.specs.declared.board.holders.Placement as placements
 use Rattle.cal_policy.specs.declared.board.holders.Holder.TheVariants as holders
 use Rattle.cal_policy.proofs.ListLemmas.OneNumberMore.{count_both}
-use Rattle.cal_policy.proofs.AssuredLemmas.TurnOrder.{tasks_placed, place_lower}
 use Rattle.cal_guarantee.proofs.Sums.{sum_le, sum_add, covered}
 use Rattle.cal_guarantee.proofs.Steps.{IsGoodTurn, acts_steps}
 use Rattle.cal_guarantee.proofs.Acting.{acts_short}

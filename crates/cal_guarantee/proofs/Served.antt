@@ -1,7 +1,5 @@
 -- What a pass grants a short task that waits.
-use Rattle.cal_guarantee.proofs.Common.{◌≡◌, ℕ, ◌+◌, ◌<◌, ◌≤◌, List, length, ap, ◌∙◌, arith, ⊎_elim, cases_lt, Setting, so_far, FewCoresAreKept, OpenCoresCome, OwedCoresCome, pass_of, IsTable}
-use Rattle.std.proofs.lemmas.List.Sums.{sum_by-append}
-use Rattle.cal_guarantee.specs.WholeGuarantee.{grants_to, granted_to, needs_at}
+use Rattle.cal_guarantee.proofs.Common.{ℕ, ◌<◌, ◌≤◌, length, ap, ◌∙◌, arith, ⊎_elim, cases_lt, Setting, FewCoresAreKept, OpenCoresCome, OwedCoresCome, pass_of, IsTable, sum_by-append, grants_to, granted_to, needs_at}
 use Rattle.cal_guarantee.proofs.Own.{waits_parts}
 use Rattle.cal_guarantee.proofs.FewKept.{few_kept}
 use Rattle.cal_guarantee.proofs.PassTurns.{with_turn, the_turn}

@@ -1,7 +1,6 @@
 -- What each action of a pass rests on, at its own place.
-use Rattle.cal_guarantee.proofs.Common.{◌≡◌, ℕ, ◌<◌, ◌⊎◌, Bool, true, false, not, ◌&&◌, cond, eqb, ltb, List, [], ◌∷◌, ◌++◌, length, Option, Some, None, refl, ap, sym, ◌∙◌, subst, arith, inl, inr, ⊎_elim, All, zero, suc, ◌-◌, is_some, option_or, and_parts, eqb-true, eq-eqb, ltb-true, not-true, sibling_of, Table, IsTable, IsTask, task_at, owner_of, thread_of, limit_of, guaranteed_of, is_latency_critical, is_critical_kind, some_then, some_else, Action, Free, Unban, Ban, Revoke, Cap, Grant, CoreClass, Candidate, Holder, holder_of, ban_of, is_banned, last_thread, in_turn, comes_before, is_idle, class_number, is_free, is_held, is_held_for, held_by, booked_by, is_over, Setting, so_far, kept_now, has_room, is_held_with_room, best_below, EachAfter, thread_choice, grant_of, preempt_class, idle_class, is_granted_in, is_thread_for, thread_rank, highest_passes, lowest_passes, best_ranked, each_append, each_in_turn, so_far_more, unban_for, unban_at, unbans, due_for, bans_at, bans, owed_to, is_task, are_lacked, waits, may_take, open_class, owed_class, open_choice, held_class, held_choice, may_preempt, may_take_from, choice_for, may_act, act_of, act_in_place, acts_in_place, turn_in_place, grants_of_first, task_in_place, place_of}
+use Rattle.cal_guarantee.proofs.Common.{◌≡◌, ℕ, ◌<◌, ◌⊎◌, Bool, true, false, not, ◌&&◌, cond, eqb, ltb, List, [], ◌∷◌, ◌++◌, length, Option, Some, None, refl, ap, sym, ◌∙◌, subst, arith, inl, inr, ⊎_elim, All, zero, suc, ◌-◌, is_some, option_or, and_parts, eqb-true, eq-eqb, ltb-true, not-true, sibling_of, Table, IsTable, IsTask, task_at, owner_of, thread_of, limit_of, guaranteed_of, is_latency_critical, is_critical_kind, some_then, some_else, Action, Free, Unban, Ban, Revoke, Cap, Grant, CoreClass, Candidate, Holder, holder_of, ban_of, is_banned, last_thread, in_turn, comes_before, is_idle, class_number, is_free, is_held, is_held_for, held_by, booked_by, is_over, Setting, so_far, kept_now, has_room, is_held_with_room, best_below, EachAfter, thread_choice, grant_of, preempt_class, idle_class, is_granted_in, is_thread_for, thread_rank, highest_passes, lowest_passes, best_ranked, each_append, each_in_turn, so_far_more, unban_for, unban_at, unbans, due_for, bans_at, bans, owed_to, is_task, are_lacked, waits, may_take, open_class, owed_class, open_choice, held_class, held_choice, may_preempt, may_take_from, choice_for, may_act, act_of, act_in_place, acts_in_place, turn_in_place, grants_of_first, task_in_place, place_of, Task}
 use Rattle.std.proofs.lemmas.List.Elements.{All-head, All-tail}
-use Rattle.cal_machine.specs.declared.task.Task.{Task}
 use Rattle.cal_machine.specs.declared.task.Kind.{Kind}
 use Rattle.cal_machine.specs.declared.task.Kind.TheVariants as kinds
 use Rattle.cal_policy.specs.declared.history.action.Cause.TheVariants as causes

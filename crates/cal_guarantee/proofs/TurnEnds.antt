@@ -1,17 +1,10 @@
 -- At the end of its turn a short task that waits finds nothing to do; and it waits there, where it was
 -- granted less than it needs.
-use Rattle.cal_guarantee.proofs.Common.{◌≡◌, ℕ, ◌+◌, ◌<◌, ◌≤◌, ◌⊎◌, Bool, true, false, not, ◌&&◌, ◌||◌, cond, ltb, List, [], ◌∷◌, ◌++◌, length, Option, Some, None, refl, ap, sym, ◌∙◌, subst, arith, inl, inr, ⊎_elim, zero, suc, append_assoc, append-nil, cases_Bool, and_parts, and_from, or_left, ltb-false, option_or, is_some, IsTable, thread_of, is_latency_critical, Action, Revoke, Grant, CoreClass, Candidate, actions_of, holder_of, class_number, is_idle, is_banned, is_free, is_held, in_turn, Setting, so_far, EachAfter, IsSteady, thread_choice, grant_of, is_granted_in, pressing, coming, helpers, new_helpers, is_short, lacks, surplus, waits, waits_short, spare, needs, is_open, open_choice, held_choice, fewer_come, more_press, may_preempt, choice_for, has_acted, act_of, acts_in_place, turn_in_place, task_in_place, place_of, grants_of_first, bounded_of}
-use Rattle.std.proofs.Common.{length-append}
-use Rattle.std.proofs.lemmas.Bool.{or_right}
+use Rattle.cal_guarantee.proofs.Common.{◌≡◌, ℕ, ◌+◌, ◌<◌, ◌≤◌, ◌⊎◌, Bool, true, false, not, ◌&&◌, ◌||◌, cond, List, [], ◌∷◌, ◌++◌, length, Option, Some, None, refl, ap, sym, ◌∙◌, subst, arith, inl, inr, ⊎_elim, zero, suc, append_assoc, length-append, append-nil, and_from, or_left, ltb-false, or_right, option_or, is_some, IsTable, thread_of, is_latency_critical, Action, Revoke, Grant, CoreClass, Candidate, actions_of, holder_of, class_number, is_idle, is_free, is_held, in_turn, Setting, so_far, EachAfter, IsSteady, thread_choice, grant_of, is_granted_in, pressing, coming, helpers, new_helpers, is_short, lacks, surplus, waits, waits_short, needs, open_choice, held_choice, fewer_come, more_press, may_preempt, choice_for, has_acted, act_of, acts_in_place, turn_in_place, grants_of_first, task_in_place, place_of, bounded_of, AllMove, act_moves, tasks_placed, count_all, waits_by, granted_to, needs_at}
 use Rattle.cal_policy.specs.declared.history.action.Cause.TheVariants as causes
 use Rattle.cal_policy.proofs.AssuredLemmas.Walks.{first_turns}
-use Rattle.cal_policy.proofs.AssuredLemmas.BooksNoMore.{AllMove, act_moves}
 use Rattle.cal_policy.proofs.AssuredLemmas.Done.{IsServing, grants_made}
-use Rattle.cal_policy.proofs.AssuredLemmas.Room.{is_unused, unused_cores, serves_few}
-use Rattle.cal_policy.proofs.AssuredLemmas.TurnOrder.{tasks_placed}
-use Rattle.cal_assured.proofs.OwedTaken.{count_all}
-use Rattle.cal_assured.proofs.KeptTaken.{waits_by}
-use Rattle.cal_guarantee.specs.WholeGuarantee.{granted_to, needs_at}
+use Rattle.cal_policy.proofs.AssuredLemmas.Room.{is_unused, serves_few}
 use Rattle.cal_guarantee.proofs.Sums.{count_some}
 use Rattle.cal_guarantee.proofs.Steps.{open_taken, held_lost}
 use Rattle.cal_guarantee.proofs.Counts.{short_parts, lacks_none}

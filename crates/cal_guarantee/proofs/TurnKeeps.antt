@@ -1,11 +1,6 @@
 -- What each act of a short task keeps holds at the end of its turn; and how what it needs goes down by what
 -- it is granted.
-use Rattle.cal_guarantee.proofs.Common.{◌≡◌, ℕ, ◌+◌, ◌-◌, ◌<◌, ◌≤◌, ◌⊎◌, Bool, true, false, ◌&&◌, cond, eqb, List, [], ◌∷◌, ◌++◌, length, Some, refl, ap, sym, ◌∙◌, subst, arith, inl, inr, ⊎_elim, append_assoc, zero, suc, append-nil, cases_Bool, and_parts, and_from, eq-eqb, Table, IsTable, owner_of, thread_of, guaranteed_of, Action, Free, Unban, Ban, Revoke, Cap, Grant, Setting, so_far, booked_by, thread_choice, grant_of, EachAfter, IsSteady, so_far_more, pressing, new_helpers, is_short, lacks, waits, waits_short, spare, choice_for, may_act, act_of, acts_in_place}
-use Rattle.std.proofs.lemmas.List.Sums.{sum_by_push}
-use Rattle.cal_policy.specs.declared.history.action.Cause.{Cause}
-use Rattle.cal_policy.proofs.AssuredLemmas.BooksNoMore.{Moves, AllMove, act_moves}
-use Rattle.cal_assured.proofs.KeptTaken.{OneLess, one_less}
-use Rattle.cal_guarantee.specs.WholeGuarantee.{grants_to, granted_to}
+use Rattle.cal_guarantee.proofs.Common.{◌≡◌, ℕ, ◌+◌, ◌<◌, ◌≤◌, Bool, true, false, ◌&&◌, cond, List, [], ◌∷◌, ◌++◌, length, Some, refl, ap, sym, ◌∙◌, subst, arith, append_assoc, zero, suc, append-nil, and_parts, and_from, eq-eqb, Table, IsTable, owner_of, thread_of, Action, Free, Unban, Ban, Revoke, Cap, Grant, Setting, so_far, booked_by, thread_choice, grant_of, EachAfter, IsSteady, so_far_more, pressing, new_helpers, is_short, lacks, waits, waits_short, spare, choice_for, may_act, act_of, acts_in_place, sum_by_push, Cause, Moves, AllMove, act_moves, OneLess, one_less, grants_to, granted_to}
 use Rattle.cal_guarantee.proofs.Steps.{IsStep, IsRevokeStep, IsGrantStep, act_steps, acts_steps}
 use Rattle.cal_guarantee.proofs.Acting.{acts_short}
 use Rattle.cal_guarantee.proofs.Counts.{short_parts, not_short_books, lacks_short, lacks_same}

@@ -1,5 +1,5 @@
 -- Who is short and waits does so up to its own turn.
-use Rattle.cal_guarantee.proofs.Common.{◌≡◌, ℕ, true, List, [], ◌++◌, refl, sym, ◌∙◌, subst, Action, booked_by, Setting, so_far, frees, IsSteady, bounded_of, place_of, grants_of_first, waits_short, ShortLastsToTheTurn, WaitsLastToTheGrants, WaitsLastToTheTurn}
+use Rattle.cal_guarantee.proofs.Common.{◌≡◌, true, List, [], ◌++◌, refl, sym, ◌∙◌, subst, Action, booked_by, so_far, frees, IsSteady, bounded_of, place_of, grants_of_first, waits_short, ShortLastsToTheTurn, WaitsLastToTheGrants, WaitsLastToTheTurn}
 use Rattle.cal_guarantee.proofs.Counts.{short_same}
 use Rattle.cal_guarantee.proofs.KeptAlong.{NoGrant, books_along, other_along, with_along}
 use Rattle.cal_guarantee.proofs.Freed.{frees_steady}

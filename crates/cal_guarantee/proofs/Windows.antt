@@ -1,8 +1,7 @@
 -- The passes p to p + d: what is being left for a task, and freed in the last of them.
-use Rattle.cal_guarantee.proofs.Common.{◌≡◌, ℕ, ◌+◌, ◌-◌, ◌<◌, ◌≤◌, true, false, cond, ltb, List, [], length, Some, slice_get, refl, ap, sym, ◌∙◌, subst, arith, ⊎_elim, zero, suc, cases_lt, and_from, lt-ltb, eqb-true, and_right, Table, Action, PassEntry, Holder, actions_of, holder_of, Setting, so_far, frees, leaves_for, IsSteady, is_leaving, owed_to, left_for}
+use Rattle.cal_guarantee.proofs.Common.{◌≡◌, ℕ, ◌+◌, ◌-◌, ◌<◌, ◌≤◌, true, false, cond, ltb, List, [], length, Some, slice_get, refl, ap, sym, ◌∙◌, subst, arith, ⊎_elim, zero, suc, cases_lt, and_from, lt-ltb, eqb-true, and_right, Table, Action, PassEntry, Holder, actions_of, holder_of, Setting, so_far, frees, leaves_for, IsSteady, is_leaving, owed_to, left_for, WaitsFromTo}
 use Rattle.cal_policy.specs.declared.history.action.Cause.TheVariants as causes
 use Rattle.cal_policy.specs.declared.board.holders.Holder.TheVariants as holders
-use Rattle.cal_guarantee.specs.Enough.{WaitsFromTo}
 use Rattle.cal_guarantee.proofs.Freed.{was_left, after_frees, frees_steady}
 use Rattle.cal_guarantee.proofs.Calm.{IsCalm, NoneLeaves, leaves_refl, leaves_chain, calm_frees}
 use Rattle.cal_guarantee.proofs.PassTurns.{after_freed, pass_freed, after_steps, ToAny}

@@ -3,6 +3,7 @@
 ghost use Rattle.cal_assured.specs.Guarantee.{GuaranteesAreGiven};
 ghost use Rattle.cal_guarantee.specs.Enough.{FirstAndLastAreEnough};
 ghost use Rattle.cal_guarantee.specs.Example.{TheBoundIsReached};
+ghost use Rattle.cal_guarantee.specs.Honest.{HonestWaitsStay};
 ghost use Rattle.cal_guarantee.specs.WholeGuarantee.{GuaranteesAreGivenWhole};
 
 /// Let a latency-critical task be short and wait where the grants of each of the passes `p` to
@@ -29,6 +30,13 @@ pub fn first_and_last_are_enough()
 /// Then in these passes `n` cores are granted to its threads.
 pub fn guarantees_are_given_whole()
     ensures { GuaranteesAreGivenWhole }
+{}
+
+/// An honest wait does not come and go. Let a request of a thread be late in one pass, and clocks not
+/// fall from then on. In each later pass in which the thread shows it still, is on no core where the
+/// grants begin and has room in its ring, its task waits there if it is short.
+pub fn honest_waits_stay()
+    ensures { HonestWaitsStay }
 {}
 
 /// The guarantee's premises can be met, and its bound is exact. In a run of four passes on two cores
