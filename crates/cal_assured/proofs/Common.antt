@@ -1,5 +1,5 @@
 -- The names from outside these proofs that several of them cite, passed on from one place. Declares nothing.
-pub use Rattle.cal_assured.specs.Laws.{BansEndForWhatIsLacked, BansLeaveWhatIsLacked, KeptCoresAreTaken, MayTakeWhatIsOwed, NoCoreIsRevokedTwice, NoMoreIsTakenThanIsLacked, NoneGrantedTo, OwedCoresAreKept, OwedCoresAreTaken, RevocationsHaveCause, TheLaterComesFirst, is_open_for, made_before_turn, owed_open}
+pub use Rattle.cal_assured.specs.Laws.{BansEndForWhatIsLacked, BansLeaveWhatIsLacked, KeptCoresAreTaken, MayTakeWhatIsOwed, NoCoreIsRevokedTwice, NoMoreIsTakenThanIsLacked, NoneGrantedTo, OwedCoresAreKept, OwedCoresAreTaken, RevocationsHaveCause, TheFewestHeldComesFirst, TheLaterComesFirst, is_open_for, made_before_turn, owed_open}
 pub use Rattle.cal_machine.proofs.Booleans.{some_else, some_then, unwrap_if}
 pub use Rattle.cal_machine.specs.Machine.{sibling_of}
 pub use Rattle.cal_machine.specs.Table.{IsTable, IsTask, Table}

@@ -1,6 +1,8 @@
 -- Laws of one pass, each by what the policy makes at its place.
-use Rattle.cal_assured.proofs.Common.{◌≡◌, ◌≢◌, ℕ, ◌+◌, ◌<◌, ◌⊎◌, Bool, true, false, not, ◌&&◌, ◌||◌, cond, eqb, ltb, leb, List, [], ◌∷◌, ◌++◌, length, Option, Some, None, inl, inr, refl, sym, ap, ◌∙◌, arith, subst, append_assoc, append-nil, ⊎_elim, option_or, is_some, and_parts, and_cases, not-true, not_from_false, leb-false, ltb-false, ltb-true, ne_eqb, eqb-true, both_ways, sibling_of, owner_of, thread_of, is_latency_critical, IsTable, some_then, some_else, Action, Ban, Revoke, Grant, Candidate, CoreClass, class_number, holder_of, is_free, in_turn, ban_due, thread_choice, grant_of, may_book, is_granted_in, preempt_class, followed, Setting, so_far, is_held_with_room, lowest_passes, thread_facts, may_act, act_of, act_in_place, turn_in_place, grants_of_first, pressing, coming, MayTakeWhatIsOwed, OwedCoresAreKept, NoCoreIsRevokedTwice, NoMoreIsTakenThanIsLacked, BansLeaveWhatIsLacked, NoneGrantedTo, made_before_turn, TheLaterComesFirst, RevocationsHaveCause, owed_to, owed_below, bounded_of, is_short, lacks, needs, lacking, open_cores, is_open, surplus, waits, waits_short, some_waits_short, are_lacked, is_kept_for, is_kept_for_short, is_kept, open_choice, fewer_come, may_take_from, held_class, more_press, may_preempt, held_choice, choice_for, place_lower, tasks_placed}
+use Rattle.cal_assured.proofs.Common.{◌≡◌, ◌≢◌, ℕ, ◌+◌, ◌<◌, ◌⊎◌, Bool, true, false, not, ◌&&◌, ◌||◌, cond, eqb, ltb, leb, List, [], ◌∷◌, ◌++◌, length, Option, Some, None, inl, inr, refl, sym, ap, ◌∙◌, arith, subst, append_assoc, append-nil, ⊎_elim, option_or, is_some, and_parts, and_cases, not-true, not_from_false, leb-false, lt-ltb, ltb-false, ltb-true, ne_eqb, eqb-true, both_ways, sibling_of, owner_of, thread_of, is_latency_critical, guaranteed_of, IsTable, some_then, some_else, Action, Ban, Revoke, Grant, Candidate, CoreClass, class_number, holder_of, is_free, booked_by, in_turn, ban_due, thread_choice, grant_of, may_book, is_granted_in, preempt_class, followed, Setting, so_far, is_held_with_room, lowest_passes, thread_facts, may_act, act_of, act_in_place, turn_in_place, grants_of_first, pressing, coming, MayTakeWhatIsOwed, OwedCoresAreKept, NoCoreIsRevokedTwice, NoMoreIsTakenThanIsLacked, BansLeaveWhatIsLacked, NoneGrantedTo, made_before_turn, TheLaterComesFirst, TheFewestHeldComesFirst, RevocationsHaveCause, owed_to, owed_below, bounded_of, is_short, lacks, needs, lacking, open_cores, is_open, surplus, waits, waits_short, some_waits_short, are_lacked, is_kept_for, is_kept_for_short, is_kept, open_choice, fewer_come, may_take_from, held_class, more_press, may_preempt, held_choice, choice_for, place_lower, tasks_placed}
 use Rattle.std.specs.List.{slice_get}
+use Rattle.cal_policy.specs.Board.Counts.{held_by}
+use Rattle.cal_policy.specs.Assured.Pass.{ComesTo}
 use Rattle.cal_policy.specs.declared.history.action.Cause.TheVariants as causes
 use Rattle.cal_policy.specs.declared.board.holders.Placement.{Placement}
 use Rattle.cal_policy.specs.declared.board.holders.Holder.TheVariants.{Held}
@@ -170,21 +172,22 @@ none_made s acts more u place ok own low before none made =
     ∙ append_assoc before_u (grant ∷ acts_first.0 ++ first.0) more in
     none (length before_u) made.core made.thread made.class (ap (λ l. slice_get l (length before_u)) whole ∙ place_after before_u rest grant) made.own
 
-pub later_comes_first : TheLaterComesFirst
-later_comes_first s acts core thread class u comes later none =
+-- a task that goes before one which is granted a core
+goes_first : (s : Setting) (acts : List Action) (core thread class u : ℕ) → ComesTo s acts (Grant core thread class) → u < length s.table.tasks →
+    goes_before s (so_far s (bounded_of s)) u (owner_of s.table thread) ≡ true → NoneGrantedTo s.table acts u →
+    (waits s (so_far s (made_before_turn s u)) u ≡ false) ⊎ (open_choice s (so_far s (made_before_turn s u)) u ≡ None)
+goes_first s acts core thread class u comes own order none =
     let m = comes_done s acts (Grant core thread class) comes in
     let x : List Action = so_far s (bounded_of s) in
     let facts = thread_facts s (so_far s acts) m.task m.chosen_thread m.own m.longest in
     let owner : owner_of s.table thread ≡ m.task = ap (owner_of s.table) m.thread_chosen ∙ facts.owner in
-    let order : goes_before s x u (owner_of s.table thread) ≡ true =
-    later_first s x u (owner_of s.table thread) (group_one s x u later.not_short later.critical) (group_one s x (owner_of s.table thread) later.other_not_short later.other_critical) later.later in
     let first : goes_before s x u m.task ≡ true = ap (goes_before s x u) (sym owner) ∙ order in
-    let lower = place_lower s x u m.task later.own first in
+    let lower = place_lower s x u m.task own first in
     let there = lowest_passes (λ t. eqb (place_of s x t) m.place) (length s.table.tasks) m.task m.turn in
     let at : place_of s x m.task ≡ m.place = eqb-true (place_of s x m.task) m.place there.1 in
     let low : place_of s x u < m.place = omega (arith, lower, at) in
     let turn : List Action = made_before_turn s u in
-    decide s acts _ u m.place comes.table later.own low m.before none (waits s (so_far s turn) u) refl (open_choice s (so_far s turn) u) refl
+    decide s acts _ u m.place comes.table own low m.before none (waits s (so_far s turn) u) refl (open_choice s (so_far s turn) u) refl
   where
     decide : (s : Setting) (acts more : List Action) (u place : ℕ) → IsTable s.table → u < length s.table.tasks → place_of s (so_far s (bounded_of s)) u < place →
         acts ≡ followed (bounded_of s) (grants_of_first place s) ++ more → NoneGrantedTo s.table acts u →
@@ -195,3 +198,26 @@ later_comes_first s acts core thread class u comes later none =
     decide s acts more u place ok own low before none true e (Some core) f =
         absurd (none_made s acts more u place ok own low before none
         (makes_by s (made_before_turn s u) u own e (acts_first_time s u own) (thread_choice s (so_far s (made_before_turn s u)) u) refl core f))
+
+pub later_comes_first : TheLaterComesFirst
+later_comes_first s acts core thread class u comes later none =
+    let x : List Action = so_far s (bounded_of s) in
+    goes_first s acts core thread class u comes later.own
+    (later_first s x u (owner_of s.table thread) (group_one s x u later.not_short later.critical) (group_one s x (owner_of s.table thread) later.other_not_short later.other_critical) later.later) none
+
+-- of best-effort tasks the one goes before that holds fewer cores
+group_two : (s : Setting) (x : List Action) (t : ℕ) → is_latency_critical s.table t ≡ false → group_of s x t ≡ 2
+group_two s x t burstable =
+    ap (λ (b : Bool). cond (b && ltb (booked_by s.table x t) (guaranteed_of s.table t)) 0 (cond b 1 2)) burstable
+
+fewer_first : (s : Setting) (x : List Action) (u t : ℕ) → group_of s x u ≡ 2 → group_of s x t ≡ 2 → held_by s.table x u < held_by s.table x t → goes_before s x u t ≡ true
+fewer_first s x u t gu gt fewer =
+    ap (λ g. cond (ltb g (group_of s x t)) true (cond (ltb (group_of s x t) g) false (cond (is_rather s x g u t) true (cond (is_rather s x g t u) false (ltb u t))))) gu
+    ∙ ap (λ g. cond (ltb 2 g) true (cond (ltb g 2) false (cond (is_rather s x 2 u t) true (cond (is_rather s x 2 t u) false (ltb u t))))) gt
+    ∙ ap (λ (b : Bool). cond b true (cond (is_rather s x 2 t u) false (ltb u t))) (lt-ltb (held_by s.table x u) (held_by s.table x t) fewer)
+
+pub fewest_comes_first : TheFewestHeldComesFirst
+fewest_comes_first s acts core thread class u comes few none =
+    let x : List Action = so_far s (bounded_of s) in
+    goes_first s acts core thread class u comes few.own
+    (fewer_first s x u (owner_of s.table thread) (group_two s x u few.burstable) (group_two s x (owner_of s.table thread) few.other_burstable) few.fewer) none

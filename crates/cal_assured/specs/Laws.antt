@@ -10,7 +10,7 @@ use Rattle.cal_policy.specs.declared.history.action.Cause.TheVariants as causes
 use Rattle.cal_policy.specs.declared.board.holders.Placement.{Placement}
 use Rattle.cal_policy.specs.declared.board.holders.Holder.TheVariants.{Held}
 use Rattle.cal_policy.specs.History.{holder_of, is_banned}
-use Rattle.cal_policy.specs.Board.Counts.{is_free}
+use Rattle.cal_policy.specs.Board.Counts.{is_free, held_by}
 use Rattle.cal_policy.specs.Assured.Cause.{HasCause}
 use Rattle.cal_policy.specs.Assured.InFlight.{pressing, coming, new_helpers}
 use Rattle.cal_policy.specs.Assured.Owed.{owed_to, owed_below, is_task}
@@ -124,6 +124,22 @@ made_before_turn s u =
 abbrev pub TheLaterComesFirst : Type 0
 TheLaterComesFirst = (s : Setting) (acts : List Action) (core thread class u : ℕ) →
     ComesTo s acts (Grant core thread class) → IsLaterOf s u (owner_of s.table thread) →
+    NoneGrantedTo s.table acts u →
+    (waits s (so_far s (made_before_turn s u)) u ≡ false)
+    ⊎ (open_choice s (so_far s (made_before_turn s u)) u ≡ None)
+
+-- of two best-effort tasks u held fewer cores than t where the grants began
+pub record HoldsFewerThan (s : Setting) (u t : ℕ) : Type 0 where
+  pub own : u < length s.table.tasks
+  pub burstable : is_latency_critical s.table u ≡ false
+  pub other_burstable : is_latency_critical s.table t ≡ false
+  pub fewer : held_by s.table (so_far s (bounded_of s)) u < held_by s.table (so_far s (bounded_of s)) t
+
+-- where t is granted a free core, and u was granted none before, then at its turn u did not wait, or
+-- might take no open core
+abbrev pub TheFewestHeldComesFirst : Type 0
+TheFewestHeldComesFirst = (s : Setting) (acts : List Action) (core thread class u : ℕ) →
+    ComesTo s acts (Grant core thread class) → HoldsFewerThan s u (owner_of s.table thread) →
     NoneGrantedTo s.table acts u →
     (waits s (so_far s (made_before_turn s u)) u ≡ false)
     ⊎ (open_choice s (so_far s (made_before_turn s u)) u ≡ None)

@@ -18,6 +18,7 @@ pub use order::{places_have_their_task, tasks_have_their_place, turns_are_in_ord
 pub use passes::{
     bans_end_for_what_is_lacked, bans_leave_what_is_lacked, kept_cores_are_taken,
     no_core_is_revoked_twice, no_more_is_taken_than_is_lacked, owed_cores_are_kept,
-    owed_cores_are_taken, revocations_have_cause, the_later_comes_first,
+    owed_cores_are_taken, revocations_have_cause, the_fewest_held_comes_first,
+    the_later_comes_first,
 };
 pub use rings::rings_have_room;

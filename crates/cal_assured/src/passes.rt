@@ -4,7 +4,7 @@ ghost use Rattle.cal_assured.specs.Laws.{OwedCoresAreKept, NoMoreIsTakenThanIsLa
 ghost use Rattle.cal_assured.specs.Laws.{NoCoreIsRevokedTwice, BansLeaveWhatIsLacked};
 ghost use Rattle.cal_assured.specs.Laws.{BansEndForWhatIsLacked, TheLaterComesFirst};
 ghost use Rattle.cal_assured.specs.Laws.{RevocationsHaveCause, OwedCoresAreTaken};
-ghost use Rattle.cal_assured.specs.Laws.{KeptCoresAreTaken};
+ghost use Rattle.cal_assured.specs.Laws.{KeptCoresAreTaken, TheFewestHeldComesFirst};
 
 use cal_policy::laws::action_is_one_more;
 
@@ -57,6 +57,13 @@ pub fn bans_end_for_what_is_lacked()
 /// later one did not wait or might take no open core.
 pub fn the_later_comes_first()
     ensures { TheLaterComesFirst }
+{}
+
+/// Of two best-effort tasks: if the one that held more cores where the grants began is granted one, and
+/// the other was granted none before it in this pass, then at its turn the other did not wait or might
+/// take no open core.
+pub fn the_fewest_held_comes_first()
+    ensures { TheFewestHeldComesFirst }
 {}
 
 /// Each revocation of a pass is for what its cause says.
