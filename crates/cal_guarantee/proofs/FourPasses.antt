@@ -1,7 +1,6 @@
 -- The run of four passes is legal, and in it a task waits to the last.
-use Rattle.cal_guarantee.proofs.Common.{◌≡◌, ℕ, ◌<◌, ◌≤◌, true, false, List, [], ◌∷◌, take, Some, slice_get, refl, ap, sym, ◌∙◌, subst, arith, zero, suc, All, IsTable, IsTask, task_of, owner_of, Revoke, Grant, PassEntry, actions_of, looks_of, holder_of, setting_of, so_far, is_leaving, WasLongRevoked, IsFreedIn, AsksOfPass, bounded_of, pass_of, IsPass, waits_short}
+use Rattle.cal_guarantee.proofs.Common.{◌≡◌, ℕ, ◌<◌, ◌≤◌, true, false, List, [], ◌∷◌, take, Some, slice_get, refl, ap, sym, ◌∙◌, subst, arith, zero, suc, All, IsTable, IsTask, task_of, owner_of, Revoke, Grant, PassEntry, actions_of, looks_of, holder_of, setting_of, so_far, is_leaving, WasLongRevoked, IsFreedIn, AsksOfPass, bounded_of, pass_of, IsPass, waits_short, slice_index_or}
 use Rattle.std.proofs.lemmas.List.Elements.{All-cons}
-use Rattle.std.specs.Prelude.{slice_index_or}
 use Rattle.cal_signal.specs.declared.record.Record.{Record}
 use Rattle.cal_signal.specs.Records.{IsLater, IsShaped}
 use Rattle.cal_signal.specs.Shown.{IsFitShown}
