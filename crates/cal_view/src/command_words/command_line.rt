@@ -48,6 +48,11 @@ pub enum InputJob {
         /// What goes in front.
         front: Front,
     },
+    /// Make a run on arrivals, and write its history, with the task table in front or without it.
+    Run {
+        /// What goes in front.
+        front: Front,
+    },
     /// Write facts of a history, or of the run that arrivals make, as CSV.
     Facts {
         /// Which facts.
@@ -76,6 +81,8 @@ pub struct Request<'a> {
     pub policy: Policy,
     /// The plan that its runs are to go by; without it they are in lockstep.
     pub plan: Option<Plan>,
+    /// The file of the history whose passes they have; without it a policy makes them.
+    pub replay: Option<&'a str>,
     /// From when their requests count, and which of them are ranked.
     pub counting: CountWords<'a>,
     /// What tasks and clock ticks are to be called.
@@ -105,6 +112,7 @@ pub fn help(alloc: Global) -> Result<String, AllocError> {
 /// stands to be dropped where memory is refused.
 fn program<'a>(alloc: Global) -> Result<Command<'a>, AllocError> {
     let program = bare_program(alloc)?;
+    let program = program.subcommand(run_word(alloc)?)?;
     let program = program.subcommand(history_word(alloc)?)?;
     let about = "Write which thread had which core when, and the bans, as CSV";
     let program = program.subcommand(facts_word(alloc, "spans", about, help_texts::SPANS)?)?;
@@ -160,6 +168,16 @@ fn history_word<'a>(alloc: Global) -> Result<Command<'a>, AllocError> {
         .arg(table_word(alloc))?
         .arg(policy_word(alloc))?
         .arg(output_word(alloc))
+}
+
+fn run_word<'a>(alloc: Global) -> Result<Command<'a>, AllocError> {
+    let command = Command::new(alloc, "run")
+        .about("Make a run on arrivals, and write its history")
+        .after_long_help(help_texts::RUN)
+        .arg(input_word(alloc))?
+        .arg(table_word(alloc))?
+        .arg(policy_word(alloc))?;
+    with_plan_words(alloc, command)?.arg(output_word(alloc))
 }
 
 fn measure_word<'a>(alloc: Global) -> Result<Command<'a>, AllocError> {
@@ -267,6 +285,7 @@ fn request_of<'a>(alloc: Global, matches: &ArgMatches<'a>) -> Result<Request<'a>
         job: job_of(alloc, name, own)?,
         policy: policy_asked(own),
         plan: plan_asked(own),
+        replay: own.get_str("replay"),
         counting: count_words(name, own),
         labels: LabelWords {
             names: own.get_str("names"),
@@ -283,12 +302,19 @@ fn file_named(name: Option<&str>) -> Option<&str> {
 }
 
 impl<'a> Request<'a> {
+    /// Whether a run alone is asked for, and nothing of a history that was recorded: by a plan, to
+    /// count its requests, or to replay a history.
+    pub fn is_run_alone(&self) -> bool {
+        self.plan.is_some() || self.replay.is_some() || self.counting.are_given()
+    }
+
     /// What no words ask for.
     fn help() -> Request<'a> {
         Request {
             job: Job::Help,
             policy: Policy::Caladan,
             plan: None,
+            replay: None,
             counting: CountWords::NONE,
             labels: LabelWords {
                 names: None,
@@ -320,6 +346,9 @@ fn input_job(name: &str, own: &ArgMatches<'_>) -> InputJob {
     if name == "history" {
         let front = front_of(own.get_flag("table"));
         InputJob::History { front }
+    } else if name == "run" {
+        let front = front_of(own.get_flag("table"));
+        InputJob::Run { front }
     } else if let Some(facts) = Facts::named(name) {
         InputJob::Facts { facts }
     } else if name == "measure" {

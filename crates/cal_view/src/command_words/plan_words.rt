@@ -1,6 +1,7 @@
 //! The options of a plan: what makes the runs on arrivals like a machine.
 
 use crate::command_words::command_line::{number_word, value_word};
+use crate::command_words::replay_words::replay_word;
 use cal_paced::{Figure, Plan, WHOLE};
 use clap::{Arg, ArgMatches, Command};
 use std::alloc::{AllocError, Global};
@@ -8,13 +9,14 @@ use std::alloc::{AllocError, Global};
 /// The names of where the bandwidth figures come from.
 const FIGURES: [&str; 2] = ["given", "shown"];
 
-/// The options of a plan.
+/// The options of a plan, and the one of a history that is replayed.
 pub fn with_plan_words<'a>(alloc: Global, command: Command<'a>) -> Result<Command<'a>, AllocError> {
     command
         .arg(pace_word(alloc))?
         .arg(beside_word(alloc))?
         .arg(memory_word(alloc))?
-        .arg(figure_word(alloc))
+        .arg(figure_word(alloc))?
+        .arg(replay_word(alloc)?)
 }
 
 fn pace_word<'a>(alloc: Global) -> Arg<'a> {
