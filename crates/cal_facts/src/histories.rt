@@ -1,5 +1,12 @@
 //! The history of a run.
 
+ghost use Rattle.std.specs.Prelude.{◌≡◌, IfErr, IfOk};
+ghost use Rattle.cal_facts.specs.Histories.{IsAskedHistory, IsHistoryOfRun};
+ghost use Rattle.cal_input.specs.Parts.{run_input_of};
+ghost use Rattle.cal_tables.specs.Asked.{asked_run};
+ghost use Rattle.cal_tables.specs.Planned.{DecidedBy, IsFaultBy};
+ghost use Rattle.cal_trace.specs.Arrivals.FitsTable.{FitsTable};
+
 use cal_input::run_input;
 use cal_kthread::TurnEntries;
 use cal_machine::Config;
@@ -52,6 +59,29 @@ pub struct RunHistory {
     pub passes: Vec<PassEntry>,
 }
 
+/// Makes a whole run by this policy, and by this plan or in lockstep, on one thread on these arrivals,
+/// and keeps its passes. The fault is `Memory`, or that of the plan on them.
+fn passes_of_run(
+    alloc: Global,
+    config: &Config,
+    policy: Policy,
+    plan: Option<Plan>,
+    arrivals: Arrivals,
+) -> Result<Vec<PassEntry>, PlannedFault>
+    requires fits { FitsTable config.now arrivals }
+    ensures passes { IfOk result (λ passes.
+        IsHistoryOfRun plan policy config.now arrivals passes.items) }
+    ensures fault { IfErr result (IsFaultBy plan arrivals) }
+{
+    let mut given = planned_for(alloc, plan, arrivals)?;
+    let mut open = OpenHistory {
+        passes: Vec::new(alloc),
+    };
+    collected_by(alloc, config, policy, plan, &mut given, &mut open)?;
+    let OpenHistory { passes } = open;
+    Ok(passes)
+}
+
 /// Makes the run that an input asks for, by this policy, and by this plan or in lockstep, on one
 /// thread, and keeps its passes.
 ///
@@ -61,13 +91,12 @@ pub fn run_history(
     policy: Policy,
     plan: Option<Plan>,
     input: &[u8],
-) -> Result<RunHistory, PlannedFault> {
+) -> Result<RunHistory, PlannedFault>
+    ensures history { IfOk result (IsAskedHistory plan policy (run_input_of input.now)) }
+    ensures fault { IfErr result (λ fault.
+        DecidedBy plan fault (asked_run (run_input_of input.now))) }
+{
     let (config, arrivals) = run_input(alloc, input)?;
-    let mut given = planned_for(alloc, plan, arrivals)?;
-    let mut open = OpenHistory {
-        passes: Vec::new(alloc),
-    };
-    collected_by(alloc, &config, policy, plan, &mut given, &mut open)?;
-    let OpenHistory { passes } = open;
+    let passes = passes_of_run(alloc, &config, policy, plan, arrivals)?;
     Ok(RunHistory { config, passes })
 }

@@ -1,6 +1,12 @@
 //! The facts of a run whose passes are a history's.
 
-ghost use Rattle.std.specs.Prelude.{IfOk};
+ghost use Rattle.std.specs.Prelude.{◌≡◌, ◌≢◌, IfErr, IfOk};
+ghost use Rattle.cal_facts.specs.Replayed.{IsReplayedHistory, IsReplayedRequests, IsReplayedRows};
+ghost use Rattle.cal_facts.specs.Replayed.{IsReplayedText, IsReplayedTurns};
+ghost use Rattle.cal_facts.specs.Series.{series_text};
+ghost use Rattle.cal_facts.specs.Stretches.{spans_text};
+ghost use Rattle.cal_facts.specs.Telling.{Wrote};
+ghost use Rattle.cal_tables.specs.Replayed.{IsReplayOn};
 ghost use Rattle.cal_trace.specs.Arrivals.FitsTable.{FitsTable};
 ghost use Rattle.cal_trace.specs.History.Ranges.{IsInRange};
 ghost use Rattle.cal_trace.specs.History.Reading.{extent_of};
@@ -24,7 +30,7 @@ use cal_policy::{Actions, PassEntry};
 use cal_run::{Collector, step_given};
 use cal_sched::BareScheduler;
 use cal_tables::{
-    MeasuredInput, ReplayedFault, ReplayedInput, planned_for, read_replayed, replayed_by,
+    AskedFault, MeasuredInput, ReplayedFault, ReplayedInput, planned_for, read_replayed, replayed_by,
 };
 use cal_trace::Arrivals;
 use std::alloc::{AllocError, Global};
@@ -71,6 +77,7 @@ fn see_replayed(
 ) -> Result<(), ReplayedFault>
     requires fits { FitsTable config.now arrivals }
     requires range { IsInRange (extent_of config.now) history.now }
+    ensures { IfOk result (λ _. IsReplayOn plan config.now arrivals history.now) }
 {
     let mut given = planned_for(alloc, plan, arrivals)?;
     let actions = Actions::reserved(alloc)?;
@@ -90,6 +97,7 @@ pub fn replayed_history(
     input: &[u8],
     history: &[u8],
 ) -> Result<RunHistory, ReplayedFault>
+    ensures replay { IfOk result (IsReplayedHistory plan input.now history.now) }
     ensures range { IfOk result (λ run. IsInRange (extent_of run.config) run.passes.items) }
 {
     let ReplayedInput {
@@ -101,14 +109,6 @@ pub fn replayed_history(
     Ok(RunHistory { config, passes })
 }
 
-/// What a writer said, as a fault.
-fn wrote<T: Drop>(answer: Result<(), T>) -> Result<(), ReplayedFault> {
-    match answer {
-        Ok(()) => Ok(()),
-        Err(_) => Err(ReplayedFault::from(RunFault::Write)),
-    }
-}
-
 /// Writes the spans and the bans of the run of `replayed_history`, with its faults. Nothing is
 /// written before the run was made.
 pub fn write_replayed_spans<W: Write>(
@@ -117,10 +117,19 @@ pub fn write_replayed_spans<W: Write>(
     input: &[u8],
     history: &[u8],
     writer: &mut W,
-) -> Result<(), ReplayedFault> {
+) -> Result<(), ReplayedFault>
+    // The text of the history of a replay was written, and nothing else.
+    ensures exact { IfOk result (λ _. Wrote (IsReplayedText plan input.now history.now spans_text)
+        (W.contents writer.old) (W.contents writer.new)) }
+    ensures untouched { IfErr result (λ fault.
+        fault ≢ ReplayedFault.Asked (AskedFault.Run RunFault.Write) → writer.new ≡ writer.old) }
+{
     let RunHistory { config, passes } = replayed_history(alloc, plan, input, history)?;
     let facts = SpanFacts::of_history(alloc, &config, passes.as_slice())?;
-    wrote(write_facts(&config, &facts, writer))
+    match write_facts(&config, &facts, writer) {
+        Ok(()) => Ok(()),
+        Err(_) => Err(ReplayedFault::Asked(AskedFault::Run(RunFault::Write))),
+    }
 }
 
 /// Writes the series of the run of `replayed_history`, with its faults. Nothing is written before the
@@ -131,10 +140,19 @@ pub fn write_replayed_series<W: Write>(
     input: &[u8],
     history: &[u8],
     writer: &mut W,
-) -> Result<(), ReplayedFault> {
+) -> Result<(), ReplayedFault>
+    // The text of the history of a replay was written, and nothing else.
+    ensures exact { IfOk result (λ _. Wrote (IsReplayedText plan input.now history.now series_text)
+        (W.contents writer.old) (W.contents writer.new)) }
+    ensures untouched { IfErr result (λ fault.
+        fault ≢ ReplayedFault.Asked (AskedFault.Run RunFault.Write) → writer.new ≡ writer.old) }
+{
     let RunHistory { config, passes } = replayed_history(alloc, plan, input, history)?;
     let points = series_of_history(alloc, &config, passes.as_slice())?;
-    wrote(write_series_rows(&config, points.as_slice(), writer))
+    match write_series_rows(&config, points.as_slice(), writer) {
+        Ok(()) => Ok(()),
+        Err(_) => Err(ReplayedFault::Asked(AskedFault::Run(RunFault::Write))),
+    }
 }
 
 /// Writes the turns at work of the run of `replayed_history`, with its faults. Nothing is written
@@ -145,14 +163,23 @@ pub fn write_replayed_turns<W: Write>(
     input: &[u8],
     history: &[u8],
     writer: &mut W,
-) -> Result<(), ReplayedFault> {
+) -> Result<(), ReplayedFault>
+    // The text of the turns of a replay was written, and nothing else.
+    ensures exact { IfOk result (λ _. Wrote (IsReplayedTurns plan input.now history.now)
+        (W.contents writer.old) (W.contents writer.new)) }
+    ensures untouched { IfErr result (λ fault.
+        fault ≢ ReplayedFault.Asked (AskedFault.Run RunFault.Write) → writer.new ≡ writer.old) }
+{
     let ReplayedInput {
         config,
         arrivals,
         history: passes,
     } = read_replayed(alloc, input, history)?;
     let works = turns_of_replay(alloc, &config, plan, arrivals, passes.as_slice())?;
-    wrote(write_turn_rows(&config, works.as_slice(), writer))
+    match write_turn_rows(&config, works.as_slice(), writer) {
+        Ok(()) => Ok(()),
+        Err(_) => Err(ReplayedFault::Asked(AskedFault::Run(RunFault::Write))),
+    }
 }
 
 /// Writes what came of each request of the run of `replayed_history`, as `write_requests` does. The
@@ -163,7 +190,28 @@ pub fn write_replayed_requests<W: Write>(
     asked: MeasuredInput<'_>,
     history: &[u8],
     writer: &mut W,
-) -> Result<(), ReplayedFault> {
+) -> Result<(), ReplayedFault>
+    // The text of the requests of a replay was written, and nothing else.
+    ensures exact { IfOk result (λ _. Wrote (IsReplayedRows asked.entry history.now)
+        (W.contents writer.old) (W.contents writer.new)) }
+    ensures untouched { IfErr result (λ fault.
+        fault ≢ ReplayedFault.Asked (AskedFault.Run RunFault.Write) → writer.new ≡ writer.old) }
+{
+    let run = requests_replayed(alloc, asked, history)?;
+    match write_request_rows(&run, writer) {
+        Ok(()) => Ok(()),
+        Err(_) => Err(ReplayedFault::Asked(AskedFault::Run(RunFault::Write))),
+    }
+}
+
+/// The run of `replayed_history`, and what it served.
+fn requests_replayed(
+    alloc: Global,
+    asked: MeasuredInput<'_>,
+    history: &[u8],
+) -> Result<RunRequests, ReplayedFault>
+    ensures { IfOk result (IsReplayedRequests asked.entry history.now) }
+{
     let ReplayedInput {
         config,
         arrivals,
@@ -173,11 +221,10 @@ pub fn write_replayed_requests<W: Write>(
     let came = clocks_told(alloc, &told)?;
     let mut given = planned_for(alloc, asked.plan, arrivals)?;
     let served = served_of_replay(alloc, &config, asked.plan, &mut given, passes.as_slice())?;
-    let run = RunRequests {
+    Ok(RunRequests {
         config,
         arrivals: given,
         came,
         served,
-    };
-    wrote(write_request_rows(&run, writer))
+    })
 }

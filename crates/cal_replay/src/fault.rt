@@ -1,5 +1,8 @@
 //! Why a history is not replayed.
 
+ghost use Rattle.std.specs.Prelude.{◌≡◌};
+ghost use Rattle.cal_replay.specs.declared.fault.Stopped.TheVariants.{Collector};
+
 use crate::unlike::Unlike;
 use cal_guard::Refused;
 use std::alloc::AllocError;
@@ -75,6 +78,8 @@ pub enum Stopped<F> {
 }
 
 impl From<AllocError> for Stopped<AllocError> {
+    ghost from_gives = { λ e stopped. stopped ≡ Collector e };
+
     fn from(e: AllocError) -> Stopped<AllocError> {
         Stopped::Collector(e)
     }

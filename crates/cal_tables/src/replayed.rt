@@ -1,16 +1,18 @@
 //! A run whose passes are a history's, measured.
 
-ghost use Rattle.std.specs.Prelude.{◌≡◌, [], IfOk, IfErr, replicate};
+ghost use Rattle.std.specs.Prelude.{◌≡◌, ◌≢◌, [], IfOk, IfErr, replicate};
 ghost use Rattle.cal_machine.specs.Table.{Table};
 ghost use Rattle.cal_machine.specs.TableTasks.{threads_of_table};
 ghost use Rattle.cal_replay.specs.Faults.{IsStopped};
 ghost use Rattle.cal_replay.specs.Replays.{IsReplayTo};
 ghost use Rattle.cal_tables.specs.Planned.{AreGivenBy};
-ghost use Rattle.cal_tables.specs.Replayed.{IsReplayedRun};
+ghost use Rattle.cal_tables.specs.Replayed.{AreGivenBack, AreRead, IsReplayedRun};
+ghost use Rattle.cal_tables.specs.Replayed.{MayBeReplayed};
 ghost use Rattle.cal_trace.specs.Arrivals.FitsTable.{FitsTable};
 ghost use Rattle.cal_trace.specs.History.Ranges.{IsInRange};
 ghost use Rattle.cal_trace.specs.History.Reading.{extent_of};
 
+use crate::asked_fault::AskedFault;
 use crate::collecting::OpenNumbers;
 use crate::measuring::{MeasuredInput, RunNumbers, numbers_of_run};
 use crate::planned::planned_for;
@@ -50,6 +52,7 @@ pub fn read_replayed(
     input: &[u8],
     history: &[u8],
 ) -> Result<ReplayedInput, ReplayedFault>
+    ensures read { IfOk result (AreRead input.now history.now) }
     ensures fits { IfOk result (λ read. FitsTable read.config read.arrivals) }
     ensures range { IfOk result (λ read. IsInRange (extent_of read.config) read.history.items) }
 {
@@ -78,6 +81,7 @@ pub fn replayed_by<C: Collector>(
     requires range { IsInRange (extent_of config.now) history.now }
     requires opened { C.holds collector.old [] (replicate (threads_of_table config.now) []) }
     ensures fits { IfOk result (λ _. FitsTable config.now given.new) }
+    ensures given { IfOk result (λ _. AreGivenBack plan given.old given.new) }
     ensures replay { IfOk result
         (IsReplayTo (C.holds collector.new []) config.now given.new history.now) }
     ensures suits { (table : Table) → C.suits collector.old table →
@@ -103,6 +107,7 @@ pub fn replayed_numbers(
     requires fits { FitsTable config.now given.old }
     requires given { AreGivenBy plan given.old }
     requires range { IsInRange (extent_of config.now) history.now }
+    ensures given { IfOk result (λ _. AreGivenBack plan given.old given.new) }
     ensures numbers { IfOk result
         (IsReplayedRun config.now given.new history.now counted.now) }
     ensures stopped { IfErr result (IsStopped config.now given.new history.now) }
@@ -123,7 +128,9 @@ fn replayed_text(
     asked: MeasuredInput<'_>,
     history: &[u8],
     style: NumberStyle<'_>,
-) -> Result<String, ReplayedFault> {
+) -> Result<String, ReplayedFault>
+    ensures may { IfOk result (λ _. MayBeReplayed asked.entry history.now) }
+{
     let ReplayedInput {
         config,
         arrivals,
@@ -139,8 +146,8 @@ fn replayed_text(
 }
 
 /// Writes the numbers of the run that an input asks for, as `measure` does, where its passes are not
-/// the policy's but those of a history, whose rows are these. Nothing is written before the whole text is in
-/// memory.
+/// the policy's but those of a history, whose rows are these. Nothing is written before the whole text
+/// is in memory.
 ///
 /// The faults are those of `read_replayed`, then those of `counted_requests` and of the plan, and
 /// then those of the replay.
@@ -150,10 +157,15 @@ pub fn measure_replayed<W: Write>(
     history: &[u8],
     style: NumberStyle<'_>,
     writer: &mut W,
-) -> Result<(), ReplayedFault> {
+) -> Result<(), ReplayedFault>
+    // There is such a run, and nothing is written before it was made.
+    ensures may { IfOk result (λ _. MayBeReplayed asked.entry history.now) }
+    ensures untouched { IfErr result (λ fault.
+        fault ≢ ReplayedFault.Asked (AskedFault.Run RunFault.Write) → writer.new ≡ writer.old) }
+{
     let text = replayed_text(alloc, asked, history, style)?;
     match writer.write_all(text.as_bytes()) {
         Ok(()) => Ok(()),
-        Err(_) => Err(ReplayedFault::from(RunFault::Write)),
+        Err(_) => Err(ReplayedFault::Asked(AskedFault::Run(RunFault::Write))),
     }
 }

@@ -13,6 +13,7 @@ ghost use Rattle.cal_trace.specs.Arrivals.FitsTable.{FitsTable};
 ghost use Rattle.cal_trace.specs.History.Ranges.{IsInRange};
 ghost use Rattle.cal_trace.specs.History.Reading.{extent_of};
 ghost use Rattle.cal_trace.specs.declared.arrivals.Arrivals.{Arrivals as RunArrivals};
+ghost use Rattle.cal_facts.specs.Replayed.{IsReplayServed};
 ghost use Rattle.cal_facts.specs.Served.{IsRunServed};
 
 use crate::requests::served::ServedRequests;
@@ -129,6 +130,8 @@ pub(crate) fn served_of_replay(
     requires fits { FitsTable config.now given.old }
     requires given { AreGivenBy plan given.old }
     requires range { IsInRange (extent_of config.now) history.now }
+    ensures { (arrivals : RunArrivals) → ArePlannedBy plan arrivals given.old →
+        IfOk result (IsReplayServed plan config.now arrivals given.new history.now) }
 {
     let mut open = OpenRequests::open(alloc, config)?;
     replayed_by(alloc, config, plan, given, history, &mut open)?;

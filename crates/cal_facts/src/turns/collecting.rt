@@ -6,6 +6,7 @@ ghost use Rattle.cal_tables.specs.Planned.{IsFaultBy};
 ghost use Rattle.cal_trace.specs.Arrivals.FitsTable.{FitsTable};
 ghost use Rattle.cal_trace.specs.History.Ranges.{IsInRange};
 ghost use Rattle.cal_trace.specs.History.Reading.{extent_of};
+ghost use Rattle.cal_facts.specs.Replayed.{AreTurnsOfReplay};
 ghost use Rattle.cal_facts.specs.WorkTurns.{AreTurnsOfRun};
 
 use crate::turns::work::WorkTurn;
@@ -101,6 +102,8 @@ pub(crate) fn turns_of_replay(
 ) -> Result<Vec<WorkTurn>, ReplayedFault>
     requires fits { FitsTable config.now arrivals }
     requires range { IsInRange (extent_of config.now) history.now }
+    ensures { IfOk result (λ works.
+        AreTurnsOfReplay plan config.now arrivals history.now works.items) }
 {
     let mut given = planned_for(alloc, plan, arrivals)?;
     let mut open = OpenTurns::open(alloc, config)?;

@@ -3,12 +3,11 @@
 use crate::command_words::command_line::InputJob;
 use crate::jobs::counting::end_asked;
 use crate::jobs::input::JobInput;
-use crate::jobs::running::write_run;
+use crate::jobs::running::record_replay;
 use crate::jobs::telling::Facts;
 use cal_engine::Front;
 use cal_facts::{
-    RunHistory, replayed_history, write_replayed_requests, write_replayed_series,
-    write_replayed_spans, write_replayed_turns,
+    write_replayed_requests, write_replayed_series, write_replayed_spans, write_replayed_turns,
 };
 use cal_input::RunFault;
 use cal_tables::{NumberForm, NumberStyle, ReplayedFault, measure_replayed};
@@ -57,10 +56,8 @@ fn write_replayed<W: Write>(
     front: Front,
     output: &mut W,
 ) -> Result<(), ReplayedFault> {
-    let (alloc, bytes) = (input.alloc, input.bytes());
-    let RunHistory { passes, .. } = replayed_history(alloc, input.plan, bytes, history.text)?;
-    write_run(front, bytes, passes.as_slice(), output)?;
-    Ok(())
+    let (alloc, plan, bytes) = (input.alloc, input.plan, input.bytes());
+    record_replay(alloc, plan, bytes, history.text, front, output)
 }
 
 /// Writes the numbers of the run.

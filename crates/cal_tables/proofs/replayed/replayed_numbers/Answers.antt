@@ -21,6 +21,12 @@ pub numbers_of_run-requires-clause-fits : goal.numbers_of_run-requires-clause-fi
 numbers_of_run-requires-clause-fits c =
     subst (λ (t : Table). FitsTable t c.replayed_by.new.given) (sym (c.in_ok-ended.ensures.table ∙ (c.in_ok-left.ensures.suits c.args.config.now (c.in_ok-numbers.ensures.table, c.in_ok-numbers.ensures.open)).0)) c.in_ok-left.ensures.fits
 
+pub numbers_of_run-requires-clause-open : goal.numbers_of_run-requires-clause-open
+numbers_of_run-requires-clause-open c =
+    let suits = c.in_ok-left.ensures.suits c.args.config.now (c.in_ok-numbers.ensures.table, c.in_ok-numbers.ensures.open) in
+    subst (λ (t : Table). IsOpenFor t c.in_ok-ended.ended.walk) (sym (c.in_ok-ended.ensures.table ∙ suits.0))
+    (subst (λ (w : Walk). IsOpenFor c.args.config.now w) (sym c.in_ok-ended.ensures.walk) c.in_ok-numbers-2.ensures.open)
+
 pub returns-clause-numbers : goal.returns-clause-numbers
 returns-clause-numbers c =
     let run = c.in_ok-left.ensures.replay in
