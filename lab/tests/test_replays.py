@@ -98,11 +98,11 @@ def test_the_proved_guard_has_the_last_word(lab: Run, replay: str, tmp_path: Pat
         f"    sys.path.insert(0, {str(TOP / 'lab' / 'src')!r})\n"
         "    import caladan.policies.policy\n    caladan.policies.policy.wrong_with = lambda *_: None\n")
     program = tmp_path / "unsafe"
-    program.write_text("#!/bin/sh\nwhile read row; do [ -n \"$row\" ] || { echo grant,0,0,3; echo grant,1,0,3; echo; }; "
-                       "done\n")
+    program.write_text("#!/bin/sh\nwhile read row; do [ -n \"$row\" ] || "
+                       "{ echo grant,0,0,3; echo grant,1,0,3; echo; }; done\n")
     program.chmod(0o755)
     monkeypatch.setenv("PYTHONPATH", str(tmp_path))
     told = lab("sweep", "--load", "0.5", "--turns", "9", "--policy", f"exec:{program}", given=TABLE)
     assert told.status == 2 and told.out == ""
-    assert re.match(rf"caladan_lab: exec:{program}: played again by caladan_view, pass 0: action 1: it does not fit the "
-                    "state of cores, threads and tasks\n", told.err), told.err
+    assert re.match(rf"caladan_lab: exec:{program}: played again by caladan_view, pass 0: action 1: "
+                    "it does not fit the state of cores, threads and tasks\n", told.err), told.err
