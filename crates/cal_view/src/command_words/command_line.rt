@@ -4,8 +4,9 @@ use crate::command_words::arrival_words::{ArrivalWords, arrival_word, arrival_wo
 use crate::command_words::count_words::{CountWords, count_words, own_came_word, with_count_words};
 use crate::command_words::help_texts;
 use crate::command_words::move_words::{MoveWords, move_word, move_words};
-use crate::command_words::plan_words::{plan_asked, with_plan_words};
+use crate::command_words::plan_words::{plan_asked, with_explained_words, with_plan_words};
 use crate::command_words::policy_words::{policy_asked, policy_word};
+use crate::command_words::replay_words::REPLAY;
 use crate::edge::sources::STANDARD;
 use crate::jobs::explaining::Asked;
 use crate::jobs::naming::LabelWords;
@@ -195,15 +196,15 @@ fn measure_word<'a>(alloc: Global) -> Result<Command<'a>, AllocError> {
 }
 
 fn explain_word<'a>(alloc: Global) -> Result<Command<'a>, AllocError> {
-    Command::new(alloc, "explain")
+    let command = Command::new(alloc, "explain")
         .about("Say why a pass does what it does")
         .after_long_help(help_texts::EXPLAIN)
         .arg(input_word(alloc))?
         .arg(policy_word(alloc))?
         .arg(pass_word(alloc))?
         .arg(task_word(alloc)?)?
-        .arg(number_word(alloc, "core", "CORE", "Show this core only"))?
-        .arg(output_word(alloc))
+        .arg(number_word(alloc, "core", "CORE", "Show this core only"))?;
+    with_explained_words(alloc, command)?.arg(output_word(alloc))
 }
 
 fn pass_word<'a>(alloc: Global) -> Arg<'a> {
@@ -285,7 +286,7 @@ fn request_of<'a>(alloc: Global, matches: &ArgMatches<'a>) -> Result<Request<'a>
         job: job_of(alloc, name, own)?,
         policy: policy_asked(own),
         plan: plan_asked(own),
-        replay: own.get_str("replay"),
+        replay: own.get_str(REPLAY),
         counting: count_words(name, own),
         labels: LabelWords {
             names: own.get_str("names"),

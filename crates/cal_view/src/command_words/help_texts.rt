@@ -349,8 +349,8 @@ that it holds or leaves; --core only the core, and each task's claim to it.
 Without --pass: `legal`; or `illegal pass P`, a line if the other policy made
 the history, what the policy does in that pass, what the file has, the first
 action that differs, and how things stand at that step.
-There is no --replay here: `caladan_view run --replay HISTORY --table` writes the
-input for a history of arrivals, and this word explains it as any other.
+With --replay there must be arrivals, and the passes are those of HISTORY, made
+in a run on them: `caladan_view run --help`.
 Exit status: 0 done, 1 the history is not legal, 2 rejected input or no such
 pass, task or core, 3 memory or output was refused.",
     "caladan_view explain --pass 0",

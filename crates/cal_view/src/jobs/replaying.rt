@@ -2,12 +2,14 @@
 
 use crate::command_words::command_line::InputJob;
 use crate::jobs::counting::end_asked;
+use crate::jobs::explaining::{Asked, explain_passes};
 use crate::jobs::input::JobInput;
 use crate::jobs::running::record_replay;
 use crate::jobs::telling::Facts;
 use cal_engine::Front;
 use cal_facts::{
-    write_replayed_requests, write_replayed_series, write_replayed_spans, write_replayed_turns,
+    replayed_history, write_replayed_requests, write_replayed_series, write_replayed_spans,
+    write_replayed_turns,
 };
 use cal_input::RunFault;
 use cal_tables::{NumberForm, NumberStyle, ReplayedFault, measure_replayed};
@@ -37,6 +39,7 @@ pub fn answer_replayed<W: Write, E: Write>(
     errors: &mut E,
 ) -> Result<u8, RunFault> {
     let wrote = match job {
+        InputJob::Explain { asked } => return explain(input, history, asked, output, errors),
         InputJob::Run { front } => write_replayed(input, history, front, output),
         InputJob::Measure { form } => measure(input, history, form, output),
         InputJob::Facts { facts } => tell(input, history, facts, output),
@@ -87,6 +90,24 @@ fn tell<W: Write>(
         Facts::Series => write_replayed_series(alloc, plan, bytes, text, output),
         Facts::Turns => write_replayed_turns(alloc, plan, bytes, text, output),
         Facts::Requests => write_replayed_requests(alloc, input.measured(), text, output),
+    }
+}
+
+/// Explains a pass of the run, or its history, by the policy that is asked for, and answers the exit
+/// status.
+fn explain<W: Write, E: Write>(
+    input: &JobInput<'_>,
+    history: HistoryText<'_>,
+    asked: Asked,
+    output: &mut W,
+    errors: &mut E,
+) -> Result<u8, RunFault> {
+    match replayed_history(input.alloc, input.plan, input.bytes(), history.text) {
+        Ok(run) => {
+            let passes = run.passes.as_slice();
+            explain_passes(input, &run.config, passes, asked, output, errors)
+        }
+        Err(fault) => end_replayed(input, history, fault, errors),
     }
 }
 
