@@ -30,7 +30,8 @@ use cal_policy::{Actions, PassEntry};
 use cal_run::{Collector, step_given};
 use cal_sched::BareScheduler;
 use cal_tables::{
-    AskedFault, MeasuredInput, ReplayedFault, ReplayedInput, planned_for, read_replayed, replayed_by,
+    AskedFault, MeasuredInput, ReplayedFault, ReplayedInput, planned_for, read_replayed,
+    replayed_by,
 };
 use cal_trace::Arrivals;
 use std::alloc::{AllocError, Global};

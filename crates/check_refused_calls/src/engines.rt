@@ -7,7 +7,8 @@ use cal_came::CountAsked;
 use cal_engine::{RunAnswer, decide, run_audit, run_lockstep, run_sim};
 use cal_policy::Policy;
 use cal_tables::{
-    Labels, MeasuredInput, MoveAsked, NumberForm, NumberStyle, measure, measure_replayed, moved_input,
+    Labels, MeasuredInput, MoveAsked, NumberForm, NumberStyle, measure, measure_replayed,
+    moved_input,
 };
 use cal_trace::{read_history, write_arrivals, write_comings};
 use std::alloc::Global;
