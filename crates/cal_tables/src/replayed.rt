@@ -129,7 +129,7 @@ fn replayed_text(
     history: &[u8],
     style: NumberStyle<'_>,
 ) -> Result<String, ReplayedFault>
-    ensures may { IfOk result (λ _. MayBeReplayed asked.entry history.now) }
+    ensures { IfOk result (λ _. MayBeReplayed asked.entry history.now) }
 {
     let ReplayedInput {
         config,

@@ -3,8 +3,8 @@ use Rattle.cal_policy.specs.declared.history.entry.PassEntry.{PassEntry}
 use Rattle.cal_replay.specs.Replays.{IsReplay}
 use Rattle.cal_tables.proofs.replayed.replayed_text.Goals as goal
 
-pub returns-clause-may : goal.returns-clause-may
-returns-clause-may c =
+pub returns : goal.returns
+returns c =
     let config = c.in_ok-config.config in
     let given = c.replayed_numbers.new.given in
     let run = c.in_ok-numbers.ensures.numbers in
