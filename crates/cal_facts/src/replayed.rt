@@ -101,11 +101,12 @@ pub fn replayed_history(
     ensures replay { IfOk result (IsReplayedHistory plan input.now history.now) }
     ensures range { IfOk result (λ run. IsInRange (extent_of run.config) run.passes.items) }
 {
+    let read = read_replayed(alloc, input, history)?;
     let ReplayedInput {
         config,
         arrivals,
         history: passes,
-    } = read_replayed(alloc, input, history)?;
+    } = read;
     see_replayed(alloc, &config, plan, arrivals, passes.as_slice())?;
     Ok(RunHistory { config, passes })
 }
@@ -125,9 +126,9 @@ pub fn write_replayed_spans<W: Write>(
     ensures untouched { IfErr result (λ fault.
         fault ≢ ReplayedFault.Asked (AskedFault.Run RunFault.Write) → writer.new ≡ writer.old) }
 {
-    let RunHistory { config, passes } = replayed_history(alloc, plan, input, history)?;
-    let facts = SpanFacts::of_history(alloc, &config, passes.as_slice())?;
-    match write_facts(&config, &facts, writer) {
+    let made = replayed_history(alloc, plan, input, history)?;
+    let facts = SpanFacts::of_history(alloc, &made.config, made.passes.as_slice())?;
+    match write_facts(&made.config, &facts, writer) {
         Ok(()) => Ok(()),
         Err(_) => Err(ReplayedFault::Asked(AskedFault::Run(RunFault::Write))),
     }
@@ -148,9 +149,9 @@ pub fn write_replayed_series<W: Write>(
     ensures untouched { IfErr result (λ fault.
         fault ≢ ReplayedFault.Asked (AskedFault.Run RunFault.Write) → writer.new ≡ writer.old) }
 {
-    let RunHistory { config, passes } = replayed_history(alloc, plan, input, history)?;
-    let points = series_of_history(alloc, &config, passes.as_slice())?;
-    match write_series_rows(&config, points.as_slice(), writer) {
+    let made = replayed_history(alloc, plan, input, history)?;
+    let points = series_of_history(alloc, &made.config, made.passes.as_slice())?;
+    match write_series_rows(&made.config, points.as_slice(), writer) {
         Ok(()) => Ok(()),
         Err(_) => Err(ReplayedFault::Asked(AskedFault::Run(RunFault::Write))),
     }
@@ -171,11 +172,12 @@ pub fn write_replayed_turns<W: Write>(
     ensures untouched { IfErr result (λ fault.
         fault ≢ ReplayedFault.Asked (AskedFault.Run RunFault.Write) → writer.new ≡ writer.old) }
 {
+    let read = read_replayed(alloc, input, history)?;
     let ReplayedInput {
         config,
         arrivals,
         history: passes,
-    } = read_replayed(alloc, input, history)?;
+    } = read;
     let works = turns_of_replay(alloc, &config, plan, arrivals, passes.as_slice())?;
     match write_turn_rows(&config, works.as_slice(), writer) {
         Ok(()) => Ok(()),
@@ -198,8 +200,8 @@ pub fn write_replayed_requests<W: Write>(
     ensures untouched { IfErr result (λ fault.
         fault ≢ ReplayedFault.Asked (AskedFault.Run RunFault.Write) → writer.new ≡ writer.old) }
 {
-    let run = requests_replayed(alloc, asked, history)?;
-    match write_request_rows(&run, writer) {
+    let made = requests_replayed(alloc, asked, history)?;
+    match write_request_rows(&made, writer) {
         Ok(()) => Ok(()),
         Err(_) => Err(ReplayedFault::Asked(AskedFault::Run(RunFault::Write))),
     }
@@ -213,11 +215,12 @@ fn requests_replayed(
 ) -> Result<RunRequests, ReplayedFault>
     ensures { IfOk result (IsReplayedRequests asked.entry history.now) }
 {
+    let read = read_replayed(alloc, asked.bytes, history)?;
     let ReplayedInput {
         config,
         arrivals,
         history: passes,
-    } = read_replayed(alloc, asked.bytes, history)?;
+    } = read;
     let told = counted_requests(alloc, &config, &arrivals, asked.counting)?;
     let came = clocks_told(alloc, &told)?;
     let mut given = planned_for(alloc, asked.plan, arrivals)?;

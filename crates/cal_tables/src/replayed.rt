@@ -131,11 +131,12 @@ fn replayed_text(
 ) -> Result<String, ReplayedFault>
     ensures { IfOk result (λ _. MayBeReplayed asked.entry history.now) }
 {
+    let read = read_replayed(alloc, asked.bytes, history)?;
     let ReplayedInput {
         config,
         arrivals,
         history,
-    } = read_replayed(alloc, asked.bytes, history)?;
+    } = read;
     let told = counted_requests(alloc, &config, &arrivals, asked.counting)?;
     let mut given = planned_for(alloc, asked.plan, arrivals)?;
     let passes = history.as_slice();

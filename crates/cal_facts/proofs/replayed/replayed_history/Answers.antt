@@ -4,14 +4,14 @@ use Rattle.cal_facts.proofs.replayed.replayed_history.Goals as goal
 
 pub returns-clause-replay : goal.returns-clause-replay
 returns-clause-replay c =
-    let config = c.in_ok-config.config in
-    let arrivals = c.in_ok-config.arrivals in
+    let config = c.in_ok-read.read.config in
+    let arrivals = c.in_ok-read.read.arrivals in
     let on = c.in_ok-see_replayed.ensures in
     record {
       run = record { table = config; arrivals = arrivals };
-      asked = c.in_ok-config.ensures.read.run;
-      history = c.in_ok-config.passes.items;
-      told = c.in_ok-config.ensures.read.told;
+      asked = c.in_ok-read.ensures.read.run;
+      history = c.in_ok-read.read.history.items;
+      told = c.in_ok-read.ensures.read.told;
       given = on.given;
       journals = on.journals;
       left = on.left;

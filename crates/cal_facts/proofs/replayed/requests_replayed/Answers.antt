@@ -4,15 +4,15 @@ use Rattle.cal_facts.proofs.replayed.requests_replayed.Goals as goal
 
 pub returns : goal.returns
 returns c =
-    let config = c.in_ok-config.config in
-    let arrivals = c.in_ok-config.arrivals in
+    let config = c.in_ok-read.read.config in
+    let arrivals = c.in_ok-read.read.arrivals in
     let of = c.in_ok-served.ensures arrivals c.in_ok-given.ensures.planned in
     let given = c.served_of_replay.new.given in
     record {
       run = record { table = config; arrivals = arrivals };
-      asked = c.in_ok-config.ensures.read.run;
-      history = c.in_ok-config.passes.items;
-      told = c.in_ok-config.ensures.read.told;
+      asked = c.in_ok-read.ensures.read.run;
+      history = c.in_ok-read.read.history.items;
+      told = c.in_ok-read.ensures.read.told;
       given = given;
       journals = of.journals;
       left = of.left;

@@ -4,8 +4,8 @@ use Rattle.cal_facts.proofs.replayed.write_replayed_requests.Goals as goal
 
 pub returns-in-Ok-clause-exact : goal.returns-in-Ok-clause-exact
 returns-in-Ok-clause-exact g c =
-    let run = c.in_ok-run.run' in
-    let of = c.in_ok-run.ensures in
+    let run = c.in_ok-made.made in
+    let of = c.in_ok-made.ensures in
     let told = of.holds in
     let came = came_told told.told in
     let all = served_from (run_end of.given) 0 of.journals in

@@ -4,17 +4,17 @@ use Rattle.cal_facts.proofs.replayed.write_replayed_turns.Goals as goal
 
 pub returns-in-Ok-clause-exact : goal.returns-in-Ok-clause-exact
 returns-in-Ok-clause-exact g c =
-    let config = c.in_ok-config.config in
-    let arrivals = c.in_ok-config.arrivals in
+    let config = c.in_ok-read.read.config in
+    let arrivals = c.in_ok-read.read.arrivals in
     let works = c.in_ok-works.works.items in
     let of = c.in_ok-works.ensures in
     record {
       written = text_of_turns config works;
       is_text = record {
         run = record { table = config; arrivals = arrivals };
-        asked = c.in_ok-config.ensures.read.run;
-        history = c.in_ok-config.passes.items;
-        told = c.in_ok-config.ensures.read.told;
+        asked = c.in_ok-read.ensures.read.run;
+        history = c.in_ok-read.read.history.items;
+        told = c.in_ok-read.ensures.read.told;
         given = of.given;
         journals = of.journals;
         left = of.left;
