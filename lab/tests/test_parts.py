@@ -24,11 +24,13 @@ from caladan.programs import Viewer
 from caladan.numbers import number_of, thousandths_of
 from caladan.refusal import Refusal
 from caladan.shares import MEAN, between, held_in_series, held_in_spans, rounded, share_of
-from caladan.sweeps.loads import burst_of, loads_of, parts_of
+from caladan.sweeps.loads import Loads, asked_loads, burst_of, loads_of, parts_of
 from caladan.sweeps.objectives import objective_of
 from caladan.sweeps.sheet import of_seeds
 from caladan.tables import Machine, Task, machine_of
 from caladan.varying import setting_at, setting_text, variations_of
+from caladan.words.asked import LAB
+from caladan.words.parsing import read_words
 
 sys.path.insert(0, str(TOP / "tools"))
 from caladan_tools import random_arrivals  # noqa: E402
@@ -50,13 +52,52 @@ def test_numbers_of_words(whole: int, part: int) -> None:
 
 
 def test_loads_rise() -> None:
-    assert loads_of("0.1,0.3,..,0.95", False) == (100, 300, 500, 700, 900, 950)
-    assert loads_of("0.5", False) == (500,) and loads_of("16", True) == (16000,)
+    assert loads_of("--load", "0.1,0.3,..,0.95") == (100, 300, 500, 700, 900, 950)
+    assert loads_of("--load", "0.5") == (500,) and loads_of("--offered", "16") == (16000,)
     rising = "several loads rise, and .. stands between two and the last"
     for word in ("0.5,0.5", "0.1,..,0.9", "0.1,0.2,..", "0.1,0.2,..,..,0.9"):
-        assert refused(loads_of, word, False) == f"--load {word}: {rising}"
-    assert refused(loads_of, "17", True) == (
+        assert refused(loads_of, "--load", word) == f"--load {word}: {rising}"
+    assert refused(loads_of, "--offered", "17") == (
         "--offered 17: cores are a number above 0 and at most 16, with up to three digits after the point")
+    assert loads_of("--rate", "80000,90000.5") == (80_000_000, 90_000_500)
+    assert refused(loads_of, "--rate", "0") == (
+        "--rate 0: requests a second are a number above 0, with up to three digits after the point")
+
+
+def asked_rates(*words: str) -> Loads:
+    return asked_loads(read_words(LAB, ["sweep", *words]), ())
+
+
+def test_rates_are_cores() -> None:
+    """A turn of 10 ticks of 0.5 us: 100,000 requests a second are one in two turns, of 1.9 turns each."""
+    given, service = b"# A tick is 0.5 us.\n", ["--service", "90%:1,10%:10"]
+    loads, ticks, tick = asked_rates("--rate", "100000,200000", *service).settled(given, 10, "")
+    assert (ticks, tick, loads.loads) == (10, "", (100_000_000, 200_000_000))
+    assert [[own for _, own in loads.at(it)] for it in loads.loads] == [[950], [1900]]
+    assert (loads.flag, loads.asks, loads.heading("kv")) == ("--rate", "--offered", "load of kv [1/s]")
+    # Halves go up: 0.0005 of a core.
+    other = asked_rates("--rate", "100.0,105.263").settled(given, 10, "")[0]
+    assert [own for _, own in other.at(105_263)] == [1] and [own for _, own in other.at(100_000)] == [1]
+    two = asked_rates("--task", "0", "--task", "1", "--rate", "100000", "--rate", "1000", *service)
+    assert [own for _, own in two.settled(given, 10, "")[0].at(100_000_000)] == [950, 10]
+
+
+def test_rates_that_are_refused() -> None:
+    given = b"# A tick is 1 us.\n"
+    with pytest.raises(Refusal) as it:
+        asked_rates("--rate", "5").settled(b"", 10, "")
+    assert str(it.value) == ("--rate 5: how long a tick is is not said\n"
+                             "  --tick us says it, or a line of the table: # A tick is 1 us.")
+    assert refused(asked_rates("--rate", "49,50").settled, given, 10, "us") == (
+        "--rate 49,50: with turns of 10 us these requests take less than a thousandth of a core")
+    assert refused(asked_rates("--rate", "50").settled, given, 10, "ms") == (
+        "--tick ms: the table says that a tick is 1 us")
+    assert refused(asked_rates, "--rate", "5", "--offered", "1") == (
+        "--rate 5: --offered is given too, and one of the two is asked for")
+    assert refused(asked_rates, "--rate", "5", "--load", "1") == (
+        "--rate 5: --load is given too, and one of the two is asked for")
+    assert refused(asked_rates, "--task", "0", "--task", "1", "--rate", "1,2", "--rate", "3,4") == (
+        "--rate 3,4: one load is asked for, and not several")
 
 
 def test_services_and_patterns() -> None:

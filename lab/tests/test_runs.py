@@ -25,6 +25,10 @@ REQUESTS = """if words[0] == "requests":
     for it in range(1000):
         print(f"{it},0,0,{15 + it % 90},1,0,1,{15 + it % 90 + (34 if it % 100 == 7 else 20)},1,")"""
 
+# The program is asked for half a core.
+ASKED = """if words[0] == "arrivals" and "--ticks" in words:
+    assert words[words.index("--offered") + 1] == "0.500", words"""
+
 
 def test_a_sweep_shows_what_the_program_tells(lab: Run, stub: Stub) -> None:
     told = lab(*SWEEP, "--csv", given=TABLE, view=stub(NUMBERS))
@@ -47,6 +51,12 @@ def test_the_head_names_what_is_offered(lab: Run, stub: Stub) -> None:
     words = ["sweep", "--offered", "0.5", "--turns", "9", "--csv", "--names", "kv,batch"]
     assert lab(*words, given=TABLE, view=stub(NUMBERS)).out.startswith("offered to kv,p50,")
     assert lab(*words[:6], given=TABLE, view=stub(NUMBERS)).out.startswith("offered,p50,")
+    rate = ["sweep", "--rate", "50000", "--tick", "us", *words[3:]]
+    told = lab(*rate, given=TABLE, view=stub(NUMBERS, ASKED)).out.splitlines()
+    assert told[0].startswith("load of kv [1/s],p50 [us],") and told[1].startswith("50000.000,11,")
+    assert lab("sweep", "--rate", "250000", *words[3:], "--tick", "us", given=TABLE, view=stub(NUMBERS)) == (
+        2, "", "caladan_lab: --rate 250000: a task may get as many cores as it has threads, here 2, and these requests "
+        "take 2.500\n")
 
 
 def test_each_seed_has_its_row_where_that_is_asked_for(lab: Run, stub: Stub) -> None:

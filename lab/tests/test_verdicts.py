@@ -2,9 +2,12 @@
 --rules 4 what became of them before."""
 from __future__ import annotations
 
+import heapq
 import math
+import random
 from dataclasses import replace
 from fractions import Fraction
+from statistics import variance
 from typing import Sequence
 
 import pytest
@@ -14,7 +17,7 @@ from hypothesis import strategies as some
 
 from caladan.figures import Figure
 from caladan.measured import CLOCK_OF_PASSES, Measured
-from caladan.samples import PER_MILLE, Half, Response, Sample, growth_of, halves_of, raised, samples_of
+from caladan.samples import PER_MILLE, Course, Response, Sample, course_of, growth_of, raised, samples_of
 from caladan.sweeps.command import asked_of
 from caladan.sweeps.making import Count
 from caladan.sweeps.objectives import RANKS
@@ -143,28 +146,121 @@ def test_a_response_that_grows_keeps_nothing() -> None:
     assert said("task.0.p99=50", run_of(growing)) == "missed at load 0.500: p99 is 69 ticks"
 
 
-@given(some.lists(some.floats(10, 20), min_size=3, max_size=5), some.lists(some.floats(10, 20), min_size=3, max_size=5))
-def test_what_does_not_exceed_chance_does_not_grow(one: list[float], other: list[float]) -> None:
-    """By the standard error of two means, counted here in another way."""
-    halves = Half(tuple(one)), Half(tuple(other))
-    errors = [sum((it - sum(own) / len(own)) ** 2 for it in own) / (len(own) * (len(own) - 1)) for own in (one, other)]
-    more = sum(other) / len(other) - sum(one) / len(one)
-    grows = growth_of([halves])
-    if abs(more - 3 * math.sqrt(sum(errors))) > 1e-6 and abs(more - sum(one) / len(one) / 10) > 1e-6:
-        assert (grows is not None) == (more > 3 * math.sqrt(sum(errors)) and more > sum(one) / len(one) / 10)
+courses = some.integers(3, 5).flatmap(lambda early: some.lists(some.floats(10, 20), min_size=early + 3,
+                                                               max_size=early + 5).map(lambda it: (early, it)))
+
+
+@given(courses)
+def test_what_a_wandering_response_does_by_chance_is_no_growth(both: tuple[int, list[float]]) -> None:
+    """By the error of a sum of steps, each of which counts as much as it moves the halves apart when it is alone."""
+    early, means = both
+    parts = Course(tuple(means), early)
+    steps = [after - before for before, after in zip(means, means[1:])]
+    alone = [Course(tuple(float(it > place) for it in range(len(means))), early) for place in range(len(steps))]
+    error = math.sqrt(variance(steps) * sum((it.later - it.earlier) ** 2 for it in alone))
+    assert math.isclose(math.sqrt(parts.noise), error, abs_tol=1e-9)
+    more = sum(means[early:]) / len(means[early:]) - sum(means[:early]) / early
+    if abs(more - 4 * error) > 1e-6 and abs(more - parts.earlier / 10) > 1e-6:
+        assert (growth_of([parts]) is not None) == (more > 4 * error and more > parts.earlier / 10)
 
 
 def test_seeds_grow_together() -> None:
-    noisy, calm = Half((10, 30, 20)), Half((40, 20, 30))
-    # The variances of the means are 100 / 3 each: of seven runs three errors are less than 10, of five they are more.
-    assert growth_of([(noisy, calm)] * 5) is None and growth_of([(noisy, calm)] * 7) == (20, 30)
-    assert growth_of([(noisy, calm), (calm, noisy)] * 9) is None and growth_of([]) is None
+    noisy = Course((10, 14, 12, 20, 23, 21), 3)
+    # The steps are 4, -2, 8, 3, -2, with the variance 18.2; the weights 1/3, 2/3, 1, 2/3, 1/3.
+    assert math.isclose(noisy.noise, 18.2 * 19 / 9) and math.isclose(noisy.later - noisy.earlier, 28 / 3)
+    # Four errors of seven runs are 9.37, of eight 8.77.
+    assert growth_of([noisy] * 7) is None and growth_of([noisy] * 8) == (12, 64 / 3)
+    falling = Course(noisy.means[::-1], 3)
+    assert growth_of([noisy, falling] * 9) is None and growth_of([]) is None
 
 
-def test_halves_need_requests_in_their_parts() -> None:
-    assert halves_of(sample_of([20] * 5), FIRST, AFTER) is None
-    found = halves_of(sample_of([*range(10)]), FIRST, AFTER)
-    assert found is not None and found[0].means == (0, 1, 2, 3, 4) and found[1].mean == 7
+def test_a_course_needs_requests_in_its_parts() -> None:
+    assert course_of(sample_of([20] * 5), FIRST, AFTER) is None
+    found = course_of(sample_of([*range(10)]), FIRST, AFTER)
+    assert found == Course((0, 1, 2, 3, 4, 5, 6, 7, 8, 9), 5) and found.later == 7
+
+
+def queued(chance: random.Random, load: float, threads: int, turns: int, works: Sequence[int]) -> Sample:
+    """The responses, in hundredths of a turn, of requests that come by chance for so many turns to one queue of some
+    threads, each of which takes one of these works."""
+    free, came, found = [0.0] * threads, 0.0, []
+    rate = load * threads * len(works) / sum(works)
+    while (came := came + chance.expovariate(rate)) < turns:
+        begun = max(came, heapq.heappop(free))
+        answered = begun + chance.choice(works)
+        heapq.heappush(free, answered)
+        found.append(Response(int(100 * came), int(100 * (answered - came)), False))
+    return Sample(tuple(found))
+
+
+def windows_of(sample: Sample, many: int, turns: int) -> list[Sample]:
+    """So many windows of so many turns, one after the other, from the second on."""
+    parts: list[list[Response]] = [[] for _ in range(many + 1)]
+    for it in sample.responses:
+        parts[it.came // (100 * turns)].append(replace(it, came=it.came % (100 * turns)))
+    return [Sample(tuple(it)) for it in parts[1:]]
+
+
+def grow(samples: Sequence[Sample], first: int, after: int, seeds: int = 1) -> int:
+    """How many of some runs grow, or of as many seeds together."""
+    found = [it for sample in samples if (it := course_of(sample, 100 * first, 100 * after))]
+    return sum(growth_of(found[at:at + seeds]) is not None for at in range(0, len(found), seeds))
+
+
+@pytest.mark.parametrize("load, threads, works", [
+    (0.9, 4, [3]), (0.9, 1, [3]), (0.9, 4, [1] * 9 + [20])])
+def test_one_stable_run_in_a_thousand_is_said_to_grow(load: float, threads: int, works: list[int]) -> None:
+    """In a window of 240 turns the queues go up and down a few times at most. If one run in a thousand is flagged, four
+    of 1,000 or more are in 2 of 100 such tests."""
+    long = queued(random.Random(11), load, threads, 1001 * 240, works)
+    assert grow(windows_of(long, 1000, 240), 0, 240) < 4
+
+
+def test_a_stable_run_that_begins_empty_is_not_said_to_grow() -> None:
+    """Nor are ten seeds together, though their first queues are shorter."""
+    chance = random.Random(12)
+    runs = [window_of(queued(chance, 0.9, 4, 300, [3]), 30, 270) for _ in range(500)]
+    assert grow(runs, 30, 270) < 3 and grow(runs, 30, 270, seeds=10) == 0
+
+
+def window_of(sample: Sample, first: int, after: int) -> Sample:
+    return Sample(tuple(it for it in sample.responses if 100 * first <= it.came < 100 * after))
+
+
+def test_a_response_that_is_like_the_one_before_is_not_said_to_grow() -> None:
+    """Each response goes back a hundredth of the way to its mean, and on by chance."""
+    chance, now, found = random.Random(13), 500.0, []
+    for came in range(0, 1001 * 24_000, 100):
+        now += (500 - now) / 100 + chance.gauss(0, 10)
+        found.append(Response(came, int(now), False))
+    assert grow(windows_of(Sample(tuple(found)), 1000, 240), 0, 240) < 4
+
+
+def test_too_much_work_is_said_to_grow() -> None:
+    """A fifth more than the threads can do, as where others have their cores: most single runs, and all seeds."""
+    chance = random.Random(14)
+    runs = [window_of(queued(chance, 1.2, 4, 800, [3]), 80, 720) for _ in range(50)]
+    assert grow(runs, 80, 720) > 38 and grow(runs, 80, 720, seeds=5) == 10
+
+
+def test_as_much_work_as_threads_can_do_grows_whatever_a_run_shows() -> None:
+    flat = sample_of([20, 30] * 500)
+    grows = ("undecided at load 0.500: the response grows with the run, since as much work comes as the threads of the "
+             "task can do, or more; offer less, or raise its limit")
+    assert said("task.0.p99=100", replace(run_of(flat), filled=(0,))) == grows
+    assert said("task.0.p99=100", replace(run_of(flat), filled=(1,))) == ""
+    assert said("task.0.p99=100", replace(run_of(flat), filled=(0,)), "--rules", "4") == ""
+    assert said("task.0.p99=25", replace(run_of(flat), filled=(0,))) == "missed at load 0.500: p99 is 30 ticks"
+
+
+@pytest.mark.parametrize("words, load, filled", [
+    (["--load", "0.999,1,1.2"], 999, ()), (["--load", "0.999,1,1.2"], 1000, (0,)),
+    (["--load", "1,1.001", "--pattern", "even"], 1000, ()), (["--load", "1,1.001", "--pattern", "even"], 1001, (0,)),
+    (["--offered", "1.5,2"], 1500, ()), (["--offered", "1.5,2"], 2000, (0,)),
+    (["--task", "0", "--load", "0.5", "--task", "1", "--load", "2"], 500, (1,))])
+def test_which_loads_fill_threads(words: list[str], load: int, filled: tuple[int, ...]) -> None:
+    """The tasks of the table have 2 and 4 threads."""
+    assert asked_of(read_words(LAB, ["sweep", *words])).loads.filled(load, MACHINE) == filled
 
 
 def test_of_seeds_the_first_that_misses_is_named() -> None:

@@ -12,6 +12,7 @@
 mod command_words;
 mod jobs;
 mod laws;
+mod noted;
 mod program;
 mod shell;
 
@@ -31,5 +32,6 @@ pub use jobs::front::Front;
 pub use jobs::running::{RunAnswer, run_lockstep, run_lockstep_by};
 pub use jobs::simulating::{run_sim, run_sim_by};
 pub use laws::{with_table_is_read_back, with_table_is_read_back_by};
+pub use noted::Noted;
 pub use program::{do_job, do_job_by, run_program};
 pub use shell::{end_with, refuse_words, words_after_first};

@@ -8,7 +8,7 @@ ghost use Rattle.cal_policy.specs.Board.{placement_of};
 use cal_machine::Config;
 use cal_policy::Holder;
 
-/// What of a pass is told: all, or what bears on one task or one core.
+/// What of a pass is told: all, or what bears on one task, one core, or both.
 #[derive(Clone, Copy, Debug, PartialEq, Eq)]
 pub enum Scope {
     /// Every turn.
@@ -17,6 +17,8 @@ pub enum Scope {
     Task { task: usize },
     /// Of cores this one, and every task's claim to it.
     Core { core: u8 },
+    /// Of cores this one, and this task's claim to it.
+    Claim { task: usize, core: u8 },
 }
 
 impl Scope {
@@ -24,7 +26,7 @@ impl Scope {
     pub fn has_task(self, task: usize) -> bool {
         match self {
             Scope::All | Scope::Core { .. } => true,
-            Scope::Task { task: asked } => asked == task,
+            Scope::Task { task: asked } | Scope::Claim { task: asked, .. } => asked == task,
         }
     }
 
@@ -35,7 +37,7 @@ impl Scope {
     {
         match self {
             Scope::All => true,
-            Scope::Core { core: asked } => asked == core,
+            Scope::Core { core: asked } | Scope::Claim { core: asked, .. } => asked == core,
             Scope::Task { task } => match holder {
                 Holder::Free => false,
                 Holder::Held(placement) | Holder::Leaving(placement, _) => {
@@ -49,7 +51,7 @@ impl Scope {
     pub fn has_candidate(self, core: u8) -> bool {
         match self {
             Scope::All | Scope::Task { .. } => true,
-            Scope::Core { core: asked } => asked == core,
+            Scope::Core { core: asked } | Scope::Claim { core: asked, .. } => asked == core,
         }
     }
 }

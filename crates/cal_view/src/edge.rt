@@ -2,5 +2,4 @@
 
 pub mod beside;
 pub mod failure;
-pub mod noted;
 pub mod sources;

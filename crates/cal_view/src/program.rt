@@ -8,7 +8,6 @@ use crate::command_words::count_words::CountWords;
 use crate::command_words::gone_words::gone_word;
 use crate::edge::beside::{open_beside, write_beside};
 use crate::edge::failure::Failure;
-use crate::edge::noted::Noted;
 use crate::edge::sources::{open_named, read_named};
 use crate::jobs::arriving::Arriving;
 use crate::jobs::checking::answer_check;
@@ -25,8 +24,8 @@ use crate::jobs::running::record_run;
 use crate::jobs::telling::tell;
 use crate::refusing::{end_refusal, refuse_gone, refuse_two_standards, refused_input};
 use cal_came::{CameFile, CountAsked};
-use cal_engine::{refuse_words, words_after_first};
-use cal_input::{RunFault, read_input};
+use cal_engine::{Noted, refuse_words, words_after_first};
+use cal_input::{INPUT_LIMIT, RunFault, read_input};
 use cal_tables::Labels;
 use cal_why::RefusedInput;
 use std::alloc::Global;
@@ -83,7 +82,13 @@ fn run_asked<H: Files, R: Read + Drop, W: Write, E: Write>(
     let run = ProgramRun { rt, alloc, request };
     match run.answer(reader, output, errors) {
         Ok(status) => status,
-        Err(failure) => failure.end(errors),
+        Err(failure) => {
+            let status = failure.end(errors);
+            if failure.fault == RunFault::Length {
+                run.tell_limit(errors);
+            }
+            status
+        }
     }
 }
 
@@ -262,6 +267,19 @@ impl<'h, 'a, H: Files> ProgramRun<'h, 'a, H> {
             }
             Job::Help => say_help(alloc, errors),
         }
+    }
+
+    /// Says how long an input may be, and how long the file is that was longer.
+    fn tell_limit<E: Write>(&self, errors: &mut E) {
+        let file = self.request.input.map(|name| self.rt.metadata(name));
+        let _ = match file {
+            Some(Ok(file)) if file.is_file() => writeln!(
+                errors,
+                "  an input has at most {INPUT_LIMIT} bytes, and this file has {}",
+                file.len()
+            ),
+            _ => writeln!(errors, "  an input has at most {INPUT_LIMIT} bytes"),
+        };
     }
 
     /// All bytes of the file of this name; none where none is named.

@@ -5,7 +5,7 @@ use crate::places::tell_place;
 use crate::separator::tell_separator;
 use crate::table::tell_table;
 use crate::trace::tell_trace;
-use cal_input::RunFault;
+use cal_input::{INPUT_LIMIT, RunFault};
 use std::alloc::{AllocError, Global};
 
 /// An input that was refused.
@@ -71,6 +71,9 @@ pub fn explanation(
         RunFault::Separator => tell_separator(&mut told, refused.input, refused.wanted)?,
         RunFault::Config(fault) => tell_table(alloc, &mut told, refused.part(0), fault)?,
         RunFault::Trace(fault) => tell_trace(alloc, &mut told, refused, fault)?,
+        RunFault::Length => {
+            told = format!(in alloc; "  an input has at most {INPUT_LIMIT} bytes\n")?;
+        }
         _ => {}
     }
     Ok(told)

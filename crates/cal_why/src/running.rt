@@ -8,7 +8,7 @@ ghost use Rattle.cal_engine.specs.CommandWords.{AsksBy};
 ghost use Rattle.cal_engine.specs.Program.{exit_status, EndsJobBy};
 ghost use Rattle.cal_engine.specs.declared.command_words.command_line.Job.{Job as JobOf};
 
-use crate::ending::end_explained;
+use crate::ending::{end_explained, explain_fault};
 use crate::explaining::RefusedInput;
 use crate::grammar::TraceKind;
 use cal_engine::{Asked, Job, asked_by, do_job_by, end_with, refuse_words, words_after_first};
@@ -41,7 +41,23 @@ pub fn run_explained<H: Threads + Wait + Sync, R: Read + Drop, W: Write, E: Writ
 {
     match answer_words(rt, alloc, named, reader, output, errors) {
         Ok(status) => status,
-        Err(fault) => end_with("caladan_sim", &fault, errors),
+        Err(fault) => {
+            let status = end_with("caladan_sim", &fault, errors);
+            tell_unread(alloc, named, &fault, errors);
+            status
+        }
+    }
+}
+
+/// Writes why an input was not read to its end that has this fault, where the words ask why an input is
+/// refused.
+fn tell_unread<E: Write>(alloc: Global, named: &[String], fault: &RunFault, errors: &mut E) {
+    let unread = RefusedInput {
+        input: &[],
+        wanted: &[],
+    };
+    if *fault == RunFault::Length && named.iter().any(|word| word.as_str() == "--explain") {
+        explain_fault(alloc, unread, fault, errors);
     }
 }
 

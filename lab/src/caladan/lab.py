@@ -420,17 +420,19 @@ def sweep(table: OfTable, load: Load = None, vary: Optional[Keys] = None, *, pol
 def sweep(table: OfTable, load: Load = None, vary: Optional[Keys] = None, policies: Optional[Sequence[By]] = None,
           loads: Load = None, log: OfLog = None, scale: Load = None, rate: Load = None,
           **options: Option) -> Union[Answer, "Trials"]:
-    """The response of a task at rising loads, of a Table or of the file of one. Options are those of `caladan_lab
-    sweep`, as task=0, service=10, turns=2000, seeds=5, slo="task.0.p99=400". With policies, as ["caladan",
-    LongestWait()], a run by each, and Trials, whose frame has a row for each run; without `task` the first
-    latency-critical task has the loads then, and each best-effort one more work than it can do. With a log, a Log or a
-    file, the requests are its own, at times its load (`scale`) or at requests a second (`rate`), as turn="5us",
-    batch="batch", seeds=10."""
+    """The response of a task at rising loads, or at requests a second (`rate`), for which the table has a tick; of a
+    Table or of the file of one. Options are those of `caladan_lab sweep`, as task=0, service=10, turns=2000, seeds=5,
+    slo="task.0.p99=400". With policies, as ["caladan", LongestWait()], a run by each, and Trials, whose frame has a row
+    for each run; without `task` the first latency-critical task has the loads then, and each best-effort one more work
+    than it can do. With a log, a Log or a file, the requests are its own, at times its load (`scale`) or at requests a
+    second, as turn="5us", batch="batch", seeds=10."""
     of_table = table if isinstance(table, Table) else Table.read(table)
     given = load if loads is None else loads
     if policies is not None:
         if log is not None:
             raise Refusal("a log is swept by the program's policies: leave `policies` out, and give policy=..")
+        if rate is not None:
+            raise Refusal("a rate is swept by the program's policies: leave `policies` out, and give policy=..")
         from .trials import trials_of
         return trials_of(of_table, given, vary, policies, options)
     words, asked = _asked("sweep", of_table, vary, {"load": load_word(given), **of_log(log, scale, rate), **options})

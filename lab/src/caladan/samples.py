@@ -85,41 +85,59 @@ def samples_of(requests: bytes, tasks: Iterable[int], first: int, after: int) ->
 # ---- growth ----
 
 PARTS, LEAST_PARTS = 5, 3
-SURE, MUCH = 3.0, 0.1
+SURE, MUCH = 4.0, 0.1
 
 
 @dataclass(frozen=True)
-class Half:
-    """Half of a window: the means of the responses in its parts of as many turns, of those to which requests came."""
+class Course:
+    """How the response went through a window: the means of its parts of as many turns, in their order, of those to
+    which requests came; and how many of these lie in its first half."""
 
     means: tuple[float, ...]
+    early: int
 
     @property
-    def mean(self) -> float:
-        return sum(self.means) / len(self.means)
+    def earlier(self) -> float:
+        """The mean of the parts of the first half."""
+        return sum(self.means[:self.early]) / self.early
+
+    @property
+    def later(self) -> float:
+        """The mean of the parts of the second half."""
+        return sum(self.means[self.early:]) / (len(self.means) - self.early)
 
     @property
     def noise(self) -> float:
-        """The variance of the mean."""
-        spread = sum((it - self.mean) ** 2 for it in self.means)
-        return spread / (len(self.means) - 1) / len(self.means)
+        """The variance of how much more the second half has, where the response wanders: where each part goes on from
+        the one before it by a step of its own. The steps differ about their mean, which is that of a steady growth.
+        Where parts depend less on one another the variance is less than this."""
+        steps = [after - before for before, after in zip(self.means, self.means[1:])]
+        mean = sum(steps) / len(steps)
+        spread = sum((it - mean) ** 2 for it in steps) / (len(steps) - 1)
+        late = len(self.means) - self.early
+        # A step counts in all parts that come after it.
+        weights = [place / self.early if place <= self.early else (len(self.means) - place) / late
+                   for place in range(1, len(self.means))]
+        return spread * sum(it ** 2 for it in weights)
 
 
-def halves_of(sample: Sample, first: int, after: int) -> tuple[Half, Half] | None:
-    """The halves of a window from one clock to another; none where requests came to too few of its parts."""
+def course_of(sample: Sample, first: int, after: int) -> Course | None:
+    """The course of a window from one clock to another; none where requests came to too few of its parts."""
     parts: list[list[int]] = [[] for _ in range(2 * PARTS)]
     for it in sample.responses:
         parts[(it.came - first) * 2 * PARTS // (after - first)].append(it.time)
-    halves = [Half(tuple(sum(it) / len(it) for it in own if it)) for own in (parts[:PARTS], parts[PARTS:])]
-    return (halves[0], halves[1]) if min(len(it.means) for it in halves) >= LEAST_PARTS else None
-
-
-def growth_of(pairs: Sequence[tuple[Half, Half]]) -> tuple[float, float] | None:
-    """The mean responses in the halves of the windows of some runs where they grow: the second is greater by more than
-    a tenth, and by more than three times what chance makes of it, by how the parts of each half differ."""
-    if not pairs:
+    halves = [[sum(it) / len(it) for it in own if it] for own in (parts[:PARTS], parts[PARTS:])]
+    if min(map(len, halves)) < LEAST_PARTS:
         return None
-    earlier, later = (sum(half.mean for half in side) / len(pairs) for side in zip(*pairs))
-    error = math.sqrt(sum(one.noise + other.noise for one, other in pairs)) / len(pairs)
+    return Course(tuple(it for own in halves for it in own), len(halves[0]))
+
+
+def growth_of(courses: Sequence[Course]) -> tuple[float, float] | None:
+    """The mean responses in the halves of the windows of some runs where they grow: the second is greater by more than
+    a tenth, and by more than four times the error that it has where responses wander."""
+    if not courses:
+        return None
+    earlier, later = (sum(it) / len(courses) for it in zip(*((it.earlier, it.later) for it in courses)))
+    error = math.sqrt(sum(it.noise for it in courses)) / len(courses)
     more = later - earlier
     return (earlier, later) if more > MUCH * earlier and more > SURE * error else None

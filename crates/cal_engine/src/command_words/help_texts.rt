@@ -34,17 +34,19 @@ pub const NOTHING: Help = Help {
 
 /// Of the program as a whole.
 pub const PROGRAM: Help = Help {
-    about: "The core scheduler of Caladan over a task table and a trace on standard input",
+    about: "The core scheduler of Caladan over a task table and a trace",
     after: "\
-Without a subcommand it runs `decide`. Each subcommand reads one input from the
-standard input: a task table (TOML), the line ---, and a trace (CSV).
-`caladan_sim SUBCOMMAND --help` describes the trace and the output, with a
-whole input to copy; `man caladan-formats` describes everything.
+Without a subcommand it runs `decide`. Each subcommand reads one input, from the
+standard input or from a file whose name is the last word: a task table (TOML),
+the line ---, and a trace (CSV). `caladan_sim SUBCOMMAND --help` describes the
+trace and the output, with a whole input to copy; `man caladan-formats`
+describes everything.
 
 Exit status: 0 done, 1 an illegal history, 2 bad arguments or rejected input, 3
 memory, output or a thread was refused. A fault is one line on the standard
-error; with --explain after the subcommand, lines below it say why an input was
-refused.",
+error; on a terminal, or with --explain after the subcommand, lines below it say
+why an input was refused. Nothing is said where the reader of the output has
+gone.",
 };
 
 /// Of the subcommand `decide`.

@@ -202,8 +202,11 @@ fn explain_word<'a>(alloc: Global) -> Result<Command<'a>, AllocError> {
         .arg(input_word(alloc))?
         .arg(policy_word(alloc))?
         .arg(pass_word(alloc))?
-        .arg(task_word(alloc)?)?
-        .arg(number_word(alloc, "core", "CORE", "Show this core only"))?;
+        .arg(last_word(alloc)?)?
+        .arg(clock_word(alloc)?)?
+        .arg(number_word(alloc, "task", "TASK", "Show this task only"))?
+        .arg(number_word(alloc, "core", "CORE", "Show this core only"))?
+        .arg(names_word(alloc))?;
     with_explained_words(alloc, command)?.arg(output_word(alloc))
 }
 
@@ -212,8 +215,14 @@ fn pass_word<'a>(alloc: Global) -> Arg<'a> {
     number_word(alloc, "pass", "PASS", help)
 }
 
-fn task_word<'a>(alloc: Global) -> Result<Arg<'a>, AllocError> {
-    number_word(alloc, "task", "TASK", "Show this task only").conflicts_with("core")
+fn last_word<'a>(alloc: Global) -> Result<Arg<'a>, AllocError> {
+    let help = "Each pass up to this one, too";
+    number_word(alloc, "to", "PASS", help).requires_arg("pass")
+}
+
+fn clock_word<'a>(alloc: Global) -> Result<Arg<'a>, AllocError> {
+    let help = "The last pass at or before this clock";
+    number_word(alloc, "at", "CLOCK", help).conflicts_with("pass")
 }
 
 /// An option that takes a value.
@@ -379,6 +388,8 @@ pub fn all_words<'a>(
 fn asked_of(matches: &ArgMatches<'_>) -> Asked {
     Asked {
         pass: number(matches, "pass"),
+        last: number(matches, "to"),
+        clock: matches.get_one::<u64>("at"),
         task: number(matches, "task"),
         core: number(matches, "core"),
     }

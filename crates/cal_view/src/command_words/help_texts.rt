@@ -344,11 +344,14 @@ Input: a task table (TOML), the line ---, and a history or signals
 Output: with --pass the steps of the pass in their order: how things
 stand at each, and below it, after an arrow, what the policy does there. The
 parts are those of docs/POLICY.md, \"A pass\". For a history, it is what the
-policy would do on the recorded looks. --task shows only the task, and the cores
-that it holds or leaves; --core only the core, and each task's claim to it.
-Without --pass: `legal`; or `illegal pass P`, a line if the other policy made
-the history, what the policy does in that pass, what the file has, the first
-action that differs, and how things stand at that step.
+policy would do on the recorded looks. --to tells each pass up to another one,
+--at the last pass at or before a clock. --task shows only the task, and the
+cores that it holds or leaves; --core only the core, and each task's claim to
+it; both the core, and this task's claim. With --names, lines that say which
+task has which name come first.
+Without --pass and --at: `legal`; or `illegal pass P`, a line if the other
+policy made the history, what the policy does in that pass, what the file has,
+the first action that differs, and how things stand at that step.
 With --replay there must be arrivals, and the passes are those of HISTORY, made
 in a run on them: `caladan_view run --help`.
 Exit status: 0 done, 1 the history is not legal, 2 rejected input or no such

@@ -1,7 +1,7 @@
 //! Files that are read by name.
 
 use crate::edge::failure::Failure;
-use crate::edge::noted::Noted;
+use cal_engine::Noted;
 use cal_input::{RunFault, read_input};
 use std::alloc::Global;
 use std::fs;

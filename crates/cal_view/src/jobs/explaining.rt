@@ -10,11 +10,15 @@ use cal_trace::{FaultKind, read_history};
 use std::alloc::Global;
 use std::io::Write;
 
-/// Which pass is explained, and what of it.
+/// Which passes are explained, and what of them.
 #[derive(Clone, Copy, Debug, PartialEq, Eq)]
 pub struct Asked {
-    /// The pass, from 0; without it the first that is not the policy's.
+    /// The pass, from 0; without it and without a clock the first that is not the policy's.
     pub pass: Option<usize>,
+    /// The last pass, where there are more than one.
+    pub last: Option<usize>,
+    /// The last pass at or before this clock.
+    pub clock: Option<u64>,
     /// The task alone.
     pub task: Option<usize>,
     /// The core alone.
@@ -26,6 +30,10 @@ pub struct Asked {
 enum Unexplained {
     /// The input has so many passes, and not this one.
     NoPass { pass: usize, passes: usize },
+    /// The last pass that is asked for comes before the first.
+    NoRange { pass: usize, last: usize },
+    /// No pass of the input is so early.
+    NoPassBy { clock: u64 },
     /// The table has so many tasks.
     NoTask { tasks: usize },
     /// The machine has so many cores.
@@ -36,11 +44,11 @@ enum Unexplained {
     NoInput { pass: usize },
 }
 
-/// Explains a pass of an input of a task table and a history, or of signals, which are decided first,
-/// by the policy asked for; without a pass it writes whether the history is legal, and explains its
-/// first illegal pass. Answers the exit status: 0, 1 where the history is illegal, 2 where there is no
-/// such pass, task or core, or the pass cannot be explained. Nothing is written before the whole input
-/// was accepted.
+/// Explains passes of an input of a task table and a history, or of signals, which are decided first,
+/// by the policy asked for; where none is asked for it writes whether the history is legal, and
+/// explains its first illegal pass. The names of the tasks come first, where words have them. Answers
+/// the exit status: 0, 1 where the history is illegal, 2 where there is no such pass, task or core, or
+/// a pass cannot be explained. Nothing is written before the whole input was accepted.
 pub fn answer_explain<W: Write, E: Write>(
     input: &JobInput<'_>,
     asked: Asked,
@@ -51,7 +59,7 @@ pub fn answer_explain<W: Write, E: Write>(
     explain_passes(input, &config, history.as_slice(), asked, output, errors)
 }
 
-/// Explains a pass of this history for the table of an input, as `answer_explain` does.
+/// Explains passes of this history for the table of an input, as `answer_explain` does.
 pub fn explain_passes<W: Write, E: Write>(
     input: &JobInput<'_>,
     config: &Config,
@@ -71,10 +79,59 @@ pub fn explain_passes<W: Write, E: Write>(
         history,
         scope,
     };
-    match asked.pass {
-        Some(pass) => explain_one(&explainer, pass, output, errors),
+    let range = match range_of(history, asked) {
+        Ok(range) => range,
+        Err(reason) => return Ok(refuse(reason, errors)),
+    };
+    tell_names(input.labels.names, output)?;
+    match range {
+        Some((first, last)) => explain_each(&explainer, first, last, output, errors),
         None => explain_all(&explainer, output),
     }
+}
+
+/// The first and the last of the passes that are asked for, which a history has; nothing where none is
+/// asked for.
+fn range_of(history: &[PassEntry], asked: Asked) -> Result<Option<(usize, usize)>, Unexplained> {
+    let pass = match (asked.pass, asked.clock) {
+        (Some(pass), _) => pass,
+        (None, Some(clock)) => match pass_by(history, clock) {
+            Some(pass) => pass,
+            None => return Err(Unexplained::NoPassBy { clock }),
+        },
+        (None, None) => return Ok(None),
+    };
+    let last = asked.last.unwrap_or(pass);
+    let passes = history.len();
+    if last < pass {
+        return Err(Unexplained::NoRange { pass, last });
+    }
+    if last >= passes {
+        let pass = if pass >= passes { pass } else { last };
+        return Err(Unexplained::NoPass { pass, passes });
+    }
+    Ok(Some((pass, last)))
+}
+
+/// The last pass of a history at or before this clock.
+fn pass_by(history: &[PassEntry], clock: u64) -> Option<usize> {
+    let mut found = None;
+    for (pass, entry) in history.iter().enumerate() {
+        if entry.input.now <= clock {
+            found = Some(pass);
+        }
+    }
+    found
+}
+
+/// Writes which task has which name, where they have names.
+fn tell_names<W: Write>(names: &[&str], writer: &mut W) -> Result<(), RunFault> {
+    for (task, name) in names.iter().enumerate() {
+        if writeln!(writer, "task {task} is {name}").is_err() {
+            return Err(RunFault::Write);
+        }
+    }
+    Ok(())
 }
 
 /// Says why a pass cannot be explained, and answers the exit status.
@@ -83,6 +140,14 @@ fn refuse<E: Write>(reason: Unexplained, errors: &mut E) -> u8 {
         Unexplained::NoPass { pass, passes } => writeln!(
             errors,
             "caladan_view: no pass {pass}: there are {passes}, from 0"
+        ),
+        Unexplained::NoRange { pass, last } => writeln!(
+            errors,
+            "caladan_view: --to {last} is before --pass {pass}"
+        ),
+        Unexplained::NoPassBy { clock } => writeln!(
+            errors,
+            "caladan_view: no pass is at clock {clock} or before it"
         ),
         Unexplained::NoTask { tasks } => writeln!(
             errors,
@@ -127,18 +192,43 @@ fn recorded_run(alloc: Global, input: &[u8]) -> Result<(Config, Vec<PassEntry>),
     Ok((config, history))
 }
 
-/// What of the pass is asked for.
+/// What of a pass is asked for.
 fn scope_of(config: &Config, asked: Asked) -> Result<Scope, Unexplained> {
+    let tasks = config.tasks();
     let cores = config.machine().cores();
-    match (asked.task, asked.core) {
-        (Some(task), _) if task < config.tasks() => Ok(Scope::Task { task }),
-        (Some(_), _) => Err(Unexplained::NoTask {
-            tasks: config.tasks(),
-        }),
-        (None, Some(core)) if core < cores as usize => Ok(Scope::Core { core: core as u8 }),
-        (None, Some(_)) => Err(Unexplained::NoCore { cores }),
-        (None, None) => Ok(Scope::All),
+    if asked.task.is_some_and(|task| task >= tasks) {
+        return Err(Unexplained::NoTask { tasks });
     }
+    if asked.core.is_some_and(|core| core >= cores as usize) {
+        return Err(Unexplained::NoCore { cores });
+    }
+    Ok(match (asked.task, asked.core) {
+        (Some(task), Some(core)) => Scope::Claim {
+            task,
+            core: core as u8,
+        },
+        (Some(task), None) => Scope::Task { task },
+        (None, Some(core)) => Scope::Core { core: core as u8 },
+        (None, None) => Scope::All,
+    })
+}
+
+/// Explains these passes of a history up to the first that cannot be explained; answers the exit
+/// status.
+fn explain_each<W: Write, E: Write>(
+    explainer: &Explainer<'_>,
+    first: usize,
+    last: usize,
+    writer: &mut W,
+    errors: &mut E,
+) -> Result<u8, RunFault> {
+    for pass in first..last {
+        let status = explain_one(explainer, pass, writer, errors)?;
+        if status != 0 {
+            return Ok(status);
+        }
+    }
+    explain_one(explainer, last, writer, errors)
 }
 
 /// Explains this pass of a history, or says why it cannot be; answers the exit status.

@@ -11,21 +11,19 @@ from ..numbers import task_named
 from ..programs import Viewer
 from ..refusal import Refusal
 from ..stamps import stamped, tick_in
-from ..sweeps.loads import Loads, TaskLoad, rising
+from ..sweeps.loads import A_SECOND, RATE, Loads, TaskLoad, loads_of, rising
 from ..sweeps.making import Count, Made
 from ..tables import Machine
 from ..words.parsing import Asked
 from .arriving import Arrived, by_lab, by_program
 from .asked import OF_LOADS, known, log_of, terms_of
-from .dealing import OWN_SEED, Terms, tasks_of, turns_of
+from .dealing import OWN_SEED, Terms, tasks_of, turn_in, turns_of, work_of
 from .draws import block_of, drawn, scaled
 from .log import Log
 from .units import unit_of
 
-SCALE, RATE = "--scale", "--rate"
-MOST_SCALE, MOST_RATE = 1_000_000, 10 ** 15
+SCALE, MOST_SCALE = "--scale", 1_000_000
 A_SCALE = "a scale is a number above 0 and at most 1000, with up to three digits after the point"
-A_RATE = "requests a second are a number above 0, with up to three digits after the point"
 MOST_TASKS = 16
 ALL_AT_ONCE = "all requests of {} come at once: it has no rate"
 
@@ -65,7 +63,18 @@ class LogLoads(Loads):
         return f"{thousandths(load)} requests a second" if self.is_rate else f"load {thousandths(load)}"
 
     def heading(self, name: Optional[str]) -> str:
-        return "load of the log [1/s]" if self.is_rate else "load of the log"
+        return f"load of the log {A_SECOND}" if self.is_rate else "load of the log"
+
+    def filled(self, load: int, machine: Machine) -> tuple[int, ...]:
+        """The tasks of the log whose work is as much as their threads can do from its first request to its last."""
+        log, terms = self.its_log, self.its_terms
+        if not log.lasts:
+            return ()
+        turn, work = turn_in(terms, log.unit), dict[int, int]()
+        for task, service in zip(tasks_of(log, terms, len(machine.tasks)), log.rows.services):
+            work[task] = work.get(task, 0) + work_of(service, turn)
+        turns = log.lasts / turn / self.scale(load)
+        return tuple(it for it in sorted(work) if work[it] >= turns * machine.limits[it])
 
     def scale(self, load: int) -> Fraction:
         """How many times the load of the log a load is."""
@@ -87,7 +96,7 @@ def points_of(asked: Asked, log: Log) -> tuple[tuple[int, ...], str, bool]:
         return rising(SCALE, word, MOST_SCALE, A_SCALE), word, False
     if log.rate is None:
         raise Refusal(f"{RATE} {rate}: {ALL_AT_ONCE.format(log.name)}")
-    return rising(RATE, rate, MOST_RATE, A_RATE), rate, True
+    return loads_of(RATE, rate), rate, True
 
 
 def refuse_loads(asked: Asked) -> None:
@@ -98,7 +107,7 @@ def refuse_loads(asked: Asked) -> None:
     for it in ("unit", "turn"):
         if not asked.has(it):
             raise Refusal(f"--log {asked.one('log')}: --{it} is asked for too, as `caladan_lab log` has it")
-    for it in ("task", "misses"):
+    for it in ("task", "misses", "rate"):
         if len(asked.found.get(it, [])) > 1:
             raise Refusal(f"--{it} {asked.all(it)[-1]}: with --log it is given once")
 

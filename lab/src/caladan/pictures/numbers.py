@@ -8,6 +8,7 @@ from typing import Iterable, Optional, Sequence
 
 from ..refusal import Refusal
 from ..rows import Row, rows_of
+from ..sweeps.loads import A_SECOND
 from .facts import kind_of
 
 TIMES = ("p50", "p90", "p99", "p99.9", "mean")
@@ -70,8 +71,8 @@ class SweptRun:
 @dataclass(frozen=True)
 class Sweep:
     """The runs of a sweep, the key that is varied, if any, the task that is swept where it has a name, the unit of the
-    times where the head says it, whether its loads are in cores, whether tasks have rows of their own, and of how many
-    seeds its rows are, as `of 4 seeds`, if of several."""
+    times where the head says it, whether its loads are in cores, whether tasks have rows of their own, of how many
+    seeds its rows are, as `of 4 seeds`, if of several, and whether its loads are requests a second."""
 
     task: str
     key: str
@@ -80,6 +81,7 @@ class Sweep:
     in_cores: bool = False
     has_tasks: bool = False
     seeds: str = ""
+    is_rate: bool = False
 
     @property
     def shown(self) -> list[SweptRun]:
@@ -211,9 +213,10 @@ def read_sweep(text: str, name: str) -> Sweep:
     if not runs:
         raise Refusal(f"{name}: it has no runs below its head")
     in_cores = titles[0].startswith("offered")
-    task = titles[0].partition("offered to " if in_cores else "load of ")[2]
+    is_rate = titles[0].endswith(f" {A_SECOND}")
+    task = titles[0].removesuffix(f" {A_SECOND}").partition("offered to " if in_cores else "load of ")[2]
     sweep = Sweep(task, rows.key, runs, unit_in(titles[1:]), in_cores, "task" in rows.between,
-                  "" if rows.seeds == SEED else rows.seeds)
+                  "" if rows.seeds == SEED else rows.seeds, is_rate)
     if rows.seeds != SEED:
         return sweep
     from .spreads import with_three_rows

@@ -9,6 +9,7 @@ from typing import Sequence
 
 from ..refusal import Refusal
 from ..rows import Row
+from ..sweeps.loads import A_SECOND
 from ..sweeps.objectives import RANKS
 from .numbers import GREATEST, LEAST, MEDIAN, TIMES, Cell, Sweep, SweptRun, number, read_sweep, rows_of_kind
 
@@ -121,7 +122,8 @@ def seeds_of_sweep(text: str, name: str) -> Seeds:
 def setting_keys(sweep: Sweep) -> Setting:
     """The names of what is set in a sweep."""
     load = "cores offered" if sweep.in_cores else "load"
-    return (f"{load} of {sweep.task}" if sweep.task else load), sweep.key, ""
+    unit = f" {A_SECOND}" if sweep.is_rate else ""
+    return (f"{load} of {sweep.task}" if sweep.task else load) + unit, sweep.key, ""
 
 
 def setting_of_sweep(sweep: Sweep, run: SweptRun) -> Setting:

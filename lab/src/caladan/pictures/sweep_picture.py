@@ -10,6 +10,7 @@ from typing import Any, Optional, Sequence
 from matplotlib.axes import Axes
 
 from ..refusal import Refusal
+from ..sweeps.loads import A_SECOND
 from ..sweeps.objectives import Objective
 from .colours import Palette
 from .curves import STYLES, grid, look, sample_rows, samples
@@ -170,8 +171,9 @@ class LoadPlot:
         paper.text(MARGIN + 6, top + PLOT / 2, f"response, {scene.unit}", SMALL, color=colours.second, ha="center",
                    rotation="vertical")
         what, of = ("cores offered", " to ") if scene.sweep.in_cores else ("load", " of ")
-        paper.text(self.left + self.across / 2, top + PLOT + 32, f"{what}{of * bool(scene.task)}{scene.task}", SMALL,
-                   color=colours.second, ha="center")
+        unit = f" {A_SECOND}" if scene.sweep.is_rate else ""
+        paper.text(self.left + self.across / 2, top + PLOT + 32, f"{what}{of * bool(scene.task)}{scene.task}{unit}",
+                   SMALL, color=colours.second, ha="center")
 
 
 class CostPlot:
@@ -226,7 +228,8 @@ class CostPlot:
         ends = sorted({it.load: it for it in (*runs[:1], *runs[-1:])}.values(), key=scene.best_effort)
         for run, side in zip(ends, ((-7, "right"), (7, "left"))):
             place = (scene.best_effort(run), run.times[scene.cost_rank].answered)
-            load = f"{run.load:g} cores" if scene.sweep.in_cores else f"load {run.load:g}"
+            load = f"{run.load:g} cores" if scene.sweep.in_cores else \
+                f"{run.load:g}/s" if scene.sweep.is_rate else f"load {run.load:g}"
             axes.annotate(load, place, (side[0], 0), textcoords="offset points", ha=side[1],
                           va="center", fontsize=(SMALL - 1) * 0.75, color=colours.second, zorder=2)
 

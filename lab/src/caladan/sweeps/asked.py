@@ -18,7 +18,7 @@ if TYPE_CHECKING:
 
 MOST_SEEDS = 1000
 # Words that go with a log alone.
-OF_LOGS = ("unit", "turn", "columns", "separator", "batch", "scale", "rate", "block")
+OF_LOGS = ("unit", "turn", "columns", "separator", "batch", "scale", "block")
 
 
 @dataclass(frozen=True)

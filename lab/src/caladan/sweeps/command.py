@@ -5,6 +5,7 @@ import itertools
 from typing import TYPE_CHECKING, Optional, Sequence
 
 from .. import pool
+from ..figures import thousandths
 from ..files import Output, Source, is_terminal, say
 from ..labels import Labels, counted, names_of
 from ..numbers import number_of
@@ -53,7 +54,9 @@ def held(asked: SweepAsked, machines: Sequence[Machine]) -> None:
         few = next((it.limits[task.task] for it in machines if load > 1000 * it.limits[task.task]), None)
         if few is not None:
             word = words[0] if len(words) == 1 else words[place]
-            raise Refusal(f"{OFFERED} {word}: a task may get as many cores as it has threads, here {few}")
+            these = "" if asked.loads.flag == OFFERED else f", and these requests take {thousandths(load)}"
+            raise Refusal(f"{asked.loads.flag} {word}: a task may get as many cores as it has threads, here "
+                          f"{few}{these}")
 
 
 def swept_of(view: Viewer, asked: SweepAsked, machines: Sequence[Machine], is_shown: bool, players: Players) -> Swept:

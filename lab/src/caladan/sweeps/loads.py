@@ -1,17 +1,22 @@
 """What comes to tasks, as words say it."""
 from __future__ import annotations
 
-from dataclasses import dataclass
+from dataclasses import dataclass, replace
+from fractions import Fraction
 from typing import Optional, Sequence
 
 from ..figures import thousandths
+from ..logs.units import nanoseconds, said_length
 from ..numbers import number_of, task_named, thousandths_of
 from ..refusal import Refusal
-from ..stamps import tick_of
+from ..stamps import tick_in, tick_of
+from ..tables import Machine
 from ..words.likeness import tip
 from ..words.parsing import Asked
 
 TASK, LOAD, OFFERED, SERVICE, PATTERN, MISSES = ("--task", "--load", "--offered", "--service", "--pattern", "--misses")
+RATE, MOST_RATE = "--rate", 10 ** 15
+A_RATE = "requests a second are a number above 0, with up to three digits after the point"
 MOST_LOAD, MOST_LIMIT, MOST_WORK, MOST_BURST, MOST_MISSES = 10_000, 16, 1_000_000, 10_000, 2 ** 32 - 1
 WHOLE = 100_000
 POINT = "a number above 0 and at most {}, with up to three digits after the point"
@@ -52,6 +57,12 @@ class Loads:
 
     @property
     def flag(self) -> str:
+        """The option by which loads are asked for."""
+        return self.asks
+
+    @property
+    def asks(self) -> str:
+        """The option by which the program is asked for them."""
         return OFFERED if self.in_cores else LOAD
 
     @property
@@ -91,6 +102,53 @@ class Loads:
         """What comes to each task where the swept one has this load, with the load."""
         return [(it, load if n == self.swept else it.loads[0]) for n, it in enumerate(self.tasks)]
 
+    def filled(self, load: int, machine: Machine) -> tuple[int, ...]:
+        """The tasks to which as much work comes at a load as their threads can do, or more, so that their queues have
+        no end. Just as much may be done where it comes evenly."""
+        whole = {it.task: 1000 * (machine.limits[it.task] if self.in_cores else 1) for it in self.tasks}
+        return tuple(it.task for it, own in self.at(load) if own >= whole[it.task] + (it.pattern == "even"))
+
+
+@dataclass(frozen=True)
+class RateLoads(Loads):
+    """The same by requests a second, which the program is asked for in cores; and the length of a turn in seconds, once
+    the table is known."""
+
+    turn: Fraction = Fraction(0)
+
+    @property
+    def flag(self) -> str:
+        return RATE
+
+    def settled(self, given: bytes, ticks: int, tick: str) -> tuple[Loads, int, str]:
+        """The same with the length of a turn. Refusal where nothing says what a tick is, and of too few requests."""
+        unit = tick_of(given, tick)
+        length = tick_in(given) or (Fraction(nanoseconds(unit)) if unit else None)
+        if length is None:
+            raise Refusal(f"{RATE} {self.word}: how long a tick is is not said", below=NO_TICK)
+        loads = replace(self, turn=length * ticks / 10 ** 9)
+        for place, (_, cores) in enumerate(loads.at(loads.loads[0])):
+            if not cores:
+                word = self.offered[place if len(self.offered) > 1 else 0]
+                raise refused(RATE, word, f"with turns of {said_length(length * ticks)} these requests take less than "
+                                          "a thousandth of a core")
+        return loads, ticks, unit
+
+    def at(self, load: int) -> list[tuple[TaskLoad, int]]:
+        """What comes to each task, in thousandths of a core, to the nearest."""
+        return [(it, int(rate * self.turn * mean_work(it.service) + Fraction(1, 2))) for it, rate in super().at(load)]
+
+    def said(self, load: int) -> str:
+        return f"{thousandths(load)} requests a second"
+
+    def heading(self, name: Optional[str]) -> str:
+        return f"load of {name} {A_SECOND}" if name is not None else f"load {A_SECOND}"
+
+
+NO_TICK = "  --tick us says it, or a line of the table: # A tick is 1 us.\n"
+# What stands over loads in requests a second.
+A_SECOND = "[1/s]"
+
 
 def _filled(last: int, step: Optional[int], load: int) -> list[int]:
     """The loads that `..` stands for between the last one and the next."""
@@ -121,9 +179,11 @@ def rising(flag: str, word: str, most: int, what: str) -> tuple[int, ...]:
     return tuple(loads)
 
 
-def loads_of(word: str, in_cores: bool) -> tuple[int, ...]:
-    """The loads of a word."""
-    if in_cores:
+def loads_of(flag: str, word: str) -> tuple[int, ...]:
+    """The loads of a word of this option."""
+    if flag == RATE:
+        return rising(RATE, word, MOST_RATE, A_RATE)
+    if flag == OFFERED:
         return rising(OFFERED, word, 1000 * MOST_LIMIT, f"cores are {POINT.format(MOST_LIMIT)}")
     return rising(LOAD, word, MOST_LOAD, f"a load is {POINT.format(10)}")
 
@@ -143,6 +203,11 @@ def parts_of(word: str) -> list[tuple[int, int]]:
     if total != WHOLE:
         raise refused(SERVICE, word, f"the shares make {total // 1000}.{total % 1000:03}%, not 100%")
     return parts
+
+
+def mean_work(service: str) -> Fraction:
+    """The turns that a request takes in the mean, by the word of a service."""
+    return Fraction(sum(share * work for share, work in parts_of(service)), WHOLE)
 
 
 def burst_of(word: str) -> int:
@@ -183,15 +248,21 @@ def task_of(word: str, names: Sequence[str]) -> int:
     return task
 
 
-def _task_load(asked: Asked, names: Sequence[str], in_cores: bool, place: int) -> tuple[TaskLoad, str]:
+def flag_of(asked: Asked) -> str:
+    """The option by which loads are asked for. Refusal of two."""
+    there = [it for it in (RATE, OFFERED, LOAD) if asked.all(it[2:])]
+    if len(there) > 1:
+        raise refused(there[0], asked.all(there[0][2:])[0], f"{there[1]} is given too, and one of the two is asked for")
+    return there[0] if there else LOAD
+
+
+def _task_load(asked: Asked, names: Sequence[str], flag: str, place: int) -> tuple[TaskLoad, str]:
     """What words ask of the task that is named at this place, with the word of its loads."""
     tasks = asked.all("task")
     task = task_of(tasks[place], names)
-    flag, given = (OFFERED, asked.all("offered")) if in_cores else (LOAD, asked.all("load"))
-    word, service, pattern, misses = (_each(it, words, len(tasks), place) for it, words in (
-        (flag, given), (SERVICE, asked.all("service")), (PATTERN, asked.all("pattern")),
-        (MISSES, asked.all("misses"))))
-    loads = loads_of(word, in_cores)
+    word, service, pattern, misses = (_each(it, asked.all(it[2:]), len(tasks), place)
+                                      for it in (flag, SERVICE, PATTERN, MISSES))
+    loads = loads_of(flag, word)
     parts_of(service)
     burst_of(pattern)
     return TaskLoad(task, loads, service, pattern, str(misses_of(misses))), word
@@ -199,19 +270,18 @@ def _task_load(asked: Asked, names: Sequence[str], in_cores: bool, place: int) -
 
 def asked_loads(asked: Asked, names: Sequence[str]) -> Loads:
     """What comes to each task that the words name, in their order: no task twice, and several loads of one at most."""
-    offered = asked.all("offered")
-    if offered and asked.all("load"):
-        raise refused(OFFERED, offered[0], "--load is given too, and one of the two is asked for")
-    in_cores = bool(offered)
+    flag = flag_of(asked)
     tasks: list[TaskLoad] = []
     swept, swept_word = 0, ""
     for place, named in enumerate(asked.all("task")):
-        load, word = _task_load(asked, names, in_cores, place)
+        load, word = _task_load(asked, names, flag, place)
         if any(it.task == load.task for it in tasks):
             raise refused(TASK, named, "this task has a load already")
         if len(load.loads) > 1 and tasks and len(tasks[swept].loads) > 1:
-            raise refused(OFFERED if in_cores else LOAD, word, "one load is asked for, and not several")
+            raise refused(flag, word, "one load is asked for, and not several")
         if len(load.loads) > 1 or not tasks:
             swept, swept_word = place, word
         tasks.append(load)
-    return Loads(tuple(tasks), swept, swept_word, in_cores, tuple(asked.all("task")), tuple(offered))
+    words = () if flag == LOAD else tuple(asked.all(flag[2:]))
+    kind = RateLoads if flag == RATE else Loads
+    return kind(tuple(tasks), swept, swept_word, flag != LOAD, tuple(asked.all("task")), words)

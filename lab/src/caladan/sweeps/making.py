@@ -53,7 +53,7 @@ def words_of(asked: SweepAsked, tasks: Sequence[tuple[TaskLoad, int]], seed: int
     """The words of the program for these loads."""
     words = ["arrivals", "--turns", str(turns), "--ticks", str(asked.ticks), "--seed", str(seed)]
     for task, load in tasks:
-        words += ["--task", str(task.task), asked.loads.flag, thousandths(load), "--service", task.service,
+        words += ["--task", str(task.task), asked.loads.asks, thousandths(load), "--service", task.service,
                   "--pattern", task.pattern, "--misses", task.misses]
     return words
 

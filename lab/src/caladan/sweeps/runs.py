@@ -24,8 +24,8 @@ NONE_CAME = "no request came within the turns"
 class SweptRun:
     """A run: what came to each task that has a load; of those tasks that lost requests which came before the end of the
     window, the turn to which the first of these came; the numbers, whether a request came within the window, and the
-    share of the best-effort tasks; the samples of tasks of which more is asked than the numbers say, and how many turns
-    it has."""
+    share of the best-effort tasks; the samples of tasks of which more is asked than the numbers say, how many turns it
+    has, and the tasks to which as much work comes as their threads can do."""
 
     counts: dict[int, Count]
     left_from: dict[int, int]
@@ -34,6 +34,7 @@ class SweptRun:
     share: MaybeFigure
     samples: dict[int, Sample] = field(default_factory=dict)
     turns: int = 0
+    filled: tuple[int, ...] = ()
 
     def response(self, label: str, task: int) -> MaybeFigure:
         """A row of a task's responses in the window; a bound with the least that it can be."""
@@ -135,7 +136,8 @@ class Runs:
         left = {task: turn for task, turn in made.left_from.items() if turn < after}
         share = share_of(unit.machine, numbers, asked.ticks if in_lockstep else 1, held)
         samples = self.samples(numbers, words, made, given, (first, after)) if is_ranked else {}
-        return SweptRun(made.counts, left, numbers, is_ranked, share, samples, turns)
+        filled = asked.loads.filled(unit.point.load, unit.machine)
+        return SweptRun(made.counts, left, numbers, is_ranked, share, samples, turns, filled)
 
     def samples(self, numbers: Measured, words: Sequence[Word], made: Made, given: bytes,
                 window: tuple[int, int]) -> dict[int, Sample]:

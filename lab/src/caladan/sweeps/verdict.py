@@ -5,13 +5,16 @@ from dataclasses import dataclass
 from typing import Optional
 
 from ..refusal import NAME
-from ..samples import growth_of, halves_of
+from ..samples import course_of, growth_of
 from ..varying import setting_at
 from .as_before import judged_by_rank
 from .asked import SweepAsked
 from .judging import Judge
 from .objectives import KEPT, MISSED, UNDECIDED, Judged, Objective
 from .runs import SweptRun
+
+MUST_GROW = ("the response grows with the run, since as much work comes as the threads of the task can do, or more; "
+             "offer less, or raise its limit")
 
 
 @dataclass(frozen=True)
@@ -52,19 +55,21 @@ class Verdict:
         return self.judge.judged(objective, run)
 
     def growth(self, task: int, runs: list[SweptRun]) -> str:
-        """That the response of a task grows over the windows of the runs with all seeds; nothing where it does not."""
+        """That the response of a task grows over the windows of the runs with all seeds, or must grow where as much
+        work comes as its threads can do; nothing where it does not."""
         asked = self.asked
-        pairs = []
+        if asked.is_as_before:
+            return ""
+        courses = []
         for it in runs:
             first, after = map(asked.clock_of, asked.window(it.turns))
-            if task in it.samples and (pair := halves_of(it.samples[task], first, after)):
-                pairs.append(pair)
-        grows = growth_of(pairs)
-        if asked.is_as_before or grows is None:
-            return ""
-        earlier, later = (f"{it:.1f} {asked.labels.ticks}" for it in grows)
-        return (f"the response grows, from {earlier} in the mean of the window's first half to {later} in its second; "
-                "run longer, or offer less")
+            if task in it.samples and (course := course_of(it.samples[task], first, after)):
+                courses.append(course)
+        if grows := growth_of(courses):
+            earlier, later = (f"{it:.1f} {asked.labels.ticks}" for it in grows)
+            return (f"the response grows, from {earlier} in the mean of the window's first half to {later} in its "
+                    "second; run longer, or offer less")
+        return MUST_GROW if any(task in it.filled for it in runs) else ""
 
     def of_all(self, objective: Objective, load: int, table: int, policy: int) -> Judged:
         """The same with all seeds: one is enough to miss it, else to leave it undecided; a response that grows leaves

@@ -61,8 +61,10 @@ COMPARE = Command(
 SWEEP = Command(
     "sweep", f"{NAME} sweep", "Run a table at rising loads", texts.SWEEP,
     (INPUT, option("task", "TASK", "A task that gets requests", many=True, default="0"),
-     option("load", "LOAD", "Rising loads, such as 0.1,0.3,..,0.9", many=True, unless="offered log"),
+     option("load", "LOAD", "Rising loads, such as 0.1,0.3,..,0.9", many=True,
+            unless="offered rate log"),
      option("offered", "CORES", "The same in cores, whatever its limit, such as 1.5", many=True),
+     option("rate", "PER_SECOND", "The same in requests a second, such as 80000,100000", many=True),
      *RUN_OF_LOADS, BY_EACH, *in_long_help(PLAN), VARY,
      option("slo", "OBJECTIVE", "What the last load must keep, such as task.0.p99=65", many=True),
      option("from", "TURN", "The first turn of the window [default: a tenth in]", hidden=True),

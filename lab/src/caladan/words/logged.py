@@ -106,16 +106,15 @@ SWEPT_LOG = Section("Logs", (
     option("log", "FILE", "Requests of a log in place of loads: see `log`"),
     option("unit", "UNIT", UNIT), option("turn", "LENGTH", TURN), COLUMNS, SEPARATOR, BATCH,
     option("scale", "TIMES", "Times the load of the log, rising, such as 0.8,1,1.3 [default: 1]"),
-    option("rate", "PER_SECOND", "The same as requests a second, such as 80000,100000"),
     option("block", "N", "The requests of a block [default: the root of how many the log has]",
            number=Number(1, 1000000))), """\
 With --log, seed 1 is the log itself. Each other seed is a draw from it: blocks
 of requests that follow one another there, from random ones on, until as much
 time has passed; each request keeps its gap, its service, its task and its
 misses, and is dealt to a thread anew. At 1.3 times the load each comes so much
-sooner after the first. A run ends as `caladan_lab log` ends it, or after
---turns, and its window is all but the first and the last tenth of its turns.
---task is the task of all requests, where the log has no column of tasks; --tick
-and --ticks say what a tick is, else the table or the log; --misses is of work
-without end.
+sooner after the first; --rate says the load in requests a second. A run ends as
+`caladan_lab log` ends it, or after --turns, and its window is all but the first
+and the last tenth of its turns. --task is the task of all requests, where the
+log has no column of tasks; --tick and --ticks say what a tick is, else the
+table or the log; --misses is of work without end.
 """)

@@ -138,7 +138,8 @@ the task held in the mean; and the share of the machine that best-effort tasks
 held. Each run is on the arrivals that `arrivals` makes with these options. Its
 numbers are those of `measure`, but that responses count from when requests
 came, also where these come at a later turn, and are of those that came in the
-turns of a window. One task has the loads; each other --task has one.
+turns of a window. One task has the loads; each other --task has one. --rate has
+them in requests a second, by the length of a turn, in place of cores.
 With --vary there is a row for each value, or for each combination of several
 --vary, as in `compare`, on arrivals made for that table; with --offered on the
 same requests for all, drawn for the greatest limit, each at its thread modulo
@@ -156,7 +157,8 @@ or have waited longer so far, and where requests of the task that came before
 the end of the window are left out; with --offered, those of any task. Else it
 is undecided, and the line says how many more turns would do. It is undecided
 too where the response grows from the first half of the window to the second by
-more than chance, since it has no ranks then. max is of the requests that came,
+more than chance, or as much work comes as the threads of its task can do, since
+it has no ranks then. max is of the requests that came,
 and says nothing of others. Of several seeds one is enough to miss it, else to
 leave it undecided; if all of ten keep it, another does with a chance of 0.741
 or more, at 95 in 100. For one seed to say at 95 in 100 that p99 is kept takes

@@ -1,7 +1,7 @@
 //! A reader or a writer with what the system said of it.
 
 use std::io;
-use std::io::{Read, Write};
+use std::io::{ErrorKind, Read, Write};
 
 /// A reader or a writer that remembers the error of the last call that failed.
 #[derive(Drop)]
@@ -24,6 +24,14 @@ impl<T> Noted<T> {
     /// What the system said of the last call that failed.
     pub fn said(&self) -> Option<io::Error> {
         self.said
+    }
+
+    /// Whether whoever was to read what is written has gone: the last call failed on a closed pipe.
+    pub fn is_reader_gone(&self) -> bool {
+        match self.said {
+            Some(said) => said.kind() == ErrorKind::BrokenPipe,
+            None => false,
+        }
     }
 }
 
