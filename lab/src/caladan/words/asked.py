@@ -39,7 +39,7 @@ RUN_OF_LOADS = (
     option("pattern", "PATTERN", "poisson, even or bursts:N", many=True, default="poisson"),
     option("misses", "N", "Cache misses that a turn of a request adds", many=True, default="0", hidden=True),
     option("turns", "N", "Turns of each thread, 1 to 174762", default="1000", number=Number(1, MOST_TURNS)),
-    option("ticks", "N", "Ticks of a turn, 1 to 1000000000", default="10", number=Number(1, MOST_TICKS)),
+    option("ticks", "N", "Ticks of a turn, 1 to 1000000000", default="10", number=Number(1, MOST_TICKS), hidden=True),
     number("seed", "SEED", "The seed of the random numbers", default="1"),
 )
 
