@@ -4,6 +4,7 @@ from __future__ import annotations
 import re
 import subprocess
 import sys
+from pathlib import Path
 
 import pytest
 from conftest import TABLE, TOP
@@ -16,7 +17,12 @@ from caladan.tables import machine_of
 from caladan.world import POLICIES, guard, played
 from caladan.world.actions import (Action, Ban, Cap, ForBan, ForBandwidth, ForTask, Free, Grant, Revoke, Unban,
                                    action_of, row_of)
+from caladan.world.board import Board
 from caladan.world.plans import RunPlan
+from caladan.world.records import ZERO, Record
+
+sys.path.insert(0, str(TOP / "tools"))
+from caladan_tools.programs import script as script_of  # noqa: E402
 
 MACHINE = machine_of(TABLE.encode())
 NUMBERS = some.integers(0, 127)
@@ -25,6 +31,7 @@ ACTIONS = some.one_of(
     some.builds(Free, NUMBERS), some.builds(Unban, NUMBERS), some.builds(Revoke, NUMBERS, CAUSES),
     some.builds(Ban, NUMBERS, NUMBERS, some.integers(0, 2 ** 64 - 1)), some.builds(Cap, NUMBERS, some.integers(0, 16)),
     some.builds(Grant, NUMBERS, NUMBERS, some.integers(1, 5)))
+DECIDED = sorted(it.parent for it in (TOP / "examples" / "decide").glob("*/args") if "assured" in it.read_text())
 
 
 @pytest.mark.parametrize("script", ["world_runs", "changed_histories"])
@@ -87,3 +94,50 @@ def test_passes_stand_evenly_before_a_turn() -> None:
     plan = RunPlan(3)
     assert plan.clocks_before([100, 140], 0) == [70, 80, 90] and plan.clocks_before([100, 140], 1) == [110, 120, 130]
     assert plan.clocks_before([8], 0) == [2, 4, 6] and plan.clocks_before([8, 8], 1) == [8, 8, 8]
+
+
+def told(action: Action) -> str:
+    """An action as a report tells it."""
+    words = action_words(action)
+    forms = {Free: "free core {}", Unban: "unban core {}", Ban: "ban core {} for thread {} started {}",
+             Cap: "cap task {} at {}", Grant: "grant core {} to thread {} class {}", Revoke: "revoke core {} for {}"}
+    return forms[type(action)].format(*words)
+
+
+def action_words(action: Action) -> tuple[object, ...]:
+    """What stands in an action; of a revocation its cause as a report names it."""
+    if not isinstance(action, Revoke):
+        return tuple(action)
+    names = {ForBan: "ban by core {}", ForBandwidth: "bandwidth", ForTask: "task {}"}
+    return action.core, names[type(action.cause)].format(*action.cause)
+
+
+def has_decided(table: str, signals: str, report: str) -> None:
+    """The assured policy decides on signals as a report says, which names the looks that keep the record before."""
+    board = Board(machine_of(table.encode()))
+    kept = [ZERO for _ in board.owner]
+    passes = [it.splitlines() for it in re.split(r"^(?:pass|end)\b", report, flags=re.M)]
+    looks = [[row.split(",") for row in it.splitlines()] for it in re.split(r"^(?:pass|end),", signals, flags=re.M)]
+    assert len(looks) == len(passes)
+    for (first, *rows), told_of in zip(looks[1:-1], passes[1:-1]):
+        for word, thread, _, _, *numbers in rows:
+            if word == "whole" and not any(it.startswith(f"  kept {thread} ") for it in told_of):
+                kept[int(thread)] = Record(*map(int, numbers), *[0] * (9 - len(numbers)))
+        board.begin(int(first[0]), int(first[1]), list(kept), [it[2] == "1" for it in rows])
+        POLICIES["assured"](board)
+        assert [f"  {told(it)}" for it in board.actions] == [it for it in told_of[1:] if not it.startswith("  kept ")]
+
+
+@pytest.mark.parametrize("folder", DECIDED, ids=lambda it: it.name)
+def test_the_assured_policy_decides_as_in_its_worked_examples(folder: Path) -> None:
+    table, _, signals = (folder / "input").read_text().partition("---\n")
+    has_decided(table, signals, (folder / "output").read_text())
+
+
+# Of seed 116: a core is revoked for a ban by core 1, which is none for task 1.
+@pytest.mark.parametrize("seed", [*range(10), 116])
+def test_the_assured_policy_decides_on_made_signals_as_a_model_does(seed: int) -> None:
+    """Of threads that do what they like, which no run has."""
+    runs = script_of("assured_runs")
+    text, table, history, _ = runs.made_run(seed, "assured")
+    has_decided(text, runs.signals(history), runs.M.report_text(table, history))

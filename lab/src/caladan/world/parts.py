@@ -6,6 +6,9 @@ from typing import Callable, Optional
 from .actions import Ban, Cap, ForBan, ForBandwidth, Free, Revoke, Unban
 from .board import Board
 
+# The classes of a core that a task holds, by its kind.
+BEST_EFFORT, LATENCY_CRITICAL = 4, 5
+
 
 def frees(board: Board) -> None:
     """Each core that its thread left becomes free."""
@@ -110,12 +113,14 @@ def held_class(board: Board, task: int, core: int) -> Optional[int]:
     if other is None or core in board.granted_now or not board.rooms[board.holder_at(core)]:
         return None
     if not board.is_critical[other]:
-        return 4
+        return BEST_EFFORT
     is_owing = board.booked[task] < board.table.tasks[task].guaranteed
-    return 5 if is_owing and other != task and board.is_over(other) else None
+    return LATENCY_CRITICAL if is_owing and other != task and board.is_over(other) else None
 
 
-def core_to_preempt(board: Board, task: int) -> Optional[int]:
-    """The core that is taken for a latency-critical task from one that holds it: the least by class, then number."""
+def core_to_preempt(board: Board, task: int, most: int = LATENCY_CRITICAL) -> Optional[int]:
+    """The core that is taken for a latency-critical task from one that holds it: the least by class, up to this one,
+    then number."""
     classes = {c: found for c in range(board.table.cores) if (found := held_class(board, task, c)) is not None}
-    return min(classes, key=lambda c: (classes[c], c)) if classes else None
+    least = min(classes, key=lambda c: (classes[c], c)) if classes else None
+    return least if least is not None and classes[least] <= most else None
