@@ -4,8 +4,9 @@ from __future__ import annotations
 
 import subprocess
 import sys
+from dataclasses import replace
 from pathlib import Path
-from typing import Iterator
+from typing import Iterator, Optional
 
 import pytest
 from conftest import TABLE, TOP, Run
@@ -182,6 +183,37 @@ def test_what_is_no_policy(tmp_path: Path, policies: list[object], said: str) ->
     with pytest.raises(Refusal) as it:
         swept(tmp_path, *policies)
     assert said in it.value.line
+
+
+@pytest.mark.parametrize("more, said", [
+    ({"rate": [1000, 2000]}, "a rate is swept by the program's policies: leave `policies` out, and give policy=.."),
+    ({"log": "requests.csv"}, "a log is swept by the program's policies: leave `policies` out, and give policy=.."),
+    ({"scale": 2}, "the load of a log is swept by the program's policies: leave `policies` out, and give policy=.."),
+    ({"policy": "assured"}, "policy and policies are both given, and one of the two is asked for")])
+def test_what_is_not_swept_by_policies(tmp_path: Path, more: dict[str, object], said: str) -> None:
+    with pytest.raises(Refusal) as it:
+        caladan.sweep(table_of(tmp_path), policies=["caladan"], turns=9, **more)  # type: ignore[call-overload]
+    assert it.value.line == said
+
+
+def test_a_comparison_names_its_policies_once(tmp_path: Path) -> None:
+    run = table_of(tmp_path).run(task=0, load=0.5, turns=9)
+    with pytest.raises(Refusal, match="policy and policies are both given"):
+        caladan.compare(run, policies=["caladan", LongestWait()], policy="assured")
+
+
+@pytest.mark.parametrize("more, policies", [
+    ({"loads": [0.5, 0.9]}, None), ({"load": 0.5}, None), ({"rate": 200}, None), ({"load": 0.5}, ["assured"]),
+    ({"loads": [0.5, 0.9]}, ["caladan", LongestWait()]), ({"offered": 0.5}, ["caladan", LongestWait()])])
+def test_a_sweep_is_asked_for_by_loads_or_a_rate(tmp_path: Path, more: dict[str, object],
+                                                 policies: Optional[list[object]]) -> None:
+    """By policies it has a row for each run, else one for each load and policy."""
+    pytest.importorskip("pandas")
+    table = replace(table_of(tmp_path), tick="us")
+    made = caladan.sweep(table, policies=policies, task=0, seeds=2, turns=9, **more)  # type: ignore[call-overload]
+    loads = len(more["loads"]) if "loads" in more else 1  # type: ignore[arg-type]
+    assert type(made) is (caladan.Answer if policies is None else caladan.Trials)
+    assert len(made.frame) == (loads * 3 if policies is None else loads * 2 * len(policies))
 
 
 def test_python_needs_a_replay_too(tmp_path: Path) -> None:

@@ -46,6 +46,7 @@ By = Union[str, "Policy"]
 
 
 NO_POLICY = "no policy: caladan, assured, exec:COMMAND, or an instance of a class of caladan.Policy"
+BOTH = "policy and policies are both given, and one of the two is asked for"
 # For how many seconds a run waits for an answer of a policy that is a program.
 PATIENCE = 10
 
@@ -385,6 +386,8 @@ def compare(runs: Union[Run, Sequence[Run]], vary: Optional[Keys] = None, polici
     whose first has the arrivals. Options are those of `caladan_lab compare`, as policy="caladan,assured"; or policies
     are given, as ["caladan", LongestWait()]."""
     given = [runs] if isinstance(runs, Run) else list(runs)
+    if policies and options.get("policy") is not None:
+        raise Refusal(BOTH)
     first, own = given[0], own_in(policies)
     words, asked = _asked("compare", first.table, vary, {**(_asked_by(policies) if policies else {}), **options})
     if own:
@@ -429,10 +432,7 @@ def sweep(table: OfTable, load: Load = None, vary: Optional[Keys] = None, polici
     of_table = table if isinstance(table, Table) else Table.read(table)
     given = load if loads is None else loads
     if policies is not None:
-        if log is not None:
-            raise Refusal("a log is swept by the program's policies: leave `policies` out, and give policy=..")
-        if rate is not None:
-            raise Refusal("a rate is swept by the program's policies: leave `policies` out, and give policy=..")
+        refuse_beside_policies({"a log": log, "the load of a log": scale, "a rate": rate}, options)
         from .trials import trials_of
         return trials_of(of_table, given, vary, policies, options)
     words, asked = _asked("sweep", of_table, vary, {"load": load_word(given), **of_log(log, scale, rate), **options})
@@ -441,6 +441,15 @@ def sweep(table: OfTable, load: Load = None, vary: Optional[Keys] = None, polici
     of_words = asked_of(asked, read, names_in(of_table.text))
     csv, lines = swept(of_words, of_table.text, of_table.view)
     return Answer(csv, tuple(words), of_table, tuple(lines.splitlines()), swept=of_words.loads.task)
+
+
+def refuse_beside_policies(of_program: Mapping[str, object], options: Mapping[str, Option]) -> None:
+    """Refusal of what is given beside `policies`, and is the program's alone; and of `policy`, which says it again."""
+    given = next((name for name, value in of_program.items() if value is not None), None)
+    if given is not None:
+        raise Refusal(f"{given} is swept by the program's policies: leave `policies` out, and give policy=..")
+    if options.get("policy") is not None:
+        raise Refusal(BOTH)
 
 
 def of_log(log: OfLog, scale: Load, rate: Load) -> dict[str, Option]:
