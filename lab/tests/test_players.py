@@ -189,7 +189,8 @@ def test_what_is_no_policy(tmp_path: Path, policies: list[object], said: str) ->
     ({"rate": [1000, 2000]}, "a rate is swept by the program's policies: leave `policies` out, and give policy=.."),
     ({"log": "requests.csv"}, "a log is swept by the program's policies: leave `policies` out, and give policy=.."),
     ({"scale": 2}, "the load of a log is swept by the program's policies: leave `policies` out, and give policy=.."),
-    ({"policy": "assured"}, "policy and policies are both given, and one of the two is asked for")])
+    ({"policy": "assured"}, "policy and policies are both given, and one of the two is asked for"),
+    ({}, "loads: none is given"), ({"task": 0}, "loads: none is given")])
 def test_what_is_not_swept_by_policies(tmp_path: Path, more: dict[str, object], said: str) -> None:
     with pytest.raises(Refusal) as it:
         caladan.sweep(table_of(tmp_path), policies=["caladan"], turns=9, **more)  # type: ignore[call-overload]

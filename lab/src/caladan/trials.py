@@ -110,6 +110,8 @@ class Trials:
 def with_batch(machine: Machine, load: Load, options: Mapping[str, Option]) -> dict[str, Option]:
     """The options where they name no task: the first latency-critical task has the loads, and each best-effort task
     more work than it can do."""
+    if load is None and options.get("offered") is None:
+        raise Refusal("loads: none is given")
     critical = next((n for n, it in enumerate(machine.tasks) if it.kind == "lc"), None)
     if "task" in options or "offered" in options or critical is None:
         return {"load": load_word(load) if not options.get("task") else options.get("load", load_word(load)), **options}
