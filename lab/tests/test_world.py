@@ -134,8 +134,8 @@ def test_the_assured_policy_decides_as_in_its_worked_examples(folder: Path) -> N
     has_decided(table, signals, (folder / "output").read_text())
 
 
-# Of seed 13: a ban stays where as many cores are open as are lacking. Of seed 116: a core is revoked for a ban by core 1,
-# which is none for task 1.
+# Of seed 13: a ban stays where as many cores are open as are lacking. Of seed 116: a core is revoked for a ban by core
+# 1, which is no act for task 1.
 @pytest.mark.parametrize("seed", [*range(10), 13, 116])
 def test_the_assured_policy_decides_on_made_signals_as_a_model_does(seed: int) -> None:
     """Of threads that do what they like, which no run has."""
