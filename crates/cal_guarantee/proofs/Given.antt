@@ -1,5 +1,6 @@
 -- A guarantee is given: a task that waits through the passes needs a core in each of them.
 use Rattle.cal_guarantee.proofs.Common.{◌≡◌, ℕ, ◌+◌, ◌-◌, ◌<◌, ◌≤◌, Bool, true, false, ◌&&◌, cond, eqb, ltb, List, [], ◌∷◌, Option, Some, None, slice_get, refl, ap, ◌∙◌, subst, arith, ⊎_elim, zero, suc, cases_lt, and_parts, eqb-true, ltb-true, is_some, Table, owner_of, thread_of, limit_of, Action, Free, Unban, Ban, Revoke, Cap, Grant, PassEntry, Candidate, Setting, so_far, thread_choice, thread_rank, may_book, best_ranked, pressing, surplus, waits, waits_short, spare, needs, bounded_of, pass_of, IsGiven, GuaranteesAreGiven, sum_by-cons, WaitsFromTo, FirstAndLastAreEnough, grants_to, granted_to, granted_before, NeedsFromTo}
+use Rattle.cal_assured.specs.Guarantee.{WaitsThrough}
 use Rattle.cal_guarantee.proofs.Sums.{count_some}
 use Rattle.cal_guarantee.proofs.Counts.{lacks_short, short_parts}
 use Rattle.cal_guarantee.proofs.Own.{waits_parts}
@@ -119,8 +120,8 @@ enough_given table history t d p w =
     given_in table history t d p w (d + 1) (omega arith) (subst P same whole)
 
 -- and so is one that waits as is asked of every pass
-pub given_to_waiting : GuaranteesAreGiven
-given_to_waiting table history t d p w = enough_given table history t d p (record {
+pub waits_from_to : (table : Table) (history : List PassEntry) (t d p : ℕ) → WaitsThrough table history t d p → WaitsFromTo table history t d p
+waits_from_to table history t d p w = record {
   accepted = w.accepted;
   legal = w.legal;
   own = w.own;
@@ -129,4 +130,7 @@ given_to_waiting table history t d p w = enough_given table history t d p (recor
   waiting = λ q entry from to e. (w.each q entry from to e).waiting;
   rooms = λ entry e. (w.each p entry (omega arith) (omega arith) e).rooms;
   left = λ entry e. (w.each (p + d) entry (omega arith) (omega arith) e).left;
-})
+}
+
+pub given_to_waiting : GuaranteesAreGiven
+given_to_waiting table history t d p w = enough_given table history t d p (waits_from_to table history t d p w)

@@ -2,7 +2,7 @@
 
 ghost use Rattle.cal_assured.specs.Guarantee.{GuaranteesAreGiven};
 ghost use Rattle.cal_guarantee.specs.Enough.{FirstAndLastAreEnough};
-ghost use Rattle.cal_guarantee.specs.Example.{TheBoundIsReached};
+ghost use Rattle.cal_guarantee.specs.Example.{TheBoundIsReached, TheWholeBoundIsReached};
 ghost use Rattle.cal_guarantee.specs.Honest.{HonestWaitsStay};
 ghost use Rattle.cal_guarantee.specs.WholeGuarantee.{GuaranteesAreGivenWhole};
 
@@ -40,8 +40,14 @@ pub fn honest_waits_stay()
 {}
 
 /// The guarantee's premises can be met, and its bound is exact. In a run of four passes on two cores
-/// a task waits through the last two, with `d` of 1: the first of them revokes a core for it, and
-/// the second grants it one.
+/// a task waits through the last two, with `d` of 1: the first of them revokes both cores for it, and
+/// the second grants it them.
 pub fn the_bound_is_reached()
     ensures { TheBoundIsReached }
+{}
+
+/// The same of the whole guarantee: in this run the task needs two cores, and is granted both by the
+/// last pass, and none before it.
+pub fn the_whole_bound_is_reached()
+    ensures { TheWholeBoundIsReached }
 {}
