@@ -10,8 +10,8 @@ AS_BEFORE = {"sweep": ("--rules", "4"), "compare": ("--window", "whole")}
 TEXTS = {"a task, p50, p90, p95, p99, p99.9 or max, and ticks": "a task, p50, p90, p99, p99.9 or max, and ticks",
          "--load <LOAD> --scale <TIMES> [FILE]": "--load <LOAD> --names <NAME,..> [FILE]",
          "  tip: a similar argument exists: '--scale'\n": "  tip: a similar argument exists: '--names'\n"}
-# How a line begins that stands below more refusals than before.
-TIP = "  did you mean "
+# How lines begin that stand below more refusals than before.
+MORE = ("  did you mean ", "  --names kv,batch says what the tasks are called, ")
 
 
 def asked_as_before(case: Case, kept: Answer) -> Case:
@@ -25,8 +25,9 @@ def asked_as_before(case: Case, kept: Answer) -> Case:
 def said_as_before(answer: Answer, kept: Answer) -> Answer:
     """The answer without what is said more now than in the kept one, and with the texts that were."""
     said = answer.said
-    if TIP not in kept.said:
-        said = "\n".join(line for line in said.split("\n") if not line.startswith(TIP))
+    for more in MORE:
+        if more not in kept.said:
+            said = "\n".join(line for line in said.split("\n") if not line.startswith(more))
     for now, then in TEXTS.items():
         said = said.replace(now, then)
     return dataclasses.replace(answer, said=said)
