@@ -40,7 +40,7 @@ RUN_OF_LOADS = (
     option("pattern", "PATTERN", "poisson, even or bursts:N", many=True, default="poisson"),
     option("misses", "N", "Cache misses that a turn of a request adds", many=True, default="0", hidden=True),
     option("turns", "N", "Turns of each thread, 1 to 174762", default="1000", number=Number(1, MOST_TURNS)),
-    option("ticks", "N", "Ticks of a turn, 1 to 1000000000", default="10", number=Number(1, MOST_TICKS), hidden=True),
+    option("ticks", "N", "Ticks of a turn, 1 to 1000000000", default="10", number=Number(1, MOST_TICKS)),
     number("seed", "SEED", "The seed of the random numbers", default="1"),
 )
 
@@ -65,7 +65,7 @@ SWEEP = Command(
      option("load", "LOAD", "Rising loads, such as 0.1,0.3,..,0.9", many=True,
             unless="offered rate log"),
      option("offered", "CORES", "The same in cores, whatever its limit, such as 1.5", many=True),
-     option("rate", "PER_SECOND", "The same in requests a second, such as 80000,100000", many=True),
+     option("rate", "PER_SECOND", "The same in requests a second, such as 80000,100000", many=True, hidden=True),
      *RUN_OF_LOADS, BY_EACH, *in_long_help(PLAN), VARY,
      option("slo", "OBJECTIVE", "What the last load must keep, such as task.0.p99=65", many=True),
      option("from", "TURN", "The first turn of the window [default: a tenth in]", hidden=True),
