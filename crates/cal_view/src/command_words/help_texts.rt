@@ -54,7 +54,8 @@ docs/VIEWER.md, \"Runs like a machine\".
 With --replay the passes are those of HISTORY, the rows of a history alone: each
 action must be one that the guard permits, and each look what the threads of the
 run published. The run is then that of the history, whoever decided it.
-Exit status: 0 done, 2 rejected input or history, 3 memory or output was refused.",
+Exit status: 0 done, 2 rejected input or history, 3 memory or output was
+refused.",
     "caladan_view run",
     "\
 caladan-arrivals,1
