@@ -17,6 +17,7 @@ typedef struct options {
     uint32_t under;  /* the tasks that stand under, a bit each */
     uint32_t policy; /* by which passes are made, CALADAN_POLICY_.. */
     uint64_t seconds, gap, window, passes, bytes, patience, wait; /* times in nanoseconds, but for seconds */
+    bool each;       /* idle passes are recorded too */
 } options;
 
 enum { HOST_GUESTS = 8 };
@@ -126,7 +127,8 @@ typedef struct host_thread {
 typedef struct strays strays; /* strays.c */
 
 typedef struct counts {
-    uint64_t passes, pieces, attached, ended, given_up, killed, written_off, refused, dumped;
+    uint64_t passes, left_out; /* of them from the record, since they were idle */
+    uint64_t pieces, attached, ended, given_up, killed, written_off, refused, dumped;
     uint64_t foreign_tids, unpinned, slow_pins, strayed, jumped, outran, worn;
     uint64_t displaced; /* the scheduler itself */
     uint64_t put_back; /* threads and children of processes that were pinned without a core: strays.c */
@@ -173,7 +175,7 @@ typedef struct scheduler {
     uint64_t strays_told, strays_told_at; /* how many it has told of, and when */
     /* of each kernel thread of a task, the thread that was pinned; 0: none */
     _Atomic int32_t seated[HOST_TASKS][HOST_LIMIT];
-    uint64_t passes; /* of this piece */
+    uint64_t passes; /* that are recorded of this piece */
     uint64_t passed_at, metrics_at;
     latency latency;
     counts counts;

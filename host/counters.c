@@ -14,8 +14,8 @@ static const char *const judgements[] = {"",        "kept",      "busy",       "
 
 void print_summary(scheduler *s) {
     const counts *c = &s->counts;
-    printf("passes %" PRIu64 " in %" PRIu64 " pieces, one each %" PRIu64 " ns\nlooks:", c->passes, c->pieces,
-           now_of(s) / (c->passes + !c->passes));
+    printf("passes %" PRIu64 " in %" PRIu64 " pieces, one each %" PRIu64 " ns, left out of the record %" PRIu64
+           "\nlooks:", c->passes, c->pieces, now_of(s) / (c->passes + !c->passes), c->left_out);
     for (int j = CALADAN_KEPT; j <= CALADAN_WORD_FELL; j++)
         printf("%s %s %" PRIu64, j > 1 ? "," : "", judgements[j], c->judged[j]);
     printf(", place too far %" PRIu64 ", misses too many %" PRIu64 "\nactions:", c->jumped, c->outran);
@@ -60,6 +60,7 @@ static void put_counts(FILE *out, const counts *c) {
         const char *name;
         uint64_t value;
     } each[] = {{"passes_total", c->passes},
+                {"passes_left_out_total", c->left_out},
                 {"pieces_total", c->pieces},
                 {"attached_total", c->attached},
                 {"ended_total", c->ended},

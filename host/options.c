@@ -30,7 +30,8 @@ static const char USAGE[] =
     "              without it, it is left alone\n"
     "  -w NS       take a bandwidth figure in bytes a microsecond, over so long, from the misses shown\n"
     "  -r FOLDER   write the record there, in pieces, in a new folder of this run (needs -k)\n"
-    "  -p PASSES   the most of a piece, 1 to 1000000; without it, 1000000\n"
+    "  -e          record each pass; without it, idle ones are left out\n"
+    "  -p PASSES   the most that are recorded of a piece, 1 to 1000000; without it, 1000000\n"
     "  -b BYTES    about the most of a piece, 1 to 60000000; without it, 60000000\n"
     "  --policy NAME\n"
     "              the policy by which passes are made: caladan, which is the default, or assured\n"
@@ -93,6 +94,7 @@ static void read_option(options *o, int option) {
     case 'k': o->patience = number(optarg, LEAST_PATIENCE, MOST_PATIENCE) * MILLISECOND; break;
     case 'w': o->window = number(optarg, 1, 1000000000); break;
     case 'r': o->folder = optarg; break;
+    case 'e': o->each = true; break;
     case 'p': o->passes = number(optarg, 1, 1000000); break;
     case 'b': o->bytes = number(optarg, 1, 60000000); break;
     case POLICY: o->policy = policy_named(optarg); break;
@@ -108,7 +110,7 @@ options read_options(int count, char **words) {
                                            {"version", no_argument, NULL, 'V'},
                                            {0}};
     options o = {.own = -1, .mover = -1, .passes = 1000000, .bytes = 60000000};
-    static const char letters[] = "n:t:c:o:m:u:s:g:y:k:w:r:p:b:hV";
+    static const char letters[] = "n:t:c:o:m:u:s:g:y:k:w:r:ep:b:hV";
     for (int c; (c = getopt_long(count, words, letters, longer, NULL)) != -1;) read_option(&o, c);
     if (optind != count) fail(words[optind], "it is no option");
     if (o.name == NULL || o.table == NULL || o.cpus == 0)

@@ -184,6 +184,36 @@ static void wait_for_answer(scheduler *s, host_thread *thread, uint64_t until) {
     seat->is_unacked = false;
 }
 
+/* ---- recording ---- */
+
+static bool shows_what_was_kept(const scheduler *s, size_t k) {
+    const caladan_look *look = &s->look[k], *last = &s->shown[k].shown;
+    uint64_t words[CALADAN_WORDS], kept[CALADAN_WORDS];
+    caladan_look_words(look, words);
+    caladan_look_words(last, kept);
+    return look->number == last->number && memcmp(words, kept, sizeof words) == 0;
+}
+
+/* Nothing was done, and each look found no record, or the one that was kept before this pass: a history says the same
+ * with such a pass and without it (crates/cal_idle). To be asked before the looks are noted. */
+static bool is_idle(const scheduler *s) {
+    if (s->made != 0) return false;
+    for (size_t k = 0; k < s->machine.threads; k++)
+        if (s->judged[k] == CALADAN_KEPT && !shows_what_was_kept(s, k)) return false;
+    return true;
+}
+
+static void record_pass(scheduler *s, uint64_t now, uint64_t figure, bool was_idle) {
+    bool is_left_out = was_idle && !s->options.each;
+    s->counts.left_out += s->record && is_left_out;
+    if (s->record == NULL || is_left_out) return;
+    caladan_history_pass(record_file(s->record), true, now, figure, s->look, s->judged, s->machine.threads, s->action,
+                         s->made);
+    s->passes++;
+}
+
+/* ---- a pass ---- */
+
 static void note_gap(scheduler *s, uint64_t now) {
     uint64_t gap = s->passed_at ? now - s->passed_at : 0;
     if (gap > s->counts.longest_gap) s->counts.longest_gap = gap;
@@ -200,12 +230,11 @@ void make_pass(scheduler *s) {
     if (answer != CALADAN_DONE) fail("a pass", caladan_answer_text(answer));
     account_time(s, now);
     move_cores(s, now);
+    bool was_idle = is_idle(s);
     note_judged(s);
     latency_decided(&s->latency, now, s->shown, count, s->action, s->made);
     latency_looked(&s->latency, now, s->shown, count);
-    if (s->record)
-        caladan_history_pass(record_file(s->record), true, now, figure, s->look, s->judged, count, s->action, s->made);
-    s->passes++;
+    record_pass(s, now, figure, was_idle);
     s->counts.passes++;
     if (s->options.wait == 0) return;
     for (size_t i = 0; i < s->sent; i++) wait_for_answer(s, &s->thread[s->sent_to[i]], now + s->options.wait);

@@ -86,7 +86,7 @@ endless_request() { # by caladan it has the core beside its own banned, also one
 
 visitors() { # to connect is not to attach, and to close is to leave
     what="who connects and closes"
-    begin -k 2000 -g 100000 -p 5000
+    begin -k 2000 -g 100000 -e -p 5000
     go $life "$bin/misbehave" "$name" 1 $life visits
     wait_for 20 only_child_of $last && visitor=$child
     sleep 0.3

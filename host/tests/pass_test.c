@@ -1,7 +1,8 @@
-/* pass_test.c: which threads a pass may send a command, by a clock and a library of the test's own. A thread that has
- * just left its core is granted nothing until it can sleep, since to pin it before would take as long; nor is one that
- * is to be tried again later, or at which nobody looks. One with a core may be told to leave in any case. The only call
- * of the library that a pass makes is the pass: there is no other here. */
+/* pass_test.c: which threads a pass may send a command, and which passes are recorded, by a clock and a library of the
+ * test's own. A thread that has just left its core is granted nothing until it can sleep, since to pin it before would
+ * take as long; nor is one that is to be tried again later, or at which nobody looks. One with a core may be told to
+ * leave in any case. Not recorded is a pass that does nothing, and finds no record, or the one that was kept. The only
+ * call of the library that a pass makes is the pass: there is no other here. */
 #define _GNU_SOURCE
 #include <stdio.h>
 #include <stdlib.h>
@@ -21,12 +22,13 @@ static scheduler s;
 static host_segment segment;
 static bool had_room;          /* the thread's ring, in the last pass */
 static caladan_action planned; /* what the next pass does; of kind 0 nothing */
+static uint8_t judgement = CALADAN_KEPT; /* of each look */
 
 uint8_t caladan_pass_each(caladan *handle, uint64_t now, uint64_t figure, const caladan_look *looks, size_t count,
                           uint8_t *judged, size_t judged_room, caladan_action *actions, size_t room, size_t *made) {
     (void)handle, (void)now, (void)figure, (void)count, (void)judged_room, (void)room;
     had_room = looks[0].room;
-    judged[0] = CALADAN_KEPT;
+    judged[0] = judgement;
     actions[0] = planned;
     *made = planned.kind != 0;
     planned.kind = 0;
@@ -56,7 +58,10 @@ void latency_decided(latency *l, uint64_t now, const latency_thread *threads, si
 void latency_looked(latency *l, uint64_t now, const latency_thread *threads, size_t count) {
     (void)l, (void)now, (void)threads, (void)count;
 }
-FILE *record_file(record *r) { (void)r; return stdout; }
+static FILE *recorded; /* in memory */
+static char *text;
+static size_t length;
+FILE *record_file(record *r) { (void)r; return recorded; }
 
 static int failed;
 static void check(bool is, const char *why) {
@@ -114,8 +119,52 @@ static void check_others(void) {
     check(!may_be_sent_after(1000), "one of a process that is not attached is granted a core");
 }
 
+/* ---- what is recorded ---- */
+
+/* Whether the next pass is, and how many are counted. */
+static bool is_recorded(void) {
+    size_t before = length;
+    uint64_t counted = s.passes;
+    make_pass(&s);
+    fflush(recorded);
+    check(s.passes - counted == (length > before), "a pass is recorded and not counted, or counted and not recorded");
+    return length > before;
+}
+
+static void check_recorded(void) {
+    uint64_t words[CALADAN_WORDS] = {0};
+    caladan_publisher publisher = {&segment.slot[0].page, 0};
+    begin();
+    s.record = (record *)&s; /* which is not looked into */
+    check(!is_recorded(), "a pass that finds the record of an empty page is recorded");
+    words[QUEUED] = 1;
+    caladan_publish(&publisher, words);
+    check(is_recorded(), "a pass that keeps a new record is not recorded");
+    check(!is_recorded(), "a pass that finds the same record once more is recorded");
+    caladan_publish(&publisher, words);
+    check(is_recorded(), "a pass that keeps the same words at a new place is not recorded");
+    planned = (caladan_action){.kind = CALADAN_CAP};
+    check(is_recorded(), "a pass that does something is not recorded");
+    caladan_publish_begin(&publisher);
+    judgement = CALADAN_BUSY;
+    check(!is_recorded(), "a pass that finds a busy page is recorded");
+    words[QUEUED] = 2;
+    caladan_publish_end(&publisher, words);
+    judgement = CALADAN_AHEAD;
+    check(!is_recorded(), "a pass whose look was refused is recorded");
+    judgement = CALADAN_KEPT;
+    check(is_recorded(), "a pass that keeps what was refused before is not recorded");
+    s.options.each = true;
+    check(is_recorded(), "an idle pass is not recorded, though each is to be");
+    s.options.each = false;
+    s.record = NULL;
+    check(!is_recorded(), "a pass without a record is recorded");
+}
+
 int main(void) {
+    recorded = open_memstream(&text, &length);
     check_left();
     check_others();
+    check_recorded();
     return failed;
 }

@@ -41,7 +41,7 @@ on_disk() { # a file is called whole only when it is on the disk with all that i
     what="the disk of a whole piece"
     command -v strace > /dev/null || { skip "$what, for want of strace"; return; }
     wrap=(strace -f -qq -y -o "$build/calls" -e trace=fsync,rename,renameat,renameat2)
-    begin -k 1000 -g 100000 -p 1000
+    begin -k 1000 -g 100000 -e -p 1000
     wrap=()
     wait_for 60 has_pieces 2; timed $? "$what: there are no two pieces: $(cat "$build/said")"
     only_child_of $scheduler && only_child_of "$child" && kill -TERM "$child"
@@ -101,12 +101,34 @@ set_back() { # the wall clock goes back by an hour, and the record is written on
     local bin=$build/plain # what is preloaded must not come before a sanitizer
     what="a record while the wall clock is set back"
     wrap=(env LD_PRELOAD="$bin/later.so")
-    begin -k 1000 -g 100000
+    begin -k 1000 -g 100000 -e
     wrap=()
     wait_for 5 has_passes 5000; timed $? "$what: it has $(grep -c '^pass,' "$record/piece-000001.part") passes"
     end
 }
 has_passes() { [ "$(grep -cs '^pass,' "$record/piece-000001.part")" -ge "$1" ] 2> /dev/null; } # in its file, of the first piece
+
+idle_passes() { # they are left out, and counted; what is left is a legal history; with -e they are written too
+    local written left
+    what="a record without idle passes"
+    begin -k 1000 -g 20000
+    wait_for 20 counts passes_total 5000; timed $? "$what: it has $(metric passes_total) passes"
+    counts passes_left_out_total 4000; note $? "$what: of $(metric passes_total) without anybody $(metric passes_left_out_total) are left out"
+    go $life "$bin/load" be -n "$name" -u 1 -k 200 -s $life
+    serves 1
+    end $last
+    above 1 grant
+    written=$(cat "$record"/*.history | grep -c '^pass,') left=$(said "left out of the record")
+    [ $((written + ${left:-0})) = "$(said passes)" ] && [ "${left:-0}" -gt 4000 ]; note $? "$what: $written are written: $(head -n 1 "$build/said")"
+    what="a record with idle passes too"
+    begin -k 1000 -g 100000 -e -s 1
+    wait $scheduler; note $? "$what: $(cat "$build/said")"
+    are_legal
+    exactly 0 "left out of the record"
+    written=$(cat "$record"/*.history | grep -c '^pass,')
+    [ "$written" = "$(said passes)" ]; note $? "$what: $written are written: $(head -n 1 "$build/said")"
+    no_reports
+}
 
 killed_midway() { # what was recorded up to the last second is there
     local part passes

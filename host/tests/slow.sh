@@ -13,7 +13,7 @@ slow_record() { # a disk that cannot follow ends the record, and no pass waits f
     local ends_with=3
     what="a record on a disk that takes one and a half seconds for each call"
     can_sleep "$build/record" 1500 || return
-    begin -k 2000 -g 100000 -p 3000
+    begin -k 2000 -g 100000 -e -p 3000
     wrap=()
     wait_for 20 counts passes_total 1; timed $? "$what: there are no passes"
     go $life "$bin/load" be -n "$name" -u 1 -k 200 -s $life
@@ -34,7 +34,7 @@ whole_pieces() { # what was whole when the disk could not follow is still writte
     local each last ends_with=3
     what="whole pieces of a record whose disk cannot follow"
     can_sleep "$build/record" 400 || return
-    begin -k 2000 -g 20000 -p 100
+    begin -k 2000 -g 20000 -e -p 100
     wrap=()
     wait_for 20 grep -q "the disk is too slow for it" "$build/said"; timed $? "$what: it could: $(cat "$build/said")"
     last=$(grep -oE "piece-[0-9]+: the disk is too slow" "$build/said" | grep -oE "[1-9][0-9]*") # it could not begin any more
@@ -47,7 +47,7 @@ whole_pieces() { # what was whole when the disk could not follow is still writte
 slow_but_follows() { # the next piece begins while the last one is written, and each is whole
     what="a record on a disk that takes a third of a second for each call"
     can_sleep "$build/record" 350 || return
-    begin -k 2000 -g 400000 -p 7500
+    begin -k 2000 -g 400000 -e -p 7500
     wrap=()
     go $life "$bin/load" be -n "$name" -u 1 -k 200 -s $life
     wait_for 60 has_pieces 2; timed $? "$what: there are no two pieces: $(cat "$build/said")"
@@ -66,7 +66,7 @@ slow_counters() { # they are read, and written to a disk that sleeps, and passes
     local reader
     what="counters on a disk that takes six tenths of a second for each call"
     can_sleep "$CALADAN_FOLDER" 600 || return
-    begin -k 2000 -g 200000
+    begin -k 2000 -g 200000 -e
     wrap=()
     while :; do cat "$CALADAN_FOLDER/$name/metrics"; done > /dev/null 2>&1 &
     reader=$!

@@ -1,0 +1,5 @@
+use Rattle.cal_idle.proofs.AssuredPass.{by_what_is_left}
+use Rattle.cal_idle.proofs.assured.assured_goes_by_what_is_left.Goals as goal
+
+pub returns : goal.returns
+returns c = by_what_is_left

@@ -1,0 +1,4 @@
+pub mod Idle
+pub mod LeftOut
+pub mod AtSight
+pub mod Earlier
