@@ -108,7 +108,7 @@ task_delay_same w t = λ i. greatest_below (λ j. delay_same w (thread_of w.tabl
 congested_same : (w : Pair) (t : ℕ) → is_congested (first w) t ≡ is_congested (second w) t
 congested_same w t = ap (nat_lt (delay_of w.table t)) (task_delay_same w t)
 
-thread_rank_same : (w : Pair) (x : List Action) (k : ℕ) → thread_rank (first w) x k ≡ thread_rank (second w) x k
+pub thread_rank_same : (w : Pair) (x : List Action) (k : ℕ) → thread_rank (first w) x k ≡ thread_rank (second w) x k
 thread_rank_same w x k = λ i. cond (eqb (cores_of_thread w.table x k) 0 && has_room (first w) k) (Some (delay_same w k i)) None
 
 pub choice_same : (w : Pair) (x : List Action) (t : ℕ) → thread_choice (first w) x t ≡ thread_choice (second w) x t
