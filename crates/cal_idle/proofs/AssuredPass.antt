@@ -1,5 +1,5 @@
 -- A pass of the second policy goes by what the passes before left. Nothing else here is of it.
-use Rattle.std.proofs.Common.{◌≡◌, ℕ, ◌+◌, ◌&&◌, ◌||◌, Bool, true, false, not, cond, eqb, nat_lt, nat_le, min, drop, List, [], ◌∷◌, ◌++◌, length, Option, Some, None, refl, ap, ◌∙◌}
+use Rattle.std.proofs.Common.{◌≡◌, ℕ, ◌+◌, ◌&&◌, ◌||◌, Bool, true, false, not, cond, eqb, nat_lt, nat_le, min, drop, List, [], ◌∷◌, length, Option, Some, None, refl, ap, ◌∙◌}
 use Rattle.std.specs.Option.{is_some, option_or}
 use Rattle.cal_machine.specs.Machine.{sibling_of}
 use Rattle.cal_machine.specs.TableTasks.{owner_of, thread_of, limit_of, delay_of, is_latency_critical}
@@ -8,19 +8,17 @@ use Rattle.cal_policy.specs.declared.board.holders.Holder.{Holder}
 use Rattle.cal_policy.specs.declared.board.holders.Holder.TheVariants as holders
 use Rattle.cal_policy.specs.declared.history.action.Action.{Action}
 use Rattle.cal_policy.specs.declared.history.action.Action.TheVariants.{Unban}
-use Rattle.cal_policy.specs.declared.history.core_class.CoreClass.{CoreClass}
-use Rattle.cal_policy.specs.declared.pass.choice.Candidate.{Candidate}
 use Rattle.cal_policy.specs.declared.policy.Policy.TheVariants.{Assured}
 use Rattle.cal_policy.specs.History.{holder_of, ban_of, last_thread}
 use Rattle.cal_policy.specs.History.CoreClasses.{comes_before}
 use Rattle.cal_policy.specs.History.Lists.{in_turn}
 use Rattle.cal_policy.specs.Board.Counts.{is_free, held_by}
 use Rattle.cal_policy.specs.Pass.Bandwidth.{bandwidth_part}
-use Rattle.cal_policy.specs.Pass.Bans.{still_shows, ban_due, ban_for}
+use Rattle.cal_policy.specs.Pass.Bans.{still_shows, ban_for}
 use Rattle.cal_policy.specs.Pass.Choice.{count_below, sum_below, best_below, lowest_below}
 use Rattle.cal_policy.specs.Pass.Frees.{frees}
-use Rattle.cal_policy.specs.Pass.Grants.{task_delay, thread_choice, may_book, idle_class, preempt_class, is_granted_in, grant_of}
-use Rattle.cal_policy.specs.Setting.{Setting, so_far, is_held_with_room}
+use Rattle.cal_policy.specs.Pass.Grants.{thread_choice, may_book, idle_class, preempt_class, is_granted_in, grant_of}
+use Rattle.cal_policy.specs.Setting.{so_far, is_held_with_room}
 use Rattle.cal_policy.specs.Assured.Acted.{has_acted}
 use Rattle.cal_policy.specs.Assured.Grants.{act_of, act_in_place, turn_in_place, grants}
 use Rattle.cal_policy.specs.Assured.Hyperthreads.{unban_for, unban_at, unbans, due_for, bans_at, bans}
@@ -29,7 +27,7 @@ use Rattle.cal_policy.specs.Assured.Order.{group_of, is_later, is_rather, goes_b
 use Rattle.cal_policy.specs.Assured.Owed.{owed_to, is_task, owed_below}
 use Rattle.cal_policy.specs.Assured.Pass.{pass_of}
 use Rattle.cal_policy.specs.Assured.Short.{is_short, lacks, lacking, needs, is_open, open_cores, surplus, waits, waits_short, some_waits_short, are_lacked, are_wanted}
-use Rattle.cal_policy.specs.Assured.Taking.{is_kept_for, is_kept_for_short, is_kept, may_take, open_class, owed_class, open_choice, held_class, held_choice, fewer_come, may_take_from, more_press, may_preempt, choice_for}
+use Rattle.cal_policy.specs.Assured.Taking.{is_kept_for, is_kept_for_short, is_kept, open_class, open_choice, held_class, held_choice, fewer_come, may_take_from, more_press, may_preempt, choice_for}
 use Rattle.cal_idle.proofs.Pair.{Pair, first, second, so_far_same, kept_same, part_same}
 use Rattle.cal_idle.proofs.CaladanPass.{frees_same, due_same, ban_for_same, bandwidth_same, delay_same, task_delay_same, thread_rank_same, choice_same, grant_of_same}
 use Rattle.cal_idle.specs.Idle.{GoesByWhatIsLeft}

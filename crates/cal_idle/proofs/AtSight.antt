@@ -14,7 +14,7 @@ use Rattle.cal_signal.specs.Shown.{nothing_shown}
 use Rattle.cal_policy.specs.Judgement.Settled.{seen_again}
 use Rattle.cal_policy.proofs.HistoryLemmas.OneMore.{kept_push, shown_push}
 use Rattle.cal_idle.proofs.Leaving.{looks_push}
-use Rattle.cal_idle.specs.Idle.{TellsNothingNew, IsIdle}
+use Rattle.cal_idle.specs.Idle.{TellsNothingNew}
 use Rattle.cal_idle.specs.AtSight.{SameLooksAreIdle, IsTaken, AreAllTaken, RecordsOnceMoreAreIdle}
 
 -- ---- the looks of the pass before ----

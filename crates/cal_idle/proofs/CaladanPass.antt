@@ -1,5 +1,5 @@
 -- A pass of Caladan's policy goes by what the passes before left.
-use Rattle.std.proofs.Common.{◌≡◌, ℕ, ◌-◌, ◌&&◌, Bool, not, cond, eqb, nat_lt, List, [], ◌∷◌, ◌++◌, length, Option, Some, None, refl, ap, ◌∙◌}
+use Rattle.std.proofs.Common.{◌≡◌, ℕ, ◌-◌, ◌&&◌, not, cond, eqb, nat_lt, List, [], ◌∷◌, length, Option, Some, None, refl, ap, ◌∙◌}
 use Rattle.std.specs.Option.{is_some}
 use Rattle.cal_machine.specs.declared.task.Kind.{Kind}
 use Rattle.cal_machine.specs.declared.task.Kind.TheVariants as kinds
@@ -18,13 +18,13 @@ use Rattle.cal_policy.specs.History.{holder_of, ban_of, is_banned, last_thread}
 use Rattle.cal_policy.specs.History.CoreClasses.{comes_before}
 use Rattle.cal_policy.specs.History.Lists.{in_turn}
 use Rattle.cal_policy.specs.Board.Counts.{is_held, cores_of_thread}
-use Rattle.cal_policy.specs.Pass.{pass_of, followed}
+use Rattle.cal_policy.specs.Pass.{pass_of}
 use Rattle.cal_policy.specs.Pass.Bandwidth.{core_to_lose, task_misses, victim_rank, victim_of, cut_of, rise_of, is_capped, bandwidth_after, bandwidth_part}
 use Rattle.cal_policy.specs.Pass.Bans.{still_shows, unban_for, unban_at, unbans, runs_too_long, too_long_on, may_ban_beside, ban_due, ban_for, bans_at, bans}
 use Rattle.cal_policy.specs.Pass.Choice.{count_below, sum_below, greatest_below, best_below, lowest_below}
 use Rattle.cal_policy.specs.Pass.Frees.{shows_left, free_at, frees}
 use Rattle.cal_policy.specs.Pass.Grants.{record_delay, thread_delay, task_delay, is_congested, may_book, thread_rank, thread_choice, leaves_for, is_granted_in, idle_class, preempt_class, class_by, class_of, choice_of, grant_of, grant_at, grant_of_kind_at, grants_of_kind}
-use Rattle.cal_policy.specs.Setting.{Setting, so_far, has_room, is_held_with_room}
+use Rattle.cal_policy.specs.Setting.{so_far, has_room, is_held_with_room}
 use Rattle.cal_idle.proofs.Pair.{Pair, first, second, so_far_same, kept_same, before_same, part_same}
 use Rattle.cal_idle.specs.Idle.{GoesByWhatIsLeft}
 

@@ -1,5 +1,5 @@
 -- Histories that leave the same go on alike, by each policy.
-use Rattle.std.proofs.Common.{◌≡◌, ℕ, ◌<◌, ◌≤◌, ◌↔◌, List, [], ◌∷◌, ◌++◌, length, take, Some, refl, sym, ap, ◌∙◌, arith, subst, append_assoc, append-nil, length-append, slice_get}
+use Rattle.std.proofs.Common.{◌≡◌, ◌≤◌, ◌↔◌, List, [], ◌∷◌, ◌++◌, length, Some, refl, sym, ap, ◌∙◌, arith, subst, append_assoc, append-nil, length-append, slice_get}
 use Rattle.std.proofs.Math.Seq.{take-append_seam}
 use Rattle.cal_machine.specs.Table.{Table}
 use Rattle.cal_policy.specs.declared.history.action.Action.{Action}
@@ -7,11 +7,9 @@ use Rattle.cal_policy.specs.declared.history.entry.PassEntry.{PassEntry}
 use Rattle.cal_policy.specs.declared.history.input.Input.{Input}
 use Rattle.cal_policy.specs.declared.policy.Policy.{Policy}
 use Rattle.cal_policy.specs.declared.policy.Policy.TheVariants.{Caladan, Assured}
-use Rattle.cal_policy.specs.declared.history.look.Seen.{Seen}
-use Rattle.cal_policy.specs.History.{actions_of, looks_of}
-use Rattle.cal_policy.specs.History.Looks.{look_of, last_shown}
+use Rattle.cal_policy.specs.History.Looks.{look_of}
 use Rattle.cal_policy.specs.Judgement.Judging.{IsInput, IsFitLook, judged}
-use Rattle.cal_policy.specs.Policies.{pass_by, IsPassBy, IsLegalBy}
+use Rattle.cal_policy.specs.Policies.{IsPassBy, IsLegalBy}
 use Rattle.cal_policy.proofs.PolicyLemmas.{pass_input, pass_actions, pass_from, pass_at_by, legal_upto_by, legal_more_by}
 use Rattle.cal_idle.proofs.Leaving.{same_push, same_back, idle_leaves}
 use Rattle.cal_idle.specs.Idle.{IsIdle, LeaveTheSame, GoesByWhatIsLeft, IdlePassesChangeNothing}

@@ -1,17 +1,13 @@
 -- Histories that leave the same.
-use Rattle.std.proofs.Common.{◌≡◌, ℕ, List, [], ◌∷◌, ◌++◌, Option, Some, None, map, refl, sym, ap, ◌∙◌, append_assoc, append-nil, subst, slice_get}
+use Rattle.std.proofs.Common.{◌≡◌, ℕ, List, [], ◌∷◌, ◌++◌, Option, Some, None, refl, sym, ap, ◌∙◌, append_assoc, append-nil, subst, slice_get}
 use Rattle.std.proofs.lemmas.List.{map-append}
 use Rattle.std.proofs.lemmas.Grind.{flat_map-append}
 use Rattle.std.specs.Option.{IfSome, unwrap_or, option_and_then}
-use Rattle.cal_signal.specs.declared.record.Record.{Record}
-use Rattle.cal_signal.specs.declared.shown.Shown.{Shown}
-use Rattle.cal_policy.specs.declared.history.action.Action.{Action}
 use Rattle.cal_policy.specs.declared.history.entry.PassEntry.{PassEntry}
-use Rattle.cal_policy.specs.declared.history.look.Seen.{Seen}
 use Rattle.cal_policy.specs.History.{actions_of, looks_of}
 use Rattle.cal_policy.specs.History.Looks.{kept_by, last_shown, record_to_keep, shown_by, shown_at, to_keep_at}
 use Rattle.cal_policy.proofs.HistoryLemmas.OneMore.{kept_push, shown_push}
-use Rattle.cal_idle.specs.Idle.{TellsNothingNew, IsIdle, LeaveTheSame, IdlePassesLeaveTheSame}
+use Rattle.cal_idle.specs.Idle.{IsIdle, LeaveTheSame, IdlePassesLeaveTheSame}
 
 pub actions_append : (one two : List PassEntry) → actions_of (one ++ two) ≡ actions_of one ++ actions_of two
 actions_append one two = flat_map-append (λ (entry : PassEntry). entry.actions) one two

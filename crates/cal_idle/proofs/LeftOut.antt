@@ -5,7 +5,7 @@ use Rattle.cal_policy.specs.declared.history.entry.PassEntry.{PassEntry}
 use Rattle.cal_policy.specs.declared.policy.Policy.{Policy}
 use Rattle.cal_policy.specs.Policies.{IsPassBy, IsLegalBy}
 use Rattle.cal_idle.proofs.Going.{change_nothing}
-use Rattle.cal_idle.proofs.Leaving.{same_append, same_chain, same_itself, idle_leave_the_same}
+use Rattle.cal_idle.proofs.Leaving.{same_chain, same_itself, idle_leave_the_same}
 use Rattle.cal_idle.specs.Idle.{IsIdle, LeaveTheSame, GoesByWhatIsLeft}
 use Rattle.cal_idle.specs.LeftOut.{Noted, passes_of, written_of, RecordsLeaveTheSame, RecordsAreLegal, IdlePassesMayBePutIn}
 

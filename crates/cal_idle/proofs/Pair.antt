@@ -1,14 +1,12 @@
 -- Two settings of the same input, after histories that leave the same.
-use Rattle.std.proofs.Common.{◌≡◌, ℕ, List, [], ◌∷◌, ◌++◌, ap, sym, ◌∙◌}
+use Rattle.std.proofs.Common.{◌≡◌, ℕ, List, ◌++◌, ap, sym, ◌∙◌}
 use Rattle.std.specs.Option.{unwrap_or}
-use Rattle.cal_signal.specs.declared.record.Record.{Record}
 use Rattle.cal_machine.specs.Table.{Table}
 use Rattle.cal_policy.specs.declared.history.action.Action.{Action}
 use Rattle.cal_policy.specs.declared.history.entry.PassEntry.{PassEntry}
 use Rattle.cal_policy.specs.declared.history.input.Input.{Input}
-use Rattle.cal_policy.specs.declared.history.look.Seen.{Seen}
-use Rattle.cal_policy.specs.History.{actions_of, looks_of}
-use Rattle.cal_policy.specs.History.Looks.{kept_by, to_keep_at}
+use Rattle.cal_policy.specs.History.{looks_of}
+use Rattle.cal_policy.specs.History.Looks.{to_keep_at}
 use Rattle.cal_policy.specs.Setting.{Setting, setting, so_far, kept_now, kept_before}
 use Rattle.cal_policy.proofs.HistoryLemmas.OneMore.{kept_push}
 use Rattle.cal_idle.specs.Idle.{LeaveTheSame}
