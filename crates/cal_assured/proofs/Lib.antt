@@ -1,9 +1,5 @@
-mod Common
 pub mod ByHolders
 pub mod Ending
-pub mod KeptTaken
 pub mod Legality
-pub mod OwedTaken
-pub mod OwnTurn
 pub mod PassLaws
 pub mod RingLemmas

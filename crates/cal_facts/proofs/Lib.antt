@@ -7,4 +7,3 @@ pub mod TurnLemmas
 pub mod PointLemmas
 pub mod RangeLemmas
 pub mod WrittenLemmas
-pub mod ReplayLemmas

@@ -9,5 +9,3 @@ pub mod Served
 pub mod RequestRows
 pub mod WorkTurns
 pub mod Telling
-pub mod Histories
-pub mod Replayed

@@ -1,5 +1,4 @@
 -- The passes of the second policy, `assured`.
-pub mod Acts
 pub mod AsKept
 pub mod BooksNoMore
 pub mod Counting
@@ -17,7 +16,6 @@ pub mod NoneToTake
 pub mod Numbering
 pub mod Pairs
 pub mod Ranks
-pub mod Room
 pub mod Sent
 pub mod TurnOrder
 pub mod Turns

@@ -11,4 +11,3 @@ pub mod Rows
 pub mod Asking
 pub mod Crowding
 pub mod Measuring
-pub mod Replayed

@@ -1,4 +1,3 @@
 pub mod Guarantees
 pub mod Recording
 pub mod Moving
-pub mod Running

@@ -13,10 +13,8 @@ ghost use Rattle.cal_policy.specs.State.{IsOfTable};
 
 use crate::board::Board;
 use crate::explain::walk::PassWalk;
-use crate::history::action::Action;
 use crate::history::core_class::CoreClass;
 use crate::pass::Pass;
-use crate::pass::assured::acted::has_acted;
 use crate::pass::choice::Candidate;
 
 /// Whether an open core is kept from a task, and why.
@@ -24,8 +22,10 @@ use crate::pass::choice::Candidate;
 pub enum Keeping {
     /// The task may take it.
     NotKept,
+    /// The task is not short, some short task waits, and no more cores are open than are lacking.
+    Lacked,
     /// The core is owed to another task, which waits; to a short task also only while fewer lower
-    /// cores are owed to that one, which is short too, than it needs.
+    /// cores are owed to that one, which is short too, than it lacks.
     OwedTo { task: u8 },
 }
 
@@ -39,10 +39,13 @@ impl Pass<'_> {
             IsKeeping s (so_far s acts) task core result) }
     {
         self.config.limits();
+        if self.is_lacked_by_others(board, task) {
+            return Keeping::Lacked;
+        }
         let Some(other) = board.debts.owed[core as usize] else {
             return Keeping::NotKept;
         };
-        if self.is_kept(board, task, core) {
+        if self.is_kept(board, task, core, false) {
             Keeping::OwedTo { task: other }
         } else {
             Keeping::NotKept
@@ -57,26 +60,20 @@ impl Pass<'_> {
         ensures { Within self.now board.now (λ s acts. result
             ≡ rules.open_class s (so_far s acts) task core) }
     {
-        self.open_class(board, task, core)
+        let lacked = self.is_lacked_by_others(board, task);
+        self.open_class(board, task, core, lacked)
     }
 
-    /// The core that a task takes, an open one or one that another holds, by the actions of the pass so
-    /// far.
-    fn core_taken(
-        &self,
-        board: &Board,
-        made: &[Action],
-        task: usize,
-    ) -> Option<Candidate<CoreClass>>
+    /// The core that a task takes, an open one or one that another holds.
+    fn core_taken(&self, board: &Board, task: usize) -> Option<Candidate<CoreClass>>
         requires at_hand { IsOfTable self.now.config.now board.now }
         requires task { task < length self.now.config.now.tasks }
-        ensures choice { Within self.now board.now (λ s acts. made.now ≡ acts →
-            result ≡ rules.choice_for s acts task) }
+        ensures choice { Within self.now board.now (λ s acts. result
+            ≡ rules.choice_for s acts task) }
         ensures below { IfSome result (λ best. best.number < self.now.config.now.cores) }
     {
         let unhelped = self.unhelped(board, task);
-        let acted = has_acted(self.config, made, task);
-        self.choose_for(board, task, unhelped, acted)
+        self.choose_for(board, task, unhelped)
     }
 }
 
@@ -137,6 +134,6 @@ impl PassWalk<'_> {
             result ≡ rules.choice_for (setting_of self.now h) self.now.made.items task }
         ensures below { IfSome result (λ best. best.number < self.now.config.now.cores) }
     {
-        self.pass().core_taken(&self.board, self.made(), task)
+        self.pass().core_taken(&self.board, task)
     }
 }

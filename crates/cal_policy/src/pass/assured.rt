@@ -1,6 +1,5 @@
 //! The parts in which a pass of `Policy::Assured` differs, and what they ask of the state.
 
-pub mod acted;
 pub mod bans;
 pub mod flight;
 pub mod grants;

@@ -1,8 +1,0 @@
-mod Or
-mod Going
-mod Commands
-mod Sends
-mod Passed
-mod Ended
-mod Rounds
-mod Legal
