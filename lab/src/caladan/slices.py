@@ -11,6 +11,7 @@ from dataclasses import dataclass
 from fractions import Fraction
 from typing import Callable, Optional, Sequence, Union
 
+from .logs.units import nanoseconds
 from .measured import Measured, measured_of
 from .pool import each
 from .programs import Ran, refused
@@ -18,7 +19,6 @@ from .refusal import Refusal
 from .sweeps.objectives import RANKS
 from .sweeps.runs import NONE_CAME
 
-UNITS = {"ns": 1, "us": 1_000, "ms": 1_000_000, "s": 1_000_000_000}
 MOST_SLICES = 1000
 TIMES = {**{it: RANKS[it] for it in ("p50", "p90", "p99", "p99.9")}, "mean": "response mean"}
 Cell = Union[str, int, float]
@@ -31,7 +31,7 @@ def ticks_of(by: Union[int, str], tick: str) -> int:
         raise Refusal(f"by={by}: a number of ticks is wanted, or a time such as 500us or 1ms")
     if found[2] and not tick:
         raise Refusal(f"by={by}: the table does not say what a tick is; give it tick=\"us\", or a number of ticks")
-    ticks = Fraction(found[1]) * (Fraction(UNITS[found[2]], UNITS[tick]) if found[2] else 1)
+    ticks = Fraction(found[1]) * (Fraction(nanoseconds(found[2]), nanoseconds(tick)) if found[2] else 1)
     if ticks < 1 or ticks.denominator > 1:
         raise Refusal(f"by={by}: this is {float(ticks):g} ticks; a whole number from 1 on is wanted")
     return int(ticks)

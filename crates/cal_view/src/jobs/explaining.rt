@@ -133,7 +133,7 @@ fn refuse<E: Write>(reason: Unexplained, errors: &mut E) -> u8 {
         ),
         Unexplained::NoRange { pass, last } => writeln!(
             errors,
-            "caladan_view: --to {last} is before --pass {pass}"
+            "caladan_view: --to {last} is before pass {pass}"
         ),
         Unexplained::NoPassBy { clock } => writeln!(
             errors,

@@ -7,12 +7,11 @@ from .. import __version__
 from . import texts
 from .arg import Arg, Command, Number, flag, number, option
 from .drawn import PICTURE, PROGRAM, RUN, SEEDS
-from .logged import LOG, SWEPT_LOG
+from .logged import LOG, SWEPT_LOG, UNITS
 from .reported import COMMANDS, EXPLAIN, REPORT_TEXT
 
 NAME = "caladan_lab"
 POLICIES = ("caladan", "assured")
-UNITS = ("ns", "us", "ms", "s")
 MOST_TURNS, MOST_TICKS = 174762, 1000000000
 
 INPUT = Arg("input", "The input [default: the standard input]", value="FILE")
