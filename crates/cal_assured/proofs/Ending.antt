@@ -1,31 +1,14 @@
 -- After Unbans as many cores are open as are lacking, or no free core is banned.
-use Rattle.std.proofs.Common.{◌≡◌, ℕ, ◌<◌, ◌≤◌, ◌⊎◌, zero, suc, Bool, true, false, not, ◌&&◌, cond, eqb, ltb, List, [], ◌∷◌, ◌++◌, Option, Some, None, inl, inr, refl, sym, ap, ◌∙◌, arith, subst, append_assoc, ⊎_elim}
-use Rattle.std.specs.Option.{is_some}
-use Rattle.std.proofs.lemmas.Bool.{and_parts, and_from, and_cases, not-true, not_from_false, ltb-false, eq-eqb, both_ways}
+use Rattle.cal_assured.proofs.Common.{◌≡◌, ℕ, ◌<◌, ◌≤◌, ◌⊎◌, zero, suc, Bool, true, false, not, ◌&&◌, cond, eqb, ltb, List, [], ◌∷◌, ◌++◌, Option, Some, None, inl, inr, refl, sym, ap, ◌∙◌, arith, subst, append_assoc, ⊎_elim, is_some, and_parts, and_from, and_cases, not-true, not_from_false, ltb-false, eq-eqb, both_ways, sibling_of, Table, Action, Unban, holder_of, ban_of, is_banned, in_turn, is_free, still_shows, is_granted_in, followed, Setting, so_far, kept_now, holder_push, last_thread_push, count_le, made_are, so_far_push, BansEndForWhatIsLacked, lacking, is_open, open_cores, some_waits_short, are_wanted}
 use Rattle.std.proofs.lemmas.List.{append-nil}
-use Rattle.cal_machine.specs.Machine.{sibling_of}
-use Rattle.cal_machine.specs.Table.{Table}
-use Rattle.cal_policy.specs.declared.history.action.Action.{Action}
-use Rattle.cal_policy.specs.declared.history.action.Action.TheVariants.{Unban}
 use Rattle.cal_policy.specs.declared.board.bans.BannedFor.{BannedFor}
-use Rattle.cal_policy.specs.History.{holder_of, ban_of, is_banned}
-use Rattle.cal_policy.specs.History.Lists.{in_turn}
-use Rattle.cal_policy.specs.Board.Counts.{is_free}
-use Rattle.cal_policy.specs.Pass.Bans.{still_shows}
 use Rattle.cal_policy.specs.Pass.Frees.{frees}
-use Rattle.cal_policy.specs.Pass.{followed}
-use Rattle.cal_policy.specs.Setting.{Setting, so_far, kept_now}
 use Rattle.cal_policy.specs.Laws.{ActionIsOneMore}
-use Rattle.cal_policy.proofs.HistoryLemmas.OneMore.{holder_push}
-use Rattle.cal_policy.proofs.ListLemmas.Counted.{count_le}
 use Rattle.cal_policy.proofs.AssuredLemmas.Pairs.{unbanned_at}
 use Rattle.cal_policy.proofs.PassLemmas.Best.{cases_eq_lt}
-use Rattle.cal_policy.proofs.PassLemmas.Fits.{so_far_push}
 use Rattle.cal_laws.proofs.CapLemmas.Held.{cap_same}
 use Rattle.cal_policy.specs.Assured.Hyperthreads.{unban_for, unban_at}
-use Rattle.cal_assured.specs.Laws.{BansEndForWhatIsLacked}
-use Rattle.cal_policy.specs.Assured.Short.{lacking, is_open, open_cores, some_waits_short, are_wanted}
-use Rattle.cal_assured.proofs.ByHolders.{lacking_same, some_waits_same}
+use Rattle.cal_assured.proofs.ByHolders.{new_in, lacking_same, some_waits_same}
 
 still_none : (b banned : Bool) → banned ≡ false → cond b false banned ≡ false
 still_none true banned e = refl
@@ -40,7 +23,7 @@ open_grows table x core = count_le (is_open (x ++ Unban core ∷ [])) (is_open x
 
 -- as many are open as are lacking, or of the cores below n no free one is banned
 abbrev Ended : Setting → List Action → ℕ → Type 0
-Ended s x n = (lacking s.table x ≤ open_cores s.table x) ⊎ ((c : ℕ) → c < n → is_free (holder_of x c) ≡ true → is_banned x c ≡ false)
+Ended s x n = (lacking s x ≤ open_cores s.table x) ⊎ ((c : ℕ) → c < n → is_free (holder_of x c) ≡ true → is_banned x c ≡ false)
 
 -- what the actions of a turn leave
 record Left (s : Setting) (now more : List Action) (n : ℕ) : Type 0 where
@@ -59,10 +42,19 @@ one_more s x n here e = ⊎_elim
     (cases_eq_lt c n lt)))
     e
 
-unbanned_ended : (s : Setting) (x : List Action) (n : ℕ) → Ended s x n → Ended s (x ++ Unban n ∷ []) (suc n)
-unbanned_ended s x n e =
+-- an Unban is no grant
+new_still : (s : Setting) (now : List Action) (n c : ℕ) → new_in s (so_far s now ++ Unban n ∷ []) c ≡ new_in s (so_far s now) c
+new_still s now n c =
+    ap (λ l. new_in s l c) (sym (so_far_push s now (Unban n)))
+    ∙ ap (λ l. is_granted_in l c) (made_are s (now ++ Unban n ∷ []))
+    ∙ ap is_some (last_thread_push now (Unban n) c)
+    ∙ sym (ap (λ l. is_granted_in l c) (made_are s now))
+
+unbanned_ended : ActionIsOneMore → (s : Setting) (now : List Action) (n : ℕ) → Ended s (so_far s now) n → Ended s (so_far s now ++ Unban n ∷ []) (suc n)
+unbanned_ended more s now n e =
+    let x : List Action = so_far s now in
     let y : List Action = x ++ Unban n ∷ [] in
-    let same : lacking s.table y ≡ lacking s.table x = lacking_same s.table x y (λ c. holder_push x (Unban n) c) in
+    let same : lacking s y ≡ lacking s x = lacking_same s x y (λ c. holder_push x (Unban n) c) (λ t. cap_same more s.table x (Unban n) t refl) (λ c. new_still s now n c) in
     ⊎_elim
     (λ enough. inl (omega (arith, same, enough, open_grows s.table x n)))
     (λ below. inr (λ c lt free. ⊎_elim
@@ -77,8 +69,8 @@ unban_left more s now n =
     let P : List Action → Type 0 = λ y. Ended s y (suc n) in
     let Q : List Action → Type 0 = λ y. some_waits_short s y ≡ true in
     record {
-      back = λ w. sym (some_waits_same s x (x ++ Unban n ∷ []) (λ c. holder_push x (Unban n) c) (λ t. cap_same more s.table x (Unban n) t refl)) ∙ subst Q (so_far_push s now (Unban n)) w;
-      ended = λ w e. subst P (sym (so_far_push s now (Unban n))) (unbanned_ended s x n e);
+      back = λ w. sym (some_waits_same s x (x ++ Unban n ∷ []) (λ c. holder_push x (Unban n) c) (λ t. cap_same more s.table x (Unban n) t refl) (λ c. new_still s now n c)) ∙ subst Q (so_far_push s now (Unban n)) w;
+      ended = λ w e. subst P (sym (so_far_push s now (Unban n))) (unbanned_ended more s now n e);
     }
 
 kept_ban : (s : Setting) (x : List Action) (n : ℕ) (shown : Bool) → (shown && not (are_wanted s x)) ≡ true → some_waits_short s x ≡ true → Ended s x n → Ended s x (suc n)
@@ -86,8 +78,8 @@ kept_ban s x n shown e wait was =
     let both = and_parts shown (not (are_wanted s x)) e in
     ⊎_elim
     (λ none. absurd (both_ways _ none wait))
-    (λ enough. inl (ltb-false (open_cores s.table x) (lacking s.table x) enough))
-    (and_cases (some_waits_short s x) (ltb (open_cores s.table x) (lacking s.table x)) (not-true (are_wanted s x) both.1))
+    (λ enough. inl (ltb-false (open_cores s.table x) (lacking s x) enough))
+    (and_cases (some_waits_short s x) (ltb (open_cores s.table x) (lacking s x)) (not-true (are_wanted s x) both.1))
 
 turn_by : ActionIsOneMore → (s : Setting) (now : List Action) (n : ℕ) (shown b : Bool) → (shown && not (are_wanted s (so_far s now))) ≡ b → Left s now (cond b [] (Unban n ∷ [])) n
 turn_by more s now n shown true e = left_nothing s now n (λ wait was. kept_ban s (so_far s now) n shown e wait was)

@@ -1,13 +1,11 @@
 -- Legal histories of this policy, pass by pass.
-use Rattle.std.proofs.Common.{◌≡◌, ℕ, ◌<◌, ◌≤◌, Bool, true, false, nat_lt, List, [], ◌∷◌, ◌++◌, length, get_or, take, Some, slice_get, inl, inr, sym, subst, ◌∙◌, arith, refl, length-append}
+use Rattle.cal_assured.proofs.Common.{◌≡◌, ℕ, ◌<◌, ◌≤◌, Bool, true, false, nat_lt, List, [], ◌∷◌, ◌++◌, length, get_or, take, Some, slice_get, inl, inr, sym, subst, ◌∙◌, arith, refl, length-append, Table, IsPass, IsLegal}
 use Rattle.std.proofs.lemmas.List.{length-take-le, get_or-take, take-take, take-append-le, take_all}
 use Rattle.std.proofs.lemmas.Option.{slice_get_within, slice_get_read, get_or_from_slice_get}
 use Rattle.std.proofs.Math.Seq.{take-append_seam}
 use Rattle.cal_machine.proofs.Last.{slice_get-last, last_or_before}
-use Rattle.cal_machine.specs.Table.{Table}
 use Rattle.cal_policy.specs.declared.history.entry.PassEntry.{PassEntry}
 use Rattle.cal_assured.specs.Histories.{NothingIsLegal, PrefixesAreLegal, OnePassMoreIsLegal}
-use Rattle.cal_policy.specs.Assured.Pass.{IsPass, IsLegal}
 
 first : (table : Table) (history : List PassEntry) (n : ℕ) → n ≤ length history → IsLegal table history → IsLegal table (take n history)
 first table history n le legal = record {

@@ -1,5 +1,9 @@
+mod Common
 pub mod ByHolders
 pub mod Ending
+pub mod KeptTaken
 pub mod Legality
+pub mod OwedTaken
+pub mod OwnTurn
 pub mod PassLaws
 pub mod RingLemmas

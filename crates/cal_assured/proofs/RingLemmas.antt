@@ -1,10 +1,8 @@
 -- A thread is sent at most one command a pass, so at most three in three passes.
-use Rattle.std.proofs.Common.{◌≡◌, ℕ, ◌+◌, ◌-◌, ◌<◌, ◌≤◌, zero, suc, List, ◌++◌, length, take, sym, ap, ◌∙◌, arith, ⊎_elim}
+use Rattle.cal_assured.proofs.Common.{◌≡◌, ℕ, ◌+◌, ◌-◌, ◌<◌, ◌≤◌, zero, suc, List, ◌++◌, length, take, sym, ap, ◌∙◌, arith, ⊎_elim, Table, actions_of, sent_to}
 use Rattle.std.proofs.Math.Seq.{take-length}
 use Rattle.std.proofs.lemmas.Option.{slice_get_cases}
-use Rattle.cal_machine.specs.Table.{Table}
 use Rattle.cal_policy.specs.declared.history.entry.PassEntry.{PassEntry}
-use Rattle.cal_policy.specs.History.{actions_of, sent_to}
 use Rattle.cal_laws.proofs.PointLemmas.EachAction.{actions_more}
 use Rattle.cal_policy.specs.declared.policy.Policy.TheVariants.{Assured}
 use Rattle.cal_guard.specs.Histories.{EachPolicyIsPermitted}

@@ -16,8 +16,9 @@ mod rings;
 pub use histories::{nothing_is_legal, one_pass_more_is_legal, prefixes_are_legal};
 pub use order::{places_have_their_task, tasks_have_their_place, turns_are_in_order};
 pub use passes::{
-    bans_end_for_what_is_lacked, bans_leave_what_is_lacked, no_core_is_revoked_twice,
-    others_take_what_is_not_lacked, owed_cores_are_kept, revocations_have_cause,
+    bans_end_for_what_is_lacked, bans_leave_what_is_lacked, kept_cores_are_taken,
+    no_core_is_revoked_twice, no_more_is_taken_than_is_lacked, owed_cores_are_kept,
+    owed_cores_are_taken, revocations_have_cause, the_fewest_held_comes_first,
     the_later_comes_first,
 };
 pub use rings::rings_have_room;

@@ -1,29 +1,42 @@
 //! Laws of one pass, each at its own place.
 
-ghost use Rattle.cal_assured.specs.Laws.{OthersTakeWhatIsNotLacked, OwedCoresAreKept};
+ghost use Rattle.cal_assured.specs.Laws.{OwedCoresAreKept, NoMoreIsTakenThanIsLacked};
 ghost use Rattle.cal_assured.specs.Laws.{NoCoreIsRevokedTwice, BansLeaveWhatIsLacked};
 ghost use Rattle.cal_assured.specs.Laws.{BansEndForWhatIsLacked, TheLaterComesFirst};
-ghost use Rattle.cal_assured.specs.Laws.{RevocationsHaveCause};
+ghost use Rattle.cal_assured.specs.Laws.{RevocationsHaveCause, OwedCoresAreTaken};
+ghost use Rattle.cal_assured.specs.Laws.{KeptCoresAreTaken, TheFewestHeldComesFirst};
 
 use cal_policy::laws::action_is_one_more;
 
-/// A task that is not short is granted a core only where no short task waits, or more cores are
-/// open than are lacking.
-pub fn others_take_what_is_not_lacked()
-    ensures { OthersTakeWhatIsNotLacked }
-{}
-
 /// A core that was revoked for a task and is free is granted to another only where that task does
 /// not wait; or where the other is short, and the task is not, or as many lower cores are owed to
-/// it as it lacks.
+/// it as it could be granted in this pass.
 pub fn owed_cores_are_kept()
     ensures { OwedCoresAreKept }
+{}
+
+/// Where a task is short and waits at the end of its turn, no open core is owed to it: it has taken
+/// them all.
+pub fn owed_cores_are_taken()
+    ensures { OwedCoresAreTaken }
+{}
+
+/// A short task to which a core was granted in no earlier turn of the pass takes all open cores that
+/// are owed to it, where they are no more than it needs.
+pub fn kept_cores_are_taken()
+    ensures { KeptCoresAreTaken }
 {}
 
 /// A core is revoked for a task only where more of its threads are late, and not in flight, than
 /// cores are coming to it.
 pub fn no_core_is_revoked_twice()
     ensures { NoCoreIsRevokedTwice }
+{}
+
+/// A core of another latency-critical task is revoked for a task only where fewer cores are coming to
+/// it than it lacks.
+pub fn no_more_is_taken_than_is_lacked()
+    ensures { NoMoreIsTakenThanIsLacked }
 {}
 
 /// Where a short task waits, a free core is banned only if more cores are open than are lacking.
@@ -44,6 +57,13 @@ pub fn bans_end_for_what_is_lacked()
 /// later one did not wait or might take no open core.
 pub fn the_later_comes_first()
     ensures { TheLaterComesFirst }
+{}
+
+/// Of two best-effort tasks: if the one that held more cores where the grants began is granted one, and
+/// the other was granted none before it in this pass, then at its turn the other did not wait or might
+/// take no open core.
+pub fn the_fewest_held_comes_first()
+    ensures { TheFewestHeldComesFirst }
 {}
 
 /// Each revocation of a pass is for what its cause says.

@@ -64,6 +64,17 @@ fn tell_claim<W: Write>(
     writeln!(writer)
 }
 
+/// Writes of a task that waits whether it acts for the first time, again, or no more.
+fn write_act<W: Write>(claim: Claim, writer: &mut W) -> io::Result<()> {
+    if !claim.has_acted {
+        write!(writer, "waits")
+    } else if claim.is_short {
+        write!(writer, "waits, and acts again")
+    } else {
+        write!(writer, "waits, and has acted in this pass")
+    }
+}
+
 /// Writes whether a task waits, and if not by what.
 fn write_wait<W: Write>(
     walk: &PassWalk<'_>,
@@ -75,7 +86,7 @@ fn write_wait<W: Write>(
     requires task { task < length walk.now.config.now.tasks }
 {
     if claim.waits {
-        write!(writer, "waits")
+        write_act(claim, writer)
     } else if claim.pressing <= claim.surplus {
         write!(
             writer,
@@ -200,10 +211,6 @@ fn write_kept<W: Write>(
         Keeping::OwedTo { task: owed } => {
             write!(writer, "kept for task {owed}, to which it is owed")
         }
-        Keeping::Lacked => {
-            write!(writer, "kept: ")?;
-            write_lacked(walk, writer)
-        }
     }
 }
 
@@ -238,14 +245,26 @@ fn write_held<W: Write>(
         return write!(writer, "held, and task {task} is best-effort");
     }
     if !claim.may_revoke {
-        return write!(
-            writer,
-            "held, and no more threads press beyond its surplus than cores are coming"
-        );
+        return write_no_more(claim, writer);
     }
     match walk.held_class(task, core) {
         Some(class) => write_class(class, writer),
-        None => write_no_revoke(walk, task, core, thread, writer),
+        None => write_no_revoke(walk, task, claim, core, thread, writer),
+    }
+}
+
+/// Writes why no core may be revoked for a latency-critical task that waits.
+fn write_no_more<W: Write>(claim: Claim, writer: &mut W) -> io::Result<()> {
+    if claim.pressing.saturating_sub(claim.surplus) <= claim.coming {
+        write!(
+            writer,
+            "held, and no more threads press beyond its surplus than cores are coming"
+        )
+    } else {
+        write!(
+            writer,
+            "held, and the task has acted in this pass and lacks no more cores than are coming"
+        )
     }
 }
 
@@ -253,6 +272,7 @@ fn write_held<W: Write>(
 fn write_no_revoke<W: Write>(
     walk: &PassWalk<'_>,
     task: usize,
+    claim: Claim,
     core: u8,
     thread: usize,
     writer: &mut W,
@@ -267,6 +287,28 @@ fn write_no_revoke<W: Write>(
     } else if walk.core(core).is_granted_now {
         write!(writer, "granted in this pass")
     } else {
-        write_no_preemption(walk, task, walk.config().task_of(thread), writer)
+        write_no_taking(walk, task, claim, walk.config().task_of(thread), writer)
+    }
+}
+
+/// Writes why no core of the other task is taken for a latency-critical task.
+fn write_no_taking<W: Write>(
+    walk: &PassWalk<'_>,
+    task: usize,
+    claim: Claim,
+    other: usize,
+    writer: &mut W,
+) -> io::Result<()>
+    requires walk { IsWalk walk.now }
+    requires task { task < length walk.now.config.now.tasks }
+    requires other { other < length walk.now.config.now.tasks }
+{
+    if claim.is_short && claim.lacks <= claim.coming && walk.config().is_latency_critical(other) {
+        write!(
+            writer,
+            "held by task {other}, which is latency-critical, and as many cores are coming as are lacked"
+        )
+    } else {
+        write_no_preemption(walk, task, other, writer)
     }
 }

@@ -36,40 +36,41 @@ pub fn tell_illegal<W: Write>(
         return Ok(());
     }
     let walk = PassWalk::begin_by(alloc, config, policy, before, &entry.input)?;
-    let deciding = tell_difference(walk, entry.actions.as_slice(), writer)?;
+    let (deciding, at) = tell_difference(walk, entry.actions.as_slice(), writer)?;
     let mut again = PassWalk::begin_by(alloc, config, policy, before, &entry.input)?;
-    walk_to(&mut again, deciding)?;
+    walk_to(&mut again, deciding, at)?;
     tell_turn(&again, explainer.scope, writer)?;
     Ok(())
 }
 
 /// Writes what the policy does in the pass that a walk goes over, what the file has, and the first
-/// action that differs; answers the turn that decides on it.
+/// action that differs; answers the turn that decides on it, and how many actions come before it.
 fn tell_difference<W: Write>(
     mut walk: PassWalk<'_>,
     recorded: &[Action],
     writer: &mut W,
-) -> Result<Turn, ExplainFault>
+) -> Result<(Turn, usize), ExplainFault>
     requires { IsWalk walk }
 {
-    walk_to(&mut walk, Turn::End)?;
+    walk_to(&mut walk, Turn::End, 0)?;
     let made = walk.made();
     let at = first_difference(made, recorded);
     tell_both(made, recorded, at, writer)?;
     match made.get(at).or(recorded.get(at)) {
-        Some(action) => Ok(turn_of(walk.config(), *action)),
-        None => Ok(Turn::End),
+        Some(action) => Ok((turn_of(walk.config(), *action), at)),
+        None => Ok((Turn::End, at)),
     }
 }
 
-/// Makes the turns before this one.
-fn walk_to(walk: &mut PassWalk<'_>, turn: Turn) -> Result<(), ExplainFault>
+/// Makes the turns before this one; of the acts of a task those before the one that comes after so
+/// many actions.
+fn walk_to(walk: &mut PassWalk<'_>, turn: Turn, at: usize) -> Result<(), ExplainFault>
     requires { IsWalk walk.old }
     ensures { IsWalk walk.new }
 {
     for n in 0..TURN_BOUND {
         let _ = n;
-        if is_at(walk, turn) || walk.turn() == Turn::End {
+        if is_at(walk, turn, at) || walk.turn() == Turn::End {
             break;
         }
         walk.take()?;
@@ -77,14 +78,17 @@ fn walk_to(walk: &mut PassWalk<'_>, turn: Turn) -> Result<(), ExplainFault>
     Ok(())
 }
 
-/// Whether a walk is at this turn. A task has its turn by its place under the assured policy.
-fn is_at(walk: &PassWalk<'_>, turn: Turn) -> bool
+/// Whether a walk is at this turn. A task has its turn by its place under the assured policy, and acts
+/// in it more than once: the act is the one that comes after so many actions, else the last.
+fn is_at(walk: &PassWalk<'_>, turn: Turn, at: usize) -> bool
     requires { IsWalk walk.now }
 {
     match (walk.turn(), turn) {
-        (Turn::Placed { place }, Turn::LatencyCritical { task } | Turn::BestEffort { task }) => {
-            walk.placed(place) == Some(task)
-        }
+        (Turn::Placed { place, act }, Turn::LatencyCritical { task } | Turn::BestEffort { task }) =>
+            {
+                let is_last = act as usize + 1 >= walk.config().machine().cores() as usize;
+                walk.placed(place) == Some(task) && (is_last || walk.made().len() >= at)
+            }
         (now, _) => now == turn,
     }
 }

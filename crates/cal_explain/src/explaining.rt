@@ -15,9 +15,9 @@ use cal_policy::explain::{Part, PassWalk, Turn};
 use std::io;
 use std::io::Write;
 
-/// More turns than a pass has: three of each core, one for the bandwidth, two of each task, and the
-/// end.
-pub const TURN_BOUND: usize = 512;
+/// More turns than a pass has: three of each core, one for the bandwidth, two of each task or, under
+/// the assured policy, as many as there are cores, and the end.
+pub const TURN_BOUND: usize = 2560;
 
 /// Writes the explanation of the pass that a walk goes over, from its turn on.
 pub fn tell_pass<W: Write>(
@@ -28,18 +28,20 @@ pub fn tell_pass<W: Write>(
     requires { IsWalk walk }
 {
     let mut part = None;
+    let mut has_made = false;
     for n in 0..TURN_BOUND {
         let _ = n;
         if walk.turn() == Turn::End {
             break;
         }
         part = tell_heading(part, walk.turn(), writer)?;
-        let is_told = has_turn(&walk, scope);
+        let is_told = has_turn(&walk, scope) && (has_made || !is_later_act(walk.turn()));
         if is_told {
             tell_turn(&walk, scope, writer)?;
         }
         let before = walk.made().len();
         walk.take()?;
+        has_made = walk.made().len() > before;
         if is_told {
             tell_made(made_since(&walk, before), writer)?;
         } else {
@@ -89,6 +91,15 @@ fn tell_heading<W: Write>(
     Ok(part)
 }
 
+/// Whether a task acts in this turn for the second time or later. It does only where it acted just
+/// before.
+fn is_later_act(turn: Turn) -> bool {
+    match turn {
+        Turn::Placed { act, .. } => act > 0,
+        _ => false,
+    }
+}
+
 /// Whether to explain the walk's turn. A task's turn for the other kind makes nothing.
 fn has_turn(walk: &PassWalk<'_>, scope: Scope) -> bool
     requires { IsWalk walk.now }
@@ -110,8 +121,11 @@ fn has_turn(walk: &PassWalk<'_>, scope: Scope) -> bool
         Turn::BestEffort { task } => {
             !config.is_latency_critical(task as usize) && scope.has_task(task as usize)
         }
-        Turn::Placed { place } => match walk.placed(place) {
-            Some(task) => scope.has_task(task as usize),
+        Turn::Placed { place, act } => match walk.placed(place) {
+            Some(task) => {
+                let task = task as usize;
+                scope.has_task(task) && (act == 0 || walk.claim(task).is_short)
+            }
             None => false,
         },
         Turn::End => false,
@@ -130,7 +144,7 @@ pub fn tell_turn<W: Write>(walk: &PassWalk<'_>, scope: Scope, writer: &mut W) ->
         Turn::LatencyCritical { task } | Turn::BestEffort { task } => {
             tell_grant(walk, task as usize, scope, writer)
         }
-        Turn::Placed { place } => tell_placed(walk, place, scope, writer),
+        Turn::Placed { place, .. } => tell_placed(walk, place, scope, writer),
         Turn::End => Ok(()),
     }
 }

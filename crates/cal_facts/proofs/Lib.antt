@@ -7,3 +7,4 @@ pub mod TurnLemmas
 pub mod PointLemmas
 pub mod RangeLemmas
 pub mod WrittenLemmas
+pub mod ReplayLemmas

@@ -9,3 +9,5 @@ pub mod Served
 pub mod RequestRows
 pub mod WorkTurns
 pub mod Telling
+pub mod Histories
+pub mod Replayed

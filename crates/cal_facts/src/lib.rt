@@ -9,12 +9,19 @@
 
 mod cells;
 mod counting;
+mod histories;
+mod replayed;
 mod requests;
 mod series;
 mod spans;
 mod turns;
 
 pub use counting::count_passes;
+pub use histories::{RunHistory, run_history};
+pub use replayed::{
+    replayed_history, write_replayed_requests, write_replayed_series, write_replayed_spans,
+    write_replayed_turns,
+};
 pub use requests::served::{Served, ServedRequests};
 pub use requests::write_requests;
 pub use series::point::Point;

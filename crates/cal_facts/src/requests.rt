@@ -50,7 +50,10 @@ pub fn write_requests<W: Write>(
 
 /// When the requests came that were counted by a file of comings; nothing where they were not. Fails
 /// only when out of memory.
-fn clocks_told(alloc: Global, told: &CountedRequests) -> Result<Option<ArrivalClocks>, AllocError>
+pub(crate) fn clocks_told(
+    alloc: Global,
+    told: &CountedRequests,
+) -> Result<Option<ArrivalClocks>, AllocError>
     ensures { IfOk result (AreClocksTold (came_told told.now)) }
 {
     match &told.comings {

@@ -1,10 +1,10 @@
 -- While no task holds more than it is guaranteed, no core is revoked; and so it stays where only short
 -- tasks are granted cores.
-use Rattle.cal_guarantee.proofs.Common.{◌≡◌, ℕ, ◌<◌, ◌≤◌, ◌⊎◌, Bool, true, false, cond, eqb, List, [], ◌∷◌, ◌++◌, length, Option, Some, None, refl, ap, sym, ◌∙◌, arith, inl, inr, cases_eq, ne_eqb, Table, IsTable, owner_of, guaranteed_of, task_in, Action, Free, Unban, Ban, Revoke, Cap, Grant, CoreClass, Candidate, Holder, actions_of, holder_of, placed, placement_of, is_free, is_held_for, held_by, Setting, so_far, frees, EachAfter, IsSteady, count_le, held_le_booked, is_leaving, is_short, held_choice}
+use Rattle.cal_guarantee.proofs.Common.{◌≡◌, ℕ, ◌<◌, ◌≤◌, ◌⊎◌, Bool, true, false, cond, eqb, List, [], ◌∷◌, ◌++◌, length, refl, ap, sym, ◌∙◌, arith, inl, inr, cases_eq, ne_eqb, Table, owner_of, guaranteed_of, task_in, Action, Free, Unban, Ban, Revoke, Cap, Grant, Holder, actions_of, holder_of, placed, placement_of, is_free, is_held_for, held_by, Setting, so_far, frees, EachAfter, IsSteady, count_le, held_le_booked, is_leaving, is_short}
 use Rattle.cal_policy.specs.declared.board.holders.Placement as placements
 use Rattle.cal_policy.specs.declared.board.holders.Holder.TheVariants as holders
 use Rattle.cal_guarantee.proofs.Holders.{Stays, moved_same, stays_same, moves_grant, stays_unban, stays_ban, stays_cap}
-use Rattle.cal_guarantee.proofs.Steps.{IsStep, IsRevokeStep, IsGrantStep, held_lost}
+use Rattle.cal_guarantee.proofs.Steps.{IsStep, IsRevokeStep, IsGrantStep}
 use Rattle.cal_guarantee.proofs.Counts.{short_parts}
 use Rattle.cal_guarantee.proofs.KeptAlong.{along, steady_step, taken_open, open_free, grant_one, grant_owner}
 use Rattle.cal_guarantee.proofs.Freed.{is_freed, after_frees}
@@ -25,14 +25,6 @@ pub calm_revoke : (s : Setting) (acts : List Action) (core : ℕ) → IsSteady s
 calm_revoke s acts core steady calm q =
     let over = q.over in
     omega (arith, over, calm.within (owner_of s.table q.loser.thread) (held_owner s.table (so_far s acts) core q.loser steady q.held))
-
--- so there is no core to be revoked for a task
-pub calm_choice : (s : Setting) (acts : List Action) (t : ℕ) → IsTable s.table → IsSteady s.table (so_far s acts) → IsCalm s.table (so_far s acts) → held_choice s acts t ≡ None
-calm_choice s acts t ok steady calm = go (held_choice s acts t) refl
-  where
-    go : (o : Option (Candidate CoreClass)) → held_choice s acts t ≡ o → o ≡ None
-    go None e = refl
-    go (Some k) e = absurd (calm_revoke s acts k.number steady calm (held_lost s acts t k ok e).1.1)
 
 calm_stay : (table : Table) (x y : List Action) → Stays x y → IsCalm table x → IsCalm table y × NoneLeaves x y
 calm_stay table x y m calm = (

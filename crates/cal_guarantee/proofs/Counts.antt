@@ -1,9 +1,8 @@
 -- What one more action does to what tasks book and lack, and to the open cores.
-use Rattle.cal_guarantee.proofs.Common.{◌≡◌, ℕ, ◌+◌, ◌-◌, ◌<◌, ◌≤◌, ◌⊎◌, Bool, true, false, not, ◌&&◌, cond, eqb, ltb, List, [], ◌∷◌, ◌++◌, length, Some, None, refl, ap, sym, ◌∙◌, arith, inl, inr, ⊎_elim, cases_eq, cases_lt, and_parts, and_from, and_left, and_right, eq-eqb, ne_eqb, ltb-true, ltb-false, lt-ltb, le-ltb, not-true, is_some, unwrap_or, Table, owner_of, guaranteed_of, is_latency_critical, Action, Unban, Ban, Revoke, Cap, Grant, Holder, holder_of, ban_of, is_banned, last_placement, placed, is_free, is_booked_for, booked_by, holder_push, ban_push, count_le, count_le_one, is_short, lacks, lacking, is_open, open_cores}
-use Rattle.cal_policy.specs.declared.history.action.Cause.{Cause}
+use Rattle.cal_guarantee.proofs.Common.{◌≡◌, ℕ, ◌+◌, ◌-◌, ◌<◌, ◌≤◌, ◌⊎◌, Bool, true, false, not, ◌&&◌, cond, eqb, ltb, List, [], ◌∷◌, ◌++◌, length, Some, None, refl, ap, sym, ◌∙◌, arith, inl, inr, subst, zero, suc, ⊎_elim, cases_eq, cases_lt, and_parts, and_from, and_left, and_right, eq-eqb, ne_eqb, ltb-true, ltb-false, lt-ltb, le-ltb, not-true, is_some, unwrap_or, Table, owner_of, guaranteed_of, is_latency_critical, Action, Unban, Ban, Revoke, Cap, Grant, Holder, holder_of, ban_of, is_banned, last_placement, placed, is_free, is_booked_for, booked_by, sum_below, Setting, holder_push, ban_push, count_le, count_le_one, is_short, lacks, lacks_waiting, lacking, is_open, open_cores, waits, Cause}
 use Rattle.cal_policy.specs.declared.board.holders.Placement as placements
 use Rattle.cal_policy.specs.declared.board.holders.Holder.TheVariants as holders
-use Rattle.cal_guarantee.proofs.Sums.{one_if, sum_same, sum_but_one, count_same, count_but_one}
+use Rattle.cal_guarantee.proofs.Sums.{one_if, sum_le, count_same, count_but_one}
 use Rattle.cal_guarantee.proofs.Holders.{Moves, Stays, moved_count, moved_same, stays_same, moves_revoke, moves_grant}
 
 -- each task books as many cores after y as after x
@@ -32,9 +31,6 @@ short_same table x y u e = ap (λ n. is_latency_critical table u && ltb n (guara
 pub lacks_same : (table : Table) (x y : List Action) (u : ℕ) → booked_by table y u ≡ booked_by table x u → lacks table y u ≡ lacks table x u
 lacks_same table x y u e = ap (λ n. cond (is_latency_critical table u && ltb n (guaranteed_of table u)) (guaranteed_of table u - n) 0) e
 
-pub lacking_same : (table : Table) (x y : List Action) → KeepsBooks table x y → lacking table y ≡ lacking table x
-lacking_same table x y k = sum_same (lacks table y) (lacks table x) (length table.tasks) (λ u lt. lacks_same table x y u (k.books u))
-
 -- a short task: what that says, and what it lacks
 pub short_parts : (table : Table) (x : List Action) (t : ℕ) → is_short table x t ≡ true →
     (is_latency_critical table t ≡ true) × (booked_by table x t < guaranteed_of table t)
@@ -44,6 +40,11 @@ short_parts table x t e =
 
 pub short_from : (table : Table) (x : List Action) (t : ℕ) → is_latency_critical table t ≡ true → booked_by table x t < guaranteed_of table t → is_short table x t ≡ true
 short_from table x t e lt = and_from (is_latency_critical table t) (ltb (booked_by table x t) (guaranteed_of table t)) e (lt-ltb (booked_by table x t) (guaranteed_of table t) lt)
+
+-- a latency-critical one that is not short books all that it is guaranteed
+pub not_short_books : (table : Table) (x : List Action) (t : ℕ) → is_latency_critical table t ≡ true → is_short table x t ≡ false → guaranteed_of table t ≤ booked_by table x t
+not_short_books table x t critical e =
+    ltb-false (booked_by table x t) (guaranteed_of table t) (ap (λ b. b && ltb (booked_by table x t) (guaranteed_of table t)) (sym critical) ∙ e)
 
 pub lacks_short : (table : Table) (x : List Action) (t : ℕ) → is_short table x t ≡ true → lacks table x t + booked_by table x t ≡ guaranteed_of table t
 lacks_short table x t e =
@@ -77,37 +78,54 @@ books_granted table x core thread class lt free = record {
       (ne_eqb (owner_of table thread) w (λ e. ne (sym e)) ∙ sym (booked_none table w (holder_of x core) free));
 }
 
--- where it was short, one core less is lacking
-pub lacking_less : (table : Table) (x y : List Action) (u : ℕ) → u < length table.tasks → IsOneMore table x y u → is_short table x u ≡ true →
-    lacking table y + 1 ≡ lacking table x
-lacking_less table x y u lt m short =
+-- what a task lacks that waits, and no more than it lacks
+pub waiting_lacks : (s : Setting) (x : List Action) (u : ℕ) → waits s x u ≡ true → lacks_waiting s x u ≡ lacks s.table x u
+waiting_lacks s x u e = ap (λ b. cond b (lacks s.table x u) 0) e
+
+pub waiting_most : (s : Setting) (x : List Action) (u : ℕ) → lacks_waiting s x u ≤ lacks s.table x u
+waiting_most s x u = by_wait (waits s x u)
+  where
+    by_wait : (b : Bool) → cond b (lacks s.table x u) 0 ≤ lacks s.table x u
+    by_wait true = omega arith
+    by_wait false = omega arith
+
+-- where no task lacks more that waits, no more is lacking
+pub lacking_most : (s : Setting) (x y : List Action) → ((u : ℕ) → u < length s.table.tasks → lacks_waiting s y u ≤ lacks_waiting s x u) → lacking s y ≤ lacking s x
+lacking_most s x y e = sum_le (lacks_waiting s y) (lacks_waiting s x) (length s.table.tasks) e
+
+sum_less : (f g : ℕ → ℕ) (u n : ℕ) → u < n → f u + 1 ≤ g u → ((k : ℕ) → k < n → (k ≡ u → ⊥) → f k ≤ g k) → sum_below f n + 1 ≤ sum_below g n
+sum_less f g u zero lt less most = absurd (omega (arith, lt))
+sum_less f g u (suc n) lt less most = ⊎_elim
+    (λ (l : u < n). omega (arith, sum_less f g u n l less (λ k low ne. most k (omega (arith, low)) ne), most n (omega arith) (λ same. omega (arith, same, l))))
+    (λ (ge : n ≤ u).
+    let same : u ≡ n = omega (arith, lt, ge) in
+    let P : ℕ → Type 0 = λ k. f k + 1 ≤ g k in
+    let last : f n + 1 ≤ g n = subst P same less in
+    let below = sum_le f g n (λ k low. most k (omega (arith, low)) (λ at. omega (arith, at, same, low))) in
+    omega (arith, last, below))
+    (cases_lt u n)
+
+-- and one less where one lacks one less
+pub lacking_less : (s : Setting) (x y : List Action) (u : ℕ) → u < length s.table.tasks → lacks_waiting s y u + 1 ≤ lacks_waiting s x u →
+    ((w : ℕ) → w < length s.table.tasks → (w ≡ u → ⊥) → lacks_waiting s y w ≤ lacks_waiting s x w) → lacking s y + 1 ≤ lacking s x
+lacking_less s x y u lt less most = sum_less (lacks_waiting s y) (lacks_waiting s x) u (length s.table.tasks) lt less most
+
+-- one that is short and waits lacks one less once it is granted a core
+pub one_less_lacks : (s : Setting) (x y : List Action) (u : ℕ) → IsOneMore s.table x y u → is_short s.table x u ≡ true → waits s x u ≡ true → lacks_waiting s y u + 1 ≤ lacks_waiting s x u
+one_less_lacks s x y u m short wait =
+    let table = s.table in
     let parts = short_parts table x u short in
-    let but = sum_but_one (lacks table y) (lacks table x) u (length table.tasks) lt (λ w low ne. lacks_same table x y w (m.others w ne)) in
     let before = lacks_short table x u short in
-    let after : lacks table y u + booked_by table y u ≡ guaranteed_of table u = ⊎_elim
-    (λ (less : booked_by table y u < guaranteed_of table u). lacks_short table y u (short_from table y u parts.0 less))
+    let all = waiting_lacks s x u wait in
+    let most = waiting_most s y u in
+    let one = m.books in
+    let low = parts.1 in
+    ⊎_elim
+    (λ (less : booked_by table y u < guaranteed_of table u). let after = lacks_short table y u (short_from table y u parts.0 less) in omega (arith, before, all, most, one, after))
     (λ (ge : guaranteed_of table u ≤ booked_by table y u).
     let none = lacks_none table y u (and_right (is_latency_critical table u) (ltb (booked_by table y u) (guaranteed_of table u)) (le-ltb (booked_by table y u) (guaranteed_of table u) ge)) in
-    let one = m.books in let low = parts.1 in omega (arith, none, ge, one, low))
-    (cases_lt (booked_by table y u) (guaranteed_of table u)) in
-    let one = m.books in
-    omega (arith, but, before, after, one)
-
--- where it was not, as many are
-not_short_more : (critical : Bool) (booked guaranteed : ℕ) → (critical && ltb booked guaranteed) ≡ false → (critical && ltb (booked + 1) guaranteed) ≡ false
-not_short_more false booked guaranteed e = refl
-not_short_more true booked guaranteed e = le-ltb (booked + 1) guaranteed (let ge = ltb-false booked guaranteed e in omega (arith, ge))
-
-pub short_never : (table : Table) (x y : List Action) (u : ℕ) → booked_by table y u ≡ booked_by table x u + 1 → is_short table x u ≡ false → is_short table y u ≡ false
-short_never table x y u e not_short = ap (λ n. is_latency_critical table u && ltb n (guaranteed_of table u)) e ∙ not_short_more (is_latency_critical table u) (booked_by table x u) (guaranteed_of table u) not_short
-
-pub lacking_still : (table : Table) (x y : List Action) (u : ℕ) → u < length table.tasks → IsOneMore table x y u → is_short table x u ≡ false →
-    lacking table y ≡ lacking table x
-lacking_still table x y u lt m not_short =
-    let but = sum_but_one (lacks table y) (lacks table x) u (length table.tasks) lt (λ w low ne. lacks_same table x y w (m.others w ne)) in
-    let before = lacks_none table x u not_short in
-    let after = lacks_none table y u (short_never table x y u m.books not_short) in
-    omega (arith, but, before, after)
+    omega (arith, before, all, most, none, low))
+    (cases_lt (booked_by table y u) (guaranteed_of table u))
 
 -- the open cores: a revocation of a held core, and what names no core's holder or ban
 open_at : (x y : List Action) (c : ℕ) → is_free (holder_of y c) ≡ is_free (holder_of x c) → is_banned y c ≡ is_banned x c → is_open y c ≡ is_open x c
@@ -193,15 +211,14 @@ pub open_unbanned : (table : Table) (x : List Action) (core : ℕ) → open_core
 open_unbanned table x core = count_le (is_open (x ++ Unban core ∷ [])) (is_open x) table.cores (λ c lt is. open_unbanned_at x core c is)
 
 -- and a ban opens none
-pub open_banned_most : (table : Table) (x : List Action) (core thread started : ℕ) → open_cores table (x ++ Ban core thread started ∷ []) ≤ open_cores table x
-open_banned_most table x core thread started =
-    count_le (is_open x) (is_open (x ++ Ban core thread started ∷ [])) table.cores (λ c lt is. go c is (cases_eq c core))
+pub open_banned_was : (x : List Action) (core thread started c : ℕ) → is_open (x ++ Ban core thread started ∷ []) c ≡ true → is_open x c ≡ true
+open_banned_was x core thread started c is = go (cases_eq c core)
   where
-    go : (c : ℕ) → is_open (x ++ Ban core thread started ∷ []) c ≡ true → (c ≡ core) ⊎ (c ≡ core → ⊥) → is_open x c ≡ true
-    go c is (inl e) =
+    go : (c ≡ core) ⊎ (c ≡ core → ⊥) → is_open x c ≡ true
+    go (inl e) =
         let y = x ++ Ban core thread started ∷ [] in
         let banned : is_banned y c ≡ true = rw e (ap is_some (ban_push x (Ban core thread started) core)
         ∙ ap (λ b. is_some (unwrap_or (cond b (Some (Some (record { thread = thread; started = started }))) None) (ban_of x core))) (eq-eqb core core refl)) in
         let shut : is_banned y c ≡ false = not-true (is_banned y c) (and_parts (is_free (holder_of y c)) (not (is_banned y c)) is).1 in
         let clash : true ≡ false = sym banned ∙ shut in cc
-    go c is (inr ne) = sym (open_banned_at x core thread started c ne) ∙ is
+    go (inr ne) = sym (open_banned_at x core thread started c ne) ∙ is

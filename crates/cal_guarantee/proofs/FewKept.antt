@@ -1,8 +1,7 @@
 -- Of a short task fewer open cores are kept than are lacking.
-use Rattle.cal_guarantee.proofs.Common.{◌≡◌, ℕ, ◌<◌, ◌≤◌, Bool, true, false, not, ◌&&◌, cond, eqb, ltb, List, [], ◌∷◌, length, Option, Some, None, refl, ap, sym, ◌∙◌, arith, ⊎_elim, zero, suc, cases_lt, and_parts, and_from, eqb-false, eq-eqb, ne_eqb, ltb-true, lt-ltb, not-true, not-false, option_or, sibling_of, Table, task_at, guaranteed_of, Action, Candidate, holder_of, last_thread, comes_before, Setting, count_below, best_below, better, idle_class, owed_to, is_task, owed_below, is_short, lacks, lacking, is_open, open_cores, waits_short, waits, is_kept, is_kept_for_short, may_take, open_class, owed_class, open_choice}
-use Rattle.cal_machine.specs.declared.task.Task.{Task}
+use Rattle.cal_guarantee.proofs.Common.{◌≡◌, ℕ, ◌<◌, ◌≤◌, Bool, true, false, not, ◌&&◌, cond, eqb, ltb, List, [], ◌∷◌, length, Option, Some, None, refl, ap, sym, ◌∙◌, arith, ⊎_elim, zero, suc, cases_lt, and_parts, and_from, eqb-false, eq-eqb, ne_eqb, ltb-true, lt-ltb, not-true, not-false, option_or, sibling_of, Table, task_at, guaranteed_of, Action, Candidate, holder_of, last_thread, comes_before, Setting, count_below, best_below, better, idle_class, owed_to, is_task, owed_below, is_short, lacks_waiting, lacking, needs, is_open, open_cores, waits_short, waits, is_kept, is_kept_for_short, may_take, open_class, owed_class, open_choice, Task}
 use Rattle.cal_guarantee.proofs.Sums.{sum_le, sum_but_one, covered, first_ones}
-use Rattle.cal_guarantee.proofs.Counts.{short_parts, lacks_short}
+use Rattle.cal_guarantee.proofs.Counts.{short_parts, lacks_short, waiting_lacks}
 
 duel_some : {X : Type 0} (b : Bool) (y z : X) → cond b (Some y) (Some z) ≡ None → ⊥
 duel_some true y z e = cc
@@ -21,7 +20,7 @@ best_missing beats f (suc n) k e lt =
     let both = better_none beats (best_below beats f n) (f n) n e in
     ⊎_elim (λ (l : k < n). best_missing beats f n k both.0 l) (λ (g : n ≤ k). let same : k ≡ n = omega (arith, g, lt) in rw same both.1) (cases_lt k n)
 
-or_none : {X : Type 0} (o p : Option X) → option_or o p ≡ None → (o ≡ None) × (p ≡ None)
+pub or_none : {X : Type 0} (o p : Option X) → option_or o p ≡ None → (o ≡ None) × (p ≡ None)
 or_none None p e = (refl, e)
 or_none (Some y) p e = cc
 
@@ -50,62 +49,69 @@ short_within table x u e = ⊎_elim
 
 -- why an open core is kept from a short task
 abbrev pub IsKeptShort : Setting → List Action → ℕ → ℕ → ℕ → Type 0
-IsKeptShort s x t c u = (owed_to x c ≡ Some u) × (u ≡ t → ⊥) × (is_short s.table x u ≡ true) × (owed_below x u c < lacks s.table x u)
+IsKeptShort s x t c u = (owed_to x c ≡ Some u) × (u ≡ t → ⊥) × (waits_short s x u ≡ true) × (owed_below x u c < needs s x u)
 
 kept_short : (s : Setting) (x : List Action) (t c : ℕ) (o : Option ℕ) → owed_to x c ≡ o → is_kept_for_short s x t c o ≡ true → (u : ℕ) × IsKeptShort s x t c u
 kept_short s x t c None there e = cc
 kept_short s x t c (Some u) there e =
-    let outer = and_parts (not (eqb u t) && waits_short s x u) (ltb (owed_below x u c) (lacks s.table x u)) e in
+    let outer = and_parts (not (eqb u t) && waits_short s x u) (ltb (owed_below x u c) (needs s x u)) e in
     let inner = and_parts (not (eqb u t)) (waits_short s x u) outer.0 in
-    let short = (and_parts (is_short s.table x u) (waits s x u) inner.1).0 in
-    (u, (there, (eqb-false u t (not-true (eqb u t) inner.0)), short, (ltb-true (owed_below x u c) (lacks s.table x u) outer.1)))
+    (u, (there, eqb-false u t (not-true (eqb u t) inner.0), inner.1, ltb-true (owed_below x u c) (needs s x u) outer.1))
+
+-- an open core that a short task may not take
+pub kept_why : (s : Setting) (x : List Action) (t c : ℕ) → is_short s.table x t ≡ true → open_choice s x t ≡ None → c < s.table.cores → is_open x c ≡ true → (u : ℕ) × IsKeptShort s x t c u
+kept_why s x t c short none low is =
+    let no = none_taken s x t c none low in
+    let kept : is_kept s x t c ≡ true = not-false (is_kept s x t c) (ap (λ b. b && not (is_kept s x t c)) (sym is) ∙ no) in
+    kept_short s x t c (owed_to x c) refl (kept_is kept)
+  where
+    kept_is : is_kept s x t c ≡ true → is_kept_for_short s x t c (owed_to x c) ≡ true
+    kept_is e = rw short at e
 
 -- task u, not t, counts core c among those that are kept for it
 abbrev counts : Setting → List Action → ℕ → ℕ → ℕ → Bool
-counts s x t u c = not (eqb u t) && is_task u (owed_to x c) && ltb (owed_below x u c) (lacks s.table x u)
+counts s x t u c = not (eqb u t) && is_task u (owed_to x c) && ltb (owed_below x u c) (lacks_waiting s x u)
 
 -- and so many at most: what it lacks
 abbrev others_lack : Setting → List Action → ℕ → ℕ → ℕ
-others_lack s x t u = cond (eqb u t) 0 (lacks s.table x u)
+others_lack s x t u = cond (eqb u t) 0 (lacks_waiting s x u)
 
 counts_first : (s : Setting) (x : List Action) (t u c : ℕ) → counts s x t u c ≡ true → (is_task u (owed_to x c) ≡ true) × (owed_below x u c < others_lack s x t u)
 counts_first s x t u c e =
-    let outer = and_parts (not (eqb u t) && is_task u (owed_to x c)) (ltb (owed_below x u c) (lacks s.table x u)) e in
+    let outer = and_parts (not (eqb u t) && is_task u (owed_to x c)) (ltb (owed_below x u c) (lacks_waiting s x u)) e in
     let inner = and_parts (not (eqb u t)) (is_task u (owed_to x c)) outer.0 in
-    let lt = ltb-true (owed_below x u c) (lacks s.table x u) outer.1 in
-    let is : others_lack s x t u ≡ lacks s.table x u = ap (λ b. cond b 0 (lacks s.table x u)) (not-true (eqb u t) inner.0) in
+    let lt = ltb-true (owed_below x u c) (lacks_waiting s x u) outer.1 in
+    let is : others_lack s x t u ≡ lacks_waiting s x u = ap (λ b. cond b 0 (lacks_waiting s x u)) (not-true (eqb u t) inner.0) in
     (inner.1, omega (arith, lt, is))
 
 counts_from : (s : Setting) (x : List Action) (t c u : ℕ) → IsKeptShort s x t c u → counts s x t u c ≡ true
 counts_from s x t c u k =
     let other : not (eqb u t) ≡ true = ap not (ne_eqb u t k.1) in
     let own : is_task u (owed_to x c) ≡ true = ap (is_task u) k.0 ∙ eq-eqb u u refl in
-    and_from (not (eqb u t) && is_task u (owed_to x c)) (ltb (owed_below x u c) (lacks s.table x u))
-    (and_from (not (eqb u t)) (is_task u (owed_to x c)) other own) (lt-ltb (owed_below x u c) (lacks s.table x u) k.3)
+    let low = k.3 in
+    let as_many = waiting_lacks s x u (and_parts (is_short s.table x u) (waits s x u) k.2).1 in
+    and_from (not (eqb u t) && is_task u (owed_to x c)) (ltb (owed_below x u c) (lacks_waiting s x u))
+    (and_from (not (eqb u t)) (is_task u (owed_to x c)) other own) (lt-ltb (owed_below x u c) (lacks_waiting s x u) (omega (arith, low, as_many)))
 
--- a short task that may take no open core: fewer are open than are lacking
-pub few_kept : (s : Setting) (x : List Action) (t : ℕ) → is_short s.table x t ≡ true → open_choice s x t ≡ None →
-    open_cores s.table x < lacking s.table x
-few_kept s x t short none =
+-- a short task that waits and may take no open core: fewer are open than are lacking
+pub few_kept : (s : Setting) (x : List Action) (t : ℕ) → is_short s.table x t ≡ true → waits s x t ≡ true → open_choice s x t ≡ None →
+    open_cores s.table x < lacking s x
+few_kept s x t short waiting none =
     let m = length s.table.tasks in
     let n = s.table.cores in
     let lt = short_within s.table x t short in
     let all = covered (is_open x) (counts s x t) m n (λ c low is. found c low is) in
     let each = sum_le (λ u. count_below (counts s x t u) n) (others_lack s x t) m
     (λ u low. (first_ones (counts s x t u) (λ lower. is_task u (owed_to x lower)) (others_lack s x t u) n (λ c l e. counts_first s x t u c e)).0) in
-    let but = sum_but_one (others_lack s x t) (lacks s.table x) t m lt
-    (λ u low ne. ap (λ b. cond b 0 (lacks s.table x u)) (ne_eqb u t ne)) in
-    let own : others_lack s x t t ≡ 0 = ap (λ b. cond b 0 (lacks s.table x t)) (eq-eqb t t refl) in
+    let but = sum_but_one (others_lack s x t) (lacks_waiting s x) t m lt
+    (λ u low ne. ap (λ b. cond b 0 (lacks_waiting s x u)) (ne_eqb u t ne)) in
+    let own : others_lack s x t t ≡ 0 = ap (λ b. cond b 0 (lacks_waiting s x t)) (eq-eqb t t refl) in
     let some = lacks_short s.table x t short in
     let less = (short_parts s.table x t short).1 in
-    omega (arith, all, each, but, own, some, less)
+    omega (arith, all, each, but, own, some, less, waiting_lacks s x t waiting)
   where
-    kept_is : (c : ℕ) → is_kept s x t c ≡ true → is_kept_for_short s x t c (owed_to x c) ≡ true
-    kept_is c e = rw short at e
-
     found : (c : ℕ) → c < s.table.cores → is_open x c ≡ true → (u : ℕ) × (u < length s.table.tasks) × (counts s x t u c ≡ true)
     found c low is =
-        let no = none_taken s x t c none low in
-        let kept : is_kept s x t c ≡ true = not-false (is_kept s x t c) (ap (λ b. b && not (is_kept s x t c)) (sym is) ∙ no) in
-        let why = kept_short s x t c (owed_to x c) refl (kept_is c kept) in
-        (why.0, short_within s.table x why.0 why.1.2, counts_from s x t c why.0 why.1)
+        let why = kept_why s x t c short none low is in
+        let own = (and_parts (is_short s.table x why.0) (waits s x why.0) why.1.2).0 in
+        (why.0, short_within s.table x why.0 own, counts_from s x t c why.0 why.1)

@@ -1,7 +1,6 @@
--- The run of four passes is legal, and in it a task waits to the last.
-use Rattle.cal_guarantee.proofs.Common.{◌≡◌, ℕ, ◌<◌, ◌≤◌, true, false, List, [], ◌∷◌, take, Some, slice_get, refl, ap, sym, ◌∙◌, subst, arith, zero, suc, All, IsTable, IsTask, task_of, owner_of, Revoke, Grant, PassEntry, actions_of, looks_of, holder_of, setting_of, so_far, is_leaving, WasLongRevoked, IsFreedIn, AsksOfPass, bounded_of, pass_of, IsPass, waits_short}
+-- The run of four passes is legal, and in it a task waits to the last, and is granted all that it needs there.
+use Rattle.cal_guarantee.proofs.Common.{◌≡◌, ℕ, ◌+◌, ◌<◌, ◌≤◌, true, false, List, [], ◌∷◌, take, Some, slice_get, refl, ap, sym, ◌∙◌, subst, arith, zero, suc, All, IsTable, IsTask, task_of, owner_of, Revoke, Grant, PassEntry, actions_of, looks_of, holder_of, setting_of, so_far, is_leaving, WasLongRevoked, IsFreedIn, AsksOfPass, bounded_of, pass_of, IsPass, waits_short, slice_index_or, granted_before, needs_at}
 use Rattle.std.proofs.lemmas.List.Elements.{All-cons}
-use Rattle.std.specs.Prelude.{slice_index_or}
 use Rattle.cal_signal.specs.declared.record.Record.{Record}
 use Rattle.cal_signal.specs.Records.{IsLater, IsShaped}
 use Rattle.cal_signal.specs.Shown.{IsFitShown}
@@ -9,7 +8,9 @@ use Rattle.cal_policy.specs.declared.history.action.Cause.TheVariants as causes
 use Rattle.cal_policy.specs.declared.history.look.Seen.{Seen}
 use Rattle.cal_policy.specs.History.Looks.{last_shown, look_of}
 use Rattle.cal_policy.specs.Judgement.Judging.{IsFitLook, IsInput, judged}
-use Rattle.cal_guarantee.specs.Example.{first_task, second_task, two_tasks, shown, first_pass, second_pass, third_pass, fourth_pass, four_passes, TheBoundIsReached}
+use Rattle.cal_guarantee.specs.Example.{first_task, second_task, two_tasks, shown, first_pass, second_pass, third_pass, fourth_pass, four_passes, TheBoundIsReached, TheWholeBoundIsReached}
+use Rattle.cal_assured.specs.Guarantee.{WaitsThrough}
+use Rattle.cal_guarantee.proofs.Given.{waits_from_to}
 
 -- each pass does what it says
 first_actions : pass_of (setting_of two_tasks [] first_pass) ≡ first_pass.actions
@@ -38,11 +39,12 @@ fit_same n a shaped = (shaped, record { not_below = omega arith; same = λ e. re
 shaped : (taken queued : ℕ) → IsShaped (shown taken queued)
 shaped taken queued = (omega arith, omega arith)
 
-three : (P : ℕ → Seen → Type 0) (a b c : Seen) → P 0 a → P 1 b → P 2 c → (k : ℕ) (seen : Seen) → slice_get (a ∷ b ∷ c ∷ []) k ≡ Some seen → P k seen
-three P a b c pa pb pc zero seen e = let same : a ≡ seen = cc in subst (λ x. P 0 x) same pa
-three P a b c pa pb pc (suc zero) seen e = let same : b ≡ seen = cc in subst (λ x. P 1 x) same pb
-three P a b c pa pb pc (suc (suc zero)) seen e = let same : c ≡ seen = cc in subst (λ x. P 2 x) same pc
-three P a b c pa pb pc (suc (suc (suc k))) seen e = cc
+four : (P : ℕ → Seen → Type 0) (a b c d : Seen) → P 0 a → P 1 b → P 2 c → P 3 d → (k : ℕ) (seen : Seen) → slice_get (a ∷ b ∷ c ∷ d ∷ []) k ≡ Some seen → P k seen
+four P a b c d pa pb pc pd zero seen e = let same : a ≡ seen = cc in subst (λ x. P 0 x) same pa
+four P a b c d pa pb pc pd (suc zero) seen e = let same : b ≡ seen = cc in subst (λ x. P 1 x) same pb
+four P a b c d pa pb pc pd (suc (suc zero)) seen e = let same : c ≡ seen = cc in subst (λ x. P 2 x) same pc
+four P a b c d pa pb pc pd (suc (suc (suc zero))) seen e = let same : d ≡ seen = cc in subst (λ x. P 3 x) same pd
+four P a b c d pa pb pc pd (suc (suc (suc (suc k)))) seen e = cc
 
 -- a look fits after these passes, and says what is judged of it
 abbrev Fits : List PassEntry → ℕ → Seen → Type 0
@@ -56,12 +58,13 @@ first_input = record {
   looks = record {
     looks = refl;
     rooms = refl;
-    fit = three (Fits []) _ _ _
+    fit = four (Fits []) _ _ _ _
         (fit_new 0 1 _ (shown 0 1) (omega arith) (omega arith, omega arith, omega arith) (shaped 0 1))
         (fit_new 0 1 _ (shown 0 1) (omega arith) (omega arith, omega arith, omega arith) (shaped 0 1))
+        (fit_new 0 1 _ (shown 0 0) (omega arith) (omega arith, omega arith, omega arith) (shaped 0 0))
         (fit_new 0 1 _ (shown 0 0) (omega arith) (omega arith, omega arith, omega arith) (shaped 0 0));
   };
-  as_judged = three (IsAsJudged []) _ _ _ refl refl refl;
+  as_judged = four (IsAsJudged []) _ _ _ _ refl refl refl refl;
 }
 
 second_input : IsInput two_tasks (first_pass ∷ []) second_pass.input
@@ -69,9 +72,10 @@ second_input = record {
   looks = record {
     looks = refl;
     rooms = refl;
-    fit = three (Fits (first_pass ∷ [])) _ _ _ (fit_same 1 (shown 0 1) (shaped 0 1)) (fit_same 1 (shown 0 1) (shaped 0 1)) (fit_same 1 (shown 0 0) (shaped 0 0));
+    fit = four (Fits (first_pass ∷ [])) _ _ _ _ (fit_same 1 (shown 0 1) (shaped 0 1)) (fit_same 1 (shown 0 1) (shaped 0 1))
+        (fit_same 1 (shown 0 0) (shaped 0 0)) (fit_same 1 (shown 0 0) (shaped 0 0));
   };
-  as_judged = three (IsAsJudged (first_pass ∷ [])) _ _ _ refl refl refl;
+  as_judged = four (IsAsJudged (first_pass ∷ [])) _ _ _ _ refl refl refl refl;
 }
 
 third_input : IsInput two_tasks (first_pass ∷ second_pass ∷ []) third_pass.input
@@ -79,10 +83,11 @@ third_input = record {
   looks = record {
     looks = refl;
     rooms = refl;
-    fit = three (Fits (first_pass ∷ second_pass ∷ [])) _ _ _ (fit_same 1 (shown 0 1) (shaped 0 1)) (fit_same 1 (shown 0 1) (shaped 0 1))
+    fit = four (Fits (first_pass ∷ second_pass ∷ [])) _ _ _ _ (fit_same 1 (shown 0 1) (shaped 0 1)) (fit_same 1 (shown 0 1) (shaped 0 1))
+        (fit_new 1 2 (shown 0 0) (shown 0 1) (omega arith) (omega arith, omega arith, omega arith) (shaped 0 1))
         (fit_new 1 2 (shown 0 0) (shown 0 1) (omega arith) (omega arith, omega arith, omega arith) (shaped 0 1));
   };
-  as_judged = three (IsAsJudged (first_pass ∷ second_pass ∷ [])) _ _ _ refl refl refl;
+  as_judged = four (IsAsJudged (first_pass ∷ second_pass ∷ [])) _ _ _ _ refl refl refl refl;
 }
 
 fourth_input : IsInput two_tasks (first_pass ∷ second_pass ∷ third_pass ∷ []) fourth_pass.input
@@ -90,11 +95,12 @@ fourth_input = record {
   looks = record {
     looks = refl;
     rooms = refl;
-    fit = three (Fits (first_pass ∷ second_pass ∷ third_pass ∷ [])) _ _ _
+    fit = four (Fits (first_pass ∷ second_pass ∷ third_pass ∷ [])) _ _ _ _
         (fit_new 1 2 (shown 0 1) (shown 2 0) (omega arith) (omega arith, omega arith, omega arith) (shaped 2 0))
-        (fit_same 1 (shown 0 1) (shaped 0 1)) (fit_same 2 (shown 0 1) (shaped 0 1));
+        (fit_new 1 2 (shown 0 1) (shown 2 0) (omega arith) (omega arith, omega arith, omega arith) (shaped 2 0))
+        (fit_same 2 (shown 0 1) (shaped 0 1)) (fit_same 2 (shown 0 1) (shaped 0 1));
   };
-  as_judged = three (IsAsJudged (first_pass ∷ second_pass ∷ third_pass ∷ [])) _ _ _ refl refl refl;
+  as_judged = four (IsAsJudged (first_pass ∷ second_pass ∷ third_pass ∷ [])) _ _ _ _ refl refl refl refl;
 }
 
 -- so the run is legal
@@ -135,11 +141,12 @@ accepted = record {
 }
 
 -- every ring has room
-rooms_of : (k : ℕ) → k < 3 → slice_index_or (true ∷ true ∷ true ∷ []) k false ≡ true
+rooms_of : (k : ℕ) → k < 4 → slice_index_or (true ∷ true ∷ true ∷ true ∷ []) k false ≡ true
 rooms_of zero lt = refl
 rooms_of (suc zero) lt = refl
 rooms_of (suc (suc zero)) lt = refl
-rooms_of (suc (suc (suc k))) lt = absurd (omega (arith, lt))
+rooms_of (suc (suc (suc zero))) lt = refl
+rooms_of (suc (suc (suc (suc k)))) lt = absurd (omega (arith, lt))
 
 -- the second task waits in the last two
 third_waits : waits_short (setting_of two_tasks (first_pass ∷ second_pass ∷ []) third_pass)
@@ -153,7 +160,7 @@ fourth_waits : waits_short (setting_of two_tasks (first_pass ∷ second_pass ∷
 unfolding task_of
 fourth_waits = refl
 
--- no core is being left where the third begins, and only core 0 where the fourth does
+-- no core is being left where the third begins, and both are freed in the fourth
 third_left : (c : ℕ) → c < 2 → WasLongRevoked four_passes 1 2 c → IsFreedIn third_pass c
 third_left zero lt w =
     let early = w.early in
@@ -169,11 +176,7 @@ third_left (suc (suc c)) lt w = absurd (omega (arith, lt))
 
 fourth_left : (c : ℕ) → c < 2 → WasLongRevoked four_passes 1 3 c → IsFreedIn fourth_pass c
 fourth_left zero lt w = record { place = 0; freed = refl }
-fourth_left (suc zero) lt w =
-    let early = w.early in
-    let left : is_leaving (holder_of (actions_of (first_pass ∷ second_pass ∷ third_pass ∷ [])) 1) ≡ true = w.left 3 (omega (arith, early)) (omega arith) in
-    let none : is_leaving (holder_of (actions_of (first_pass ∷ second_pass ∷ third_pass ∷ [])) 1) ≡ false = refl in
-    let clash : true ≡ false = sym left ∙ none in cc
+fourth_left (suc zero) lt w = record { place = 1; freed = refl }
 fourth_left (suc (suc c)) lt w = absurd (omega (arith, lt))
 
 asks_by : (q : ℕ) (entry : PassEntry) → 2 ≤ q → q ≤ 3 → slice_get four_passes q ≡ Some entry → AsksOfPass two_tasks four_passes 1 1 q entry
@@ -192,7 +195,8 @@ asks_by (suc (suc (suc (suc q)))) entry from to e = absurd (omega (arith, to))
 -- the third grants no core
 none_granted : (place core thread class : ℕ) → slice_get third_pass.actions place ≡ Some (Grant core thread class) → ⊥
 none_granted zero core thread class e = let clash : Revoke 0 (causes.Preempt 1) ≡ Grant core thread class = cc in cc
-none_granted (suc place) core thread class e = cc
+none_granted (suc zero) core thread class e = let clash : Revoke 1 (causes.Preempt 1) ≡ Grant core thread class = cc in cc
+none_granted (suc (suc place)) core thread class e = cc
 
 late_by : (q : ℕ) (entry : PassEntry) → 2 ≤ q → q < 3 → slice_get four_passes q ≡ Some entry → (place core thread class : ℕ) → slice_get entry.actions place ≡ Some (Grant core thread class) →
     owner_of two_tasks thread ≡ 1 → ⊥
@@ -203,15 +207,51 @@ late_by (suc (suc zero)) entry from to e place core thread class f own =
     none_granted place core thread class (ap (λ (one : PassEntry). slice_get one.actions place) same ∙ f)
 late_by (suc (suc (suc q))) entry from to e place core thread class f own = absurd (omega (arith, to))
 
+waits_last : WaitsThrough two_tasks four_passes 1 1 2
+waits_last = record {
+  accepted = accepted;
+  legal = record { passes = legal_by };
+  own = omega arith;
+  some = omega arith;
+  passes = omega arith;
+  each = λ q entry from to e. asks_by q entry from (omega (arith, to)) e;
+}
+
 pub bound_reached : TheBoundIsReached
 bound_reached = record {
-  waits = record {
-    accepted = accepted;
-    legal = record { passes = legal_by };
-    own = omega arith;
-    some = omega arith;
-    passes = omega arith;
-    each = λ q entry from to e. asks_by q entry from (omega (arith, to)) e;
-  };
+  waits = waits_last;
   late = λ q entry from to e place core thread class f own. late_by q entry from (omega (arith, to)) e place core thread class f own;
 }
+
+-- it needs both cores in the last two passes, and is granted none before the last
+third_needs : needs_at (setting_of two_tasks (first_pass ∷ second_pass ∷ []) third_pass) 1 ≡ 2
+unfolding task_of
+third_needs = refl
+
+fourth_needs : needs_at (setting_of two_tasks (first_pass ∷ second_pass ∷ third_pass ∷ []) fourth_pass) 1 ≡ 2
+unfolding task_of
+fourth_needs = refl
+
+none_early : granted_before two_tasks four_passes 1 3 ≡ granted_before two_tasks four_passes 1 2
+unfolding task_of
+none_early = refl
+
+needs_by : (q : ℕ) (entry : PassEntry) → 2 ≤ q → q ≤ 3 → slice_get four_passes q ≡ Some entry →
+    granted_before two_tasks four_passes 1 2 + 2 ≤ granted_before two_tasks four_passes 1 q + needs_at (setting_of two_tasks (take q four_passes) entry) 1
+needs_by zero entry from to e = absurd (omega (arith, from))
+needs_by (suc zero) entry from to e = absurd (omega (arith, from))
+needs_by (suc (suc zero)) entry from to e =
+    let same : third_pass ≡ entry = cc in
+    subst (λ (one : PassEntry). granted_before two_tasks four_passes 1 2 + 2 ≤ granted_before two_tasks four_passes 1 2 + needs_at (setting_of two_tasks (first_pass ∷ second_pass ∷ []) one) 1) same
+    (omega (arith, third_needs))
+needs_by (suc (suc (suc zero))) entry from to e =
+    let same : fourth_pass ≡ entry = cc in
+    subst (λ (one : PassEntry). granted_before two_tasks four_passes 1 2 + 2 ≤ granted_before two_tasks four_passes 1 3 + needs_at (setting_of two_tasks (first_pass ∷ second_pass ∷ third_pass ∷ []) one) 1) same
+    (omega (arith, fourth_needs, none_early))
+needs_by (suc (suc (suc (suc q)))) entry from to e = absurd (omega (arith, to))
+
+pub whole_bound_reached : TheWholeBoundIsReached
+whole_bound_reached = (
+  record { waits = waits_from_to two_tasks four_passes 1 1 2 waits_last; needs = λ q entry from to e. needs_by q entry from (omega (arith, to)) e },
+  none_early,
+)

@@ -1,6 +1,5 @@
 -- What one more action does to who has a core, and to the counts of cores.
-use Rattle.cal_guarantee.proofs.Common.{◌≡◌, ℕ, ◌+◌, ◌<◌, ◌⊎◌, Bool, cond, eqb, List, [], ◌∷◌, ◌++◌, Option, Some, None, refl, ap, sym, ◌∙◌, arith, inl, inr, cases_eq, eq-eqb, ne_eqb, unwrap_or, unwrap_if, Action, Unban, Ban, Revoke, Cap, Grant, Holder, holder_of, last_placement, placed, left_by, last_of, count_below, holder_push, granted_holder, owed_to, owed_made}
-use Rattle.cal_policy.specs.declared.history.action.Cause.{Cause}
+use Rattle.cal_guarantee.proofs.Common.{◌≡◌, ℕ, ◌+◌, ◌<◌, ◌⊎◌, Bool, cond, eqb, List, [], ◌∷◌, ◌++◌, Option, Some, None, refl, ap, sym, ◌∙◌, arith, inl, inr, cases_eq, eq-eqb, ne_eqb, unwrap_or, unwrap_if, Action, Unban, Ban, Revoke, Cap, Grant, Holder, holder_of, last_placement, placed, left_by, last_of, count_below, holder_push, granted_holder, owed_to, owed_made, Cause}
 use Rattle.cal_policy.specs.declared.board.holders.Placement as placements
 use Rattle.cal_policy.specs.declared.board.holders.Holder.TheVariants as holders
 use Rattle.cal_policy.proofs.ListLemmas.OneMore.{last_of_push, unwrap_or_or}

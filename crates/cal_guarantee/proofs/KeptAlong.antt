@@ -1,11 +1,12 @@
 -- What holds along the actions of a pass, where each keeps it.
-use Rattle.cal_guarantee.proofs.Common.{◌≡◌, ℕ, ◌<◌, ◌≤◌, true, false, not, ◌&&◌, ◌||◌, eqb, ltb, leb, List, [], ◌∷◌, ◌++◌, length, Some, ap, sym, ◌∙◌, subst, arith, ⊎_elim, append_assoc, append-nil, cases_Bool, and_parts, or_parts, false_from_ne_true, eqb-true, ne_eqb, ltb-true, leb-false, not-true, Table, owner_of, limit_of, guaranteed_of, is_latency_critical, threads_of_table, next_le, Action, Free, Unban, Ban, Revoke, Cap, Grant, holder_of, is_banned, last_placement, placed, placement_of, is_free, is_held, is_booked_for, held_by, booked_by, cap_of, Setting, so_far, EachAfter, may_book, IsSteady, held_le_booked, so_far_more, Steady_shrinks, Steady_grant, Shrinks_unban, Shrinks_ban, Shrinks_cap, Shrinks_revoke, pressing, is_short, lacking, is_open, open_cores, surplus, waits, waits_short, some_waits_short, are_lacked, is_kept, is_kept_for, may_take, owed_to}
+use Rattle.cal_guarantee.proofs.Common.{◌≡◌, ℕ, ◌<◌, ◌≤◌, Bool, true, false, not, ◌&&◌, ◌||◌, cond, eqb, ltb, leb, List, [], ◌∷◌, ◌++◌, length, Some, None, refl, ap, sym, ◌∙◌, subst, arith, ⊎_elim, append_assoc, append-nil, cases_Bool, and_parts, and_from, false_from_ne_true, eqb-true, ne_eqb, ltb-true, leb-false, not-true, Table, owner_of, limit_of, guaranteed_of, is_latency_critical, threads_of_table, next_le, Action, Free, Unban, Ban, Revoke, Cap, Grant, holder_of, is_banned, last_placement, last_thread, thread_granted, placed, placement_of, is_free, is_held, is_booked_for, held_by, booked_by, cap_of, Setting, so_far, EachAfter, may_book, is_granted_in, IsSteady, held_le_booked, so_far_more, Steady_shrinks, Steady_grant, Shrinks_unban, Shrinks_ban, Shrinks_cap, Shrinks_revoke, pressing, is_short, lacks, lacks_waiting, lacking, is_open, open_cores, surplus, waits, waits_short, some_waits_short, are_lacked, is_kept, may_take, last_thread_push, is_some, option_or, made_are}
+use Rattle.cal_policy.specs.declared.board.holders.Placement as placements
 use Rattle.cal_policy.specs.declared.board.holders.Holder.TheVariants as holders
 use Rattle.cal_guarantee.proofs.Sums.{count_some}
 use Rattle.cal_guarantee.proofs.Holders.{moves_revoke, moves_grant, stays_unban, stays_ban, stays_cap}
 use Rattle.cal_guarantee.proofs.Steps.{IsStep, IsRevokeStep, IsGrantStep}
-use Rattle.cal_guarantee.proofs.Counts.{booked_none, KeepsBooks, books_stay, books_left, books_chain, books_refl, lacking_same, short_same, short_parts, IsOneMore, books_granted, lacking_less, lacking_still, open_revoked, open_capped, open_granted, open_banned, open_banned_busy, open_banned_most, open_unbanned}
-use Rattle.cal_guarantee.proofs.Own.{IsSameFor, same_stay, same_moved, same_refl, same_chain, same_books, same_waits, thread_owner, waits_parts}
+use Rattle.cal_guarantee.proofs.Counts.{booked_none, KeepsBooks, books_stay, books_left, books_chain, books_refl, lacks_same, lacks_none, short_same, short_parts, IsOneMore, books_granted, waiting_lacks, waiting_most, lacking_most, lacking_less, one_less_lacks, open_revoked, open_capped, open_granted, open_banned, open_banned_busy, open_unbanned}
+use Rattle.cal_guarantee.proofs.Own.{is_new, IsSameFor, same_stay, same_moved, same_refl, same_back, same_chain, same_books, same_waits, thread_owner, waits_parts}
 
 -- what each action keeps holds after all
 pub along_acts : (Q : List Action → Action → Type 0) (P : List Action → Type 0) → ((acts : List Action) (a : Action) → Q acts a → P acts → P (acts ++ a ∷ [])) →
@@ -97,44 +98,81 @@ books_along U s acts more each steady =
     ))
     acts more each (steady, books_refl s.table (so_far s acts))
 
+-- an action that grants no core leaves which were granted in this pass
+pub new_push : (s : Setting) (acts : List Action) (a : Action) (c : ℕ) → thread_granted c acts a ≡ None → is_new s (so_far s acts ++ a ∷ []) c ≡ is_new s (so_far s acts) c
+new_push s acts a c e =
+    ap (λ l. is_new s l c) (sym (so_far_more s acts (a ∷ [])))
+    ∙ ap (λ l. is_granted_in l c) (made_are s (acts ++ a ∷ []))
+    ∙ ap is_some (last_thread_push acts a c ∙ ap (λ o. option_or o (last_thread acts c)) e)
+    ∙ sym (ap (λ l. is_granted_in l c) (made_are s acts))
+
 -- G gives no core to task t
 abbrev pub NotTo : (List Action → ℕ → Type 0) → ℕ → Type 0
 NotTo G t = (acts : List Action) (u : ℕ) → G acts u → u ≡ t → ⊥
 
--- no step but a grant to it changes which cores a short task has
-pub own_step : (U : Type 0) (G : List Action → ℕ → Type 0) (s : Setting) (t : ℕ) (acts : List Action) (a : Action) → NotTo G t → IsStep U G s acts a → IsSteady s.table (so_far s acts) →
-    is_short s.table (so_far s acts) t ≡ true → IsSameFor s.table t (so_far s acts) (so_far s acts ++ a ∷ [])
-own_step U G s t acts (Free core) other q was short = absurd q
-own_step U G s t acts (Unban core) other q was short = let x = so_far s acts in same_stay s.table t x (x ++ Unban core ∷ []) (stays_unban x core)
-own_step U G s t acts (Ban core thread started) other q was short = let x = so_far s acts in same_stay s.table t x (x ++ Ban core thread started ∷ []) (stays_ban x core thread started)
-own_step U G s t acts (Cap task cap) other q was short = let x = so_far s acts in same_stay s.table t x (x ++ Cap task cap ∷ []) (stays_cap x task cap)
-own_step U G s t acts (Revoke core cause) other q was short =
+-- a revocation is of no core of task t
+abbrev pub IsOffTask : Setting → ℕ → List Action → Action → Type 0
+IsOffTask s t acts (Free core) = Unit {0}
+IsOffTask s t acts (Unban core) = Unit {0}
+IsOffTask s t acts (Ban core thread started) = Unit {0}
+IsOffTask s t acts (Cap task cap) = Unit {0}
+IsOffTask s t acts (Revoke core cause) = (p : placements.Placement) → holder_of (so_far s acts) core ≡ holders.Held p → eqb (owner_of s.table p.thread) t ≡ false
+IsOffTask s t acts (Grant core thread class) = Unit {0}
+
+-- no step but a grant to it and a revocation of one of its changes which cores a task has
+pub own_step_off : (U : Type 0) (G : List Action → ℕ → Type 0) (s : Setting) (t : ℕ) (acts : List Action) (a : Action) → NotTo G t → IsStep U G s acts a → IsSteady s.table (so_far s acts) →
+    IsOffTask s t acts a → IsSameFor s t (so_far s acts) (so_far s acts ++ a ∷ [])
+own_step_off U G s t acts (Free core) other q was from = absurd q
+own_step_off U G s t acts (Unban core) other q was from = let x = so_far s acts in same_stay s t x (x ++ Unban core ∷ []) (stays_unban x core) (λ c. new_push s acts (Unban core) c refl)
+own_step_off U G s t acts (Ban core thread started) other q was from =
+    let x = so_far s acts in same_stay s t x (x ++ Ban core thread started ∷ []) (stays_ban x core thread started) (λ c. new_push s acts (Ban core thread started) c refl)
+own_step_off U G s t acts (Cap task cap) other q was from = let x = so_far s acts in same_stay s t x (x ++ Cap task cap ∷ []) (stays_cap x task cap) (λ c. new_push s acts (Cap task cap) c refl)
+own_step_off U G s t acts (Revoke core cause) other q was from =
     let x = so_far s acts in
-    let off = lost_another s acts core t q short in
-    same_moved s.table t x (x ++ Revoke core cause ∷ []) core (holders.Leaving q.loser cause) (moves_revoke x core cause q.loser (revoked_last s acts core q was))
-    (ap (is_booked_for s.table t) q.held ∙ off) off
-own_step U G s t acts (Grant core thread class) other q was short =
+    let off = from q.loser q.held in
+    same_moved s t x (x ++ Revoke core cause ∷ []) core (holders.Leaving q.loser cause) (moves_revoke x core cause q.loser (revoked_last s acts core q was))
+    (ap (is_booked_for s.table t) q.held ∙ off) off (λ c ne. new_push s acts (Revoke core cause) c refl)
+own_step_off U G s t acts (Grant core thread class) other q was from =
     let x = so_far s acts in
     let free = open_free x core (taken_open s x q.task core q.may).0 in
-    same_moved s.table t x (x ++ Grant core thread class ∷ []) core (holders.Held (placed x thread)) (moves_grant x core thread class) (booked_none s.table t (holder_of x core) free)
+    same_moved s t x (x ++ Grant core thread class ∷ []) core (holders.Held (placed x thread)) (moves_grant x core thread class) (booked_none s.table t (holder_of x core) free)
     (ap (λ u. eqb u t) (grant_owner G s acts core thread q) ∙ ne_eqb q.task t (other acts q.task q.good))
+    (λ c ne. new_push s acts (Grant core thread class) c (ap (λ b. cond b (Some thread) None) (ne_eqb core c (λ same. ne (sym same)))))
+
+-- no core of a short task is revoked
+pub short_off : (U : Type 0) (G : List Action → ℕ → Type 0) (s : Setting) (t : ℕ) (acts : List Action) (a : Action) → IsStep U G s acts a → is_short s.table (so_far s acts) t ≡ true → IsOffTask s t acts a
+short_off U G s t acts (Free core) q short = tt
+short_off U G s t acts (Unban core) q short = tt
+short_off U G s t acts (Ban core thread started) q short = tt
+short_off U G s t acts (Cap task cap) q short = tt
+short_off U G s t acts (Revoke core cause) q short = λ p held.
+    let both : holders.Held q.loser ≡ holders.Held p = sym q.held ∙ held in
+    let same : q.loser ≡ p = cc in
+    let P : placements.Placement → Type 0 = λ r. eqb (owner_of s.table r.thread) t ≡ false in
+    subst P same (lost_another s acts core t q short)
+short_off U G s t acts (Grant core thread class) q short = tt
+
+-- so no step but a grant to it changes which cores a short task has
+pub own_step : (U : Type 0) (G : List Action → ℕ → Type 0) (s : Setting) (t : ℕ) (acts : List Action) (a : Action) → NotTo G t → IsStep U G s acts a → IsSteady s.table (so_far s acts) →
+    is_short s.table (so_far s acts) t ≡ true → IsSameFor s t (so_far s acts) (so_far s acts ++ a ∷ [])
+own_step U G s t acts a other q was short = own_step_off U G s t acts a other q was (short_off U G s t acts a q short)
 
 -- steady; the task has the cores that it had after x, and is short
-abbrev Owns : Table → ℕ → List Action → List Action → Type 0
-Owns table t x y = IsSteady table y × IsSameFor table t x y × (is_short table y t ≡ true)
+abbrev Owns : Setting → ℕ → List Action → List Action → Type 0
+Owns s t x y = IsSteady s.table y × IsSameFor s t x y × (is_short s.table y t ≡ true)
 
 pub own_along : (U : Type 0) (G : List Action → ℕ → Type 0) (s : Setting) (t : ℕ) (acts more : List Action) → NotTo G t → EachAfter (IsStep U G s) acts more →
     IsSteady s.table (so_far s acts) → is_short s.table (so_far s acts) t ≡ true →
-    IsSteady s.table (so_far s (acts ++ more)) × IsSameFor s.table t (so_far s acts) (so_far s (acts ++ more)) × (is_short s.table (so_far s (acts ++ more)) t ≡ true)
+    IsSteady s.table (so_far s (acts ++ more)) × IsSameFor s t (so_far s acts) (so_far s (acts ++ more)) × (is_short s.table (so_far s (acts ++ more)) t ≡ true)
 own_along U G s t acts more other each steady short =
-    along s (IsStep U G s) (Owns s.table t (so_far s acts))
+    along s (IsStep U G s) (Owns s t (so_far s acts))
     (λ now a q was.
     let one = own_step U G s t now a other q was.0 was.2 in (
       steady_step U G s now a q was.0,
-      same_chain s.table t (so_far s acts) (so_far s now) (so_far s now ++ a ∷ []) was.1 one,
-      short_same s.table (so_far s now) (so_far s now ++ a ∷ []) t (same_books s.table t (so_far s now) (so_far s now ++ a ∷ []) one) ∙ was.2,
+      same_chain s t (so_far s acts) (so_far s now) (so_far s now ++ a ∷ []) was.1 one,
+      short_same s.table (so_far s now) (so_far s now ++ a ∷ []) t (same_books s t (so_far s now) (so_far s now ++ a ∷ []) one) ∙ was.2,
     ))
-    acts more each (steady, same_refl s.table t (so_far s acts), short)
+    acts more each (steady, same_refl s t (so_far s acts), short)
 
 -- a task that waits is one
 pub some_waits : (s : Setting) (x : List Action) (t : ℕ) → t < length s.table.tasks → waits_short s x t ≡ true → some_waits_short s x ≡ true
@@ -143,20 +181,14 @@ some_waits s x t lt e =
     ap not (ne_eqb _ 0 (λ none. omega (arith, some, none)))
 
 -- open cores that are not lacked are more than are lacking
-pub not_lacked : (s : Setting) (x : List Action) → some_waits_short s x ≡ true → are_lacked s x ≡ false → lacking s.table x < open_cores s.table x
+pub not_lacked : (s : Setting) (x : List Action) → some_waits_short s x ≡ true → are_lacked s x ≡ false → lacking s x < open_cores s.table x
 not_lacked s x some e =
-    let le : leb (open_cores s.table x) (lacking s.table x) ≡ false = ap (λ b. b && leb (open_cores s.table x) (lacking s.table x)) (sym some) ∙ e in
-    leb-false (open_cores s.table x) (lacking s.table x) le
-
--- where some are lacked, a task that is not short may take none
-pub lacked_kept : (s : Setting) (x : List Action) (u c : ℕ) → is_short s.table x u ≡ false → is_kept s x u c ≡ false → are_lacked s x ≡ false
-lacked_kept s x u c not_short e =
-    let other : (are_lacked s x || is_kept_for s x u (owed_to x c)) ≡ false = rw not_short at e in
-    (or_parts (are_lacked s x) (is_kept_for s x u (owed_to x c)) other).0
+    let le : leb (open_cores s.table x) (lacking s x) ≡ false = ap (λ b. b && leb (open_cores s.table x) (lacking s x)) (sym some) ∙ e in
+    leb-false (open_cores s.table x) (lacking s x) le
 
 -- as many cores are open as are lacking
-abbrev pub AreEnough : Table → List Action → Type 0
-AreEnough table x = lacking table x ≤ open_cores table x
+abbrev pub AreEnough : Setting → List Action → Type 0
+AreEnough s x = lacking s x ≤ open_cores s.table x
 
 -- and so it stays
 pub grant_one : (s : Setting) (G : List Action → ℕ → Type 0) (acts : List Action) (core thread class : ℕ) (q : IsGrantStep G s acts core thread) →
@@ -166,79 +198,102 @@ grant_one s G acts core thread class q =
     let P : ℕ → Type 0 = λ u. IsOneMore s.table x (x ++ Grant core thread class ∷ []) u in
     subst P (grant_owner G s acts core thread q) (books_granted s.table x core thread class q.low (open_free x core (taken_open s x q.task core q.may).0))
 
-pub enough_step : (U : Type 0) (G : List Action → ℕ → Type 0) (s : Setting) (acts : List Action) (a : Action) → IsStep U G s acts a → IsSteady s.table (so_far s acts) →
-    some_waits_short s (so_far s acts) ≡ true → AreEnough s.table (so_far s acts) → AreEnough s.table (so_far s acts ++ a ∷ [])
-enough_step U G s acts (Free core) q was some h = absurd q
-enough_step U G s acts (Unban core) q was some h =
+-- what a task books that is granted none
+pub books_other : (U : Type 0) (G : List Action → ℕ → Type 0) (s : Setting) (u : ℕ) (acts : List Action) (a : Action) → NotTo G u → IsStep U G s acts a → IsSteady s.table (so_far s acts) →
+    booked_by s.table (so_far s acts ++ a ∷ []) u ≡ booked_by s.table (so_far s acts) u
+books_other U G s u acts (Free core) other q was = absurd q
+books_other U G s u acts (Unban core) other q was = let x = so_far s acts in (books_stay s.table x (x ++ Unban core ∷ []) (stays_unban x core)).books u
+books_other U G s u acts (Ban core thread started) other q was = let x = so_far s acts in (books_stay s.table x (x ++ Ban core thread started ∷ []) (stays_ban x core thread started)).books u
+books_other U G s u acts (Cap task cap) other q was = let x = so_far s acts in (books_stay s.table x (x ++ Cap task cap ∷ []) (stays_cap x task cap)).books u
+books_other U G s u acts (Revoke core cause) other q was =
+    let x = so_far s acts in (books_left s.table x (x ++ Revoke core cause ∷ []) core q.loser cause (moves_revoke x core cause q.loser (revoked_last s acts core q was)) q.held).books u
+books_other U G s u acts (Grant core thread class) other q was = (grant_one s G acts core thread class q).others u (λ same. other acts q.task q.good (sym same))
+
+abbrev BooksAs : Setting → ℕ → List Action → List Action → Type 0
+BooksAs s u x y = IsSteady s.table y × (booked_by s.table y u ≡ booked_by s.table x u)
+
+pub other_along : (U : Type 0) (G : List Action → ℕ → Type 0) (s : Setting) (u : ℕ) (acts more : List Action) → NotTo G u → EachAfter (IsStep U G s) acts more → IsSteady s.table (so_far s acts) →
+    booked_by s.table (so_far s (acts ++ more)) u ≡ booked_by s.table (so_far s acts) u
+other_along U G s u acts more other each steady =
+    (along s (IsStep U G s) (BooksAs s u (so_far s acts))
+    (λ now a q was. (steady_step U G s now a q was.0, books_other U G s u now a other q was.0 ∙ was.1))
+    acts more each (steady, refl)).1
+
+-- it lacks no more where it waits
+lack_step : (U : Type 0) (G : List Action → ℕ → Type 0) (s : Setting) (u : ℕ) (acts : List Action) (a : Action) → u < length s.table.tasks → NotTo G u → IsStep U G s acts a → IsSteady s.table (so_far s acts) →
+    lacks_waiting s (so_far s acts ++ a ∷ []) u ≤ lacks_waiting s (so_far s acts) u
+lack_step U G s u acts a lt other q was = ⊎_elim
+    (λ short. of_short short (waits s y u) refl)
+    (λ not_short.
+    let none = lacks_none s.table y u (short_same s.table x y u books ∙ not_short) in
+    omega (arith, none, waiting_most s y u))
+    (cases_Bool (is_short s.table x u))
+  where
+    x : List Action
+    x = so_far s acts
+
+    y : List Action
+    y = so_far s acts ++ a ∷ []
+
+    books : booked_by s.table (so_far s acts ++ a ∷ []) u ≡ booked_by s.table (so_far s acts) u
+    books = books_other U G s u acts a other q was
+
+    of_short : is_short s.table (so_far s acts) u ≡ true → (b : Bool) → waits s (so_far s acts ++ a ∷ []) u ≡ b → lacks_waiting s (so_far s acts ++ a ∷ []) u ≤ lacks_waiting s (so_far s acts) u
+    of_short short false e = let none : lacks_waiting s (so_far s acts ++ a ∷ []) u ≡ 0 = ap (λ b. cond b (lacks s.table (so_far s acts ++ a ∷ []) u) 0) e in omega (arith, none)
+    of_short short true e =
+        let v = so_far s acts in
+        let w = so_far s acts ++ a ∷ [] in
+        let same = own_step U G s u acts a other q was short in
+        let there = and_from (is_short s.table w u) (waits s w u) (short_same s.table v w u books ∙ short) e in
+        let before = waits_parts s v u (same_waits s u w v lt (same_back s u v w same) there) in
+        omega (arith, waiting_lacks s w u e, waiting_lacks s v u before.1, lacks_same s.table v w u books)
+
+-- so no more is lacking after a step without a grant
+pub no_more_lacking : (U : Type 0) (s : Setting) (acts : List Action) (a : Action) → IsStep U NoGrant s acts a → IsSteady s.table (so_far s acts) → lacking s (so_far s acts ++ a ∷ []) ≤ lacking s (so_far s acts)
+no_more_lacking U s acts a q was = lacking_most s (so_far s acts) (so_far s acts ++ a ∷ []) (λ u lt. lack_step U NoGrant s u acts a lt (λ now w none same. none) q was)
+
+-- a grant is to a short task
+abbrev pub AreShort : (List Action → ℕ → Type 0) → Setting → Type 0
+AreShort G s = (acts : List Action) (u : ℕ) → G acts u → is_short s.table (so_far s acts) u ≡ true
+
+pub enough_step : (U : Type 0) (G : List Action → ℕ → Type 0) (s : Setting) (acts : List Action) (a : Action) → AreShort G s → IsStep U G s acts a → IsSteady s.table (so_far s acts) →
+    some_waits_short s (so_far s acts) ≡ true → AreEnough s (so_far s acts) → AreEnough s (so_far s acts ++ a ∷ [])
+enough_step U G s acts (Free core) shorts q was some h = absurd q
+enough_step U G s acts (Unban core) shorts q was some h = omega (arith, h, no_more_lacking U s acts (Unban core) q was, open_unbanned s.table (so_far s acts) core)
+enough_step U G s acts (Ban core thread started) shorts q was some h =
     let x = so_far s acts in
-    omega (arith, h, lacking_same s.table x (x ++ Unban core ∷ []) (books_stay s.table x (x ++ Unban core ∷ []) (stays_unban x core)), open_unbanned s.table x core)
-enough_step U G s acts (Ban core thread started) q was some h =
-    let x = so_far s acts in
-    let y = x ++ Ban core thread started ∷ [] in
-    let same = lacking_same s.table x y (books_stay s.table x y (stays_ban x core thread started)) in
+    let fewer = no_more_lacking U s acts (Ban core thread started) q was in
     ⊎_elim
     (λ (free : is_free (holder_of x core) ≡ true).
     let spared : are_lacked s x ≡ false = ap (λ b. b && are_lacked s x) (sym free) ∙ q.spared in
-    omega (arith, same, open_banned s.table x core thread started, not_lacked s x some spared))
-    (λ (busy : is_free (holder_of x core) ≡ false). omega (arith, h, same, open_banned_busy s.table x core thread started busy))
+    omega (arith, fewer, open_banned s.table x core thread started, not_lacked s x some spared))
+    (λ (busy : is_free (holder_of x core) ≡ false). omega (arith, h, fewer, open_banned_busy s.table x core thread started busy))
     (cases_Bool (is_free (holder_of x core)))
-enough_step U G s acts (Cap task cap) q was some h =
-    let x = so_far s acts in
-    omega (arith, h, lacking_same s.table x (x ++ Cap task cap ∷ []) (books_stay s.table x (x ++ Cap task cap ∷ []) (stays_cap x task cap)), open_capped s.table x task cap)
-enough_step U G s acts (Revoke core cause) q was some h =
-    let x = so_far s acts in
-    let y = x ++ Revoke core cause ∷ [] in
-    let last = revoked_last s acts core q was in
-    omega (arith, h, lacking_same s.table x y (books_left s.table x y core q.loser cause (moves_revoke x core cause q.loser last) q.held), open_revoked s.table x core cause q.loser last q.held)
-enough_step U G s acts (Grant core thread class) q was some h =
+enough_step U G s acts (Cap task cap) shorts q was some h = omega (arith, h, no_more_lacking U s acts (Cap task cap) q was, open_capped s.table (so_far s acts) task cap)
+enough_step U G s acts (Revoke core cause) shorts q was some h =
+    omega (arith, h, no_more_lacking U s acts (Revoke core cause) q was, open_revoked s.table (so_far s acts) core cause q.loser (revoked_last s acts core q was) q.held)
+enough_step U G s acts (Grant core thread class) shorts q was some h =
     let x = so_far s acts in
     let y = x ++ Grant core thread class ∷ [] in
     let taken = taken_open s x q.task core q.may in
     let one = grant_one s G acts core thread class q in
-    let less = open_granted s.table x core thread class q.low taken.0 in
-    ⊎_elim
-    (λ short. omega (arith, h, less, lacking_less s.table x y q.task q.own one short))
-    (λ not_short. omega (arith, less, lacking_still s.table x y q.task q.own one not_short, not_lacked s x some (lacked_kept s x q.task core not_short taken.1)))
-    (cases_Bool (is_short s.table x q.task))
-
--- fewer are open than are lacking
-abbrev pub AreFew : Table → List Action → Type 0
-AreFew table x = open_cores table x < lacking table x
-
--- then only short tasks are granted cores
-pub few_short : (s : Setting) (x : List Action) (u c : ℕ) → some_waits_short s x ≡ true → AreFew s.table x → may_take s x u c ≡ true → is_short s.table x u ≡ true
-few_short s x u c some few may = ⊎_elim
-    (λ short. short)
-    (λ not_short. absurd (omega (arith, few, not_lacked s x some (lacked_kept s x u c not_short (taken_open s x u c may).1))))
-    (cases_Bool (is_short s.table x u))
-
--- and so it stays, where no ban ends
-pub few_step : (G : List Action → ℕ → Type 0) (s : Setting) (acts : List Action) (a : Action) → IsStep ⊥ G s acts a → IsSteady s.table (so_far s acts) →
-    some_waits_short s (so_far s acts) ≡ true → AreFew s.table (so_far s acts) → AreFew s.table (so_far s acts ++ a ∷ [])
-few_step G s acts (Free core) q was some h = absurd q
-few_step G s acts (Unban core) q was some h = absurd q
-few_step G s acts (Ban core thread started) q was some h =
-    let x = so_far s acts in
-    let y = x ++ Ban core thread started ∷ [] in
-    omega (arith, h, lacking_same s.table x y (books_stay s.table x y (stays_ban x core thread started)), open_banned_most s.table x core thread started)
-few_step G s acts (Cap task cap) q was some h =
-    let x = so_far s acts in
-    omega (arith, h, lacking_same s.table x (x ++ Cap task cap ∷ []) (books_stay s.table x (x ++ Cap task cap ∷ []) (stays_cap x task cap)), open_capped s.table x task cap)
-few_step G s acts (Revoke core cause) q was some h =
-    let x = so_far s acts in
-    let y = x ++ Revoke core cause ∷ [] in
-    let last = revoked_last s acts core q was in
-    omega (arith, h, lacking_same s.table x y (books_left s.table x y core q.loser cause (moves_revoke x core cause q.loser last) q.held), open_revoked s.table x core cause q.loser last q.held)
-few_step G s acts (Grant core thread class) q was some h =
-    let x = so_far s acts in
-    let y = x ++ Grant core thread class ∷ [] in
-    let taken = taken_open s x q.task core q.may in
-    let one = grant_one s G acts core thread class q in
-    omega (arith, h, open_granted s.table x core thread class q.low taken.0, lacking_less s.table x y q.task q.own one (few_short s x q.task core some h q.may))
+    let own = one_less_lacks s x y q.task one (shorts acts q.task q.good) q.waiting in
+    let less = lacking_less s x y q.task q.own own (λ w low ne. lack_step U (λ now v. v ≡ w → ⊥) s w acts (Grant core thread class) low (λ now v off. off) (record {
+      task = q.task;
+      own = q.own;
+      number = q.number;
+      within = q.within;
+      thread_is = q.thread_is;
+      low = q.low;
+      waiting = q.waiting;
+      may = q.may;
+      good = λ same. ne (sym same);
+    }) was) in
+    omega (arith, h, less, open_granted s.table x core thread class q.low taken.0)
 
 -- what each step keeps while a task is short and waits, and no step gives it a core
 abbrev Lasts : Setting → ℕ → List Action → (List Action → Type 0) → List Action → Type 0
-Lasts s t x P y = Owns s.table t x y × P y
+Lasts s t x P y = Owns s t x y × P y
 
 pub with_along : (U : Type 0) (G : List Action → ℕ → Type 0) (s : Setting) (t : ℕ) (P : List Action → Type 0) → t < length s.table.tasks → NotTo G t →
     ((acts : List Action) (a : Action) → IsStep U G s acts a → IsSteady s.table (so_far s acts) → waits_short s (so_far s acts) t ≡ true → P (so_far s acts) → P (so_far s acts ++ a ∷ [])) →
@@ -253,19 +308,10 @@ with_along U G s t P lt other step acts more each steady waiting h =
     let waits_there = same_waits s t x (so_far s now) lt own.1 waiting in (
       (
         steady_step U G s now a q own.0,
-        same_chain s.table t x (so_far s now) (so_far s now ++ a ∷ []) own.1 one,
-        short_same s.table (so_far s now) (so_far s now ++ a ∷ []) t (same_books s.table t (so_far s now) (so_far s now ++ a ∷ []) one) ∙ own.2,
+        same_chain s t x (so_far s now) (so_far s now ++ a ∷ []) own.1 one,
+        short_same s.table (so_far s now) (so_far s now ++ a ∷ []) t (same_books s t (so_far s now) (so_far s now ++ a ∷ []) one) ∙ own.2,
       ),
       step now a q own.0 waits_there was.1,
     ))
-    acts more each ((steady, same_refl s.table t x, (waits_parts s x t waiting).0), h) in
+    acts more each ((steady, same_refl s t x, (waits_parts s x t waiting).0), h) in
     (end.0.0, same_waits s t x (so_far s (acts ++ more)) lt end.0.1 waiting, end.1)
-
--- as many open cores as are lacking stay so
-pub enough_along : (U : Type 0) (G : List Action → ℕ → Type 0) (s : Setting) (t : ℕ) → t < length s.table.tasks → NotTo G t →
-    (acts more : List Action) → EachAfter (IsStep U G s) acts more → IsSteady s.table (so_far s acts) → waits_short s (so_far s acts) t ≡ true → AreEnough s.table (so_far s acts) →
-    AreEnough s.table (so_far s (acts ++ more))
-enough_along U G s t lt other acts more each steady waiting h =
-    (with_along U G s t (AreEnough s.table) lt other
-    (λ now a q st w was. enough_step U G s now a q st (some_waits s (so_far s now) t lt w) was)
-    acts more each steady waiting h).2

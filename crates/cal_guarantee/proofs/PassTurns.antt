@@ -1,12 +1,12 @@
 -- A pass in which a task is short and waits where the grants begin: up to the turn of the task, the
 -- turn, and the rest.
-use Rattle.cal_guarantee.proofs.Common.{◌≡◌, ℕ, ◌<◌, ◌≤◌, Bool, true, false, cond, eqb, ltb, List, [], ◌++◌, length, Some, refl, ap, sym, ◌∙◌, subst, arith, ⊎_elim, append_assoc, zero, suc, append-nil, cases_Bool, cases_lt, eqb-true, lt-ltb, IsTable, is_latency_critical, Action, actions_of, in_turn, Setting, so_far, frees, EachAfter, IsSteady, lowest_passes, each_append, unbans, bans, is_short, waits_short, group_of, goes_before, place_of, task_in_place, grant_at, grant_in_place, grants_of_first, grants, unbanned_of, bounded_of, pass_of}
+use Rattle.cal_guarantee.proofs.Common.{◌≡◌, ℕ, ◌<◌, ◌≤◌, Bool, true, false, cond, eqb, ltb, List, [], ◌++◌, length, Some, refl, ap, sym, ◌∙◌, subst, arith, ⊎_elim, append_assoc, zero, suc, append-nil, cases_Bool, cases_lt, eqb-true, lt-ltb, IsTable, is_latency_critical, Action, actions_of, in_turn, Setting, so_far, frees, EachAfter, IsSteady, lowest_passes, each_append, unbans, bans, is_short, needs, waits_short, group_of, goes_before, place_of, task_in_place, act_of, act_in_place, turn_in_place, grants_of_first, grants, unbanned_of, bounded_of, pass_of, tasks_placed, place_lower}
 use Rattle.cal_policy.specs.Pass.Bandwidth.{bandwidth_part}
-use Rattle.cal_policy.proofs.AssuredLemmas.TurnOrder.{tasks_placed, place_lower}
-use Rattle.cal_guarantee.proofs.Steps.{IsStep, unbans_steps, bans_steps, bandwidth_steps, grants_steps, place_step}
+use Rattle.cal_guarantee.proofs.Steps.{IsStep, IsGoodTurn, unbans_steps, bans_steps, bandwidth_steps, act_steps, grants_steps, place_step}
+use Rattle.cal_guarantee.proofs.Acting.{acts_short}
 use Rattle.cal_guarantee.proofs.Counts.{short_same}
-use Rattle.cal_guarantee.proofs.Own.{same_back, same_waits, waits_parts}
-use Rattle.cal_guarantee.proofs.KeptAlong.{NoGrant, NotTo, books_along, own_along, with_along}
+use Rattle.cal_guarantee.proofs.Own.{IsSameFor, same_back, same_needs, same_waits, waits_parts}
+use Rattle.cal_guarantee.proofs.KeptAlong.{NoGrant, NotTo, along, steady_step, books_along, own_along, with_along}
 use Rattle.cal_guarantee.proofs.Freed.{frees_steady}
 
 -- the task in a place has that place
@@ -19,7 +19,7 @@ group_cases true critical e = cc
 group_cases false true e = omega arith
 group_cases false false e = omega arith
 
-short_first : (s : Setting) (x : List Action) (t u : ℕ) → is_short s.table x t ≡ true → is_short s.table x u ≡ false → goes_before s x t u ≡ true
+pub short_first : (s : Setting) (x : List Action) (t u : ℕ) → is_short s.table x t ≡ true → is_short s.table x u ≡ false → goes_before s x t u ≡ true
 short_first s x t u short not_short =
     let none : group_of s x t ≡ 0 = ap (λ b. cond b 0 (cond (is_latency_critical s.table t) 1 2)) short in
     let some = group_cases (is_short s.table x u) (is_latency_critical s.table u) not_short in
@@ -50,9 +50,17 @@ turns_from {X} Q f before m (suc n) le e = ⊎_elim
     (λ (g : suc n ≤ m). let same : m ≡ suc n = omega (arith, g, le) in ([], rw same (sym (append-nil (in_turn f before (suc n)))), tt))
     (cases_lt m (suc n))
 
--- the actions of a pass before the turn of task t
+-- the actions of a pass before the turn in this place
+abbrev pub up_to : Setting → ℕ → List Action
+up_to s place = bounded_of s ++ grants_of_first place s (bounded_of s)
+
+-- and before the turn of task t
 abbrev pub before_turn : Setting → ℕ → List Action
-before_turn s t = bounded_of s ++ grants_of_first (place_of s (so_far s (bounded_of s)) t) s (bounded_of s)
+before_turn s t = up_to s (place_of s (so_far s (bounded_of s)) t)
+
+-- and with it
+abbrev pub with_turn : Setting → ℕ → List Action
+with_turn s t = before_turn s t ++ turn_in_place s (before_turn s t) (Some t)
 
 -- a grant is to a task but t, and one that is short at its turn
 abbrev pub ToShortOther : Setting → ℕ → List Action → ℕ → Type 0
@@ -125,27 +133,111 @@ pub after_steps : (s : Setting) → IsTable s.table → EachAfter (IsStep (Unit 
 after_steps s ok =
     let P : List Action → Type 0 = λ now. EachAfter (IsStep (Unit {0}) ToAny s) now (grants s (bounded_of s)) in
     each_append (IsStep (Unit {0}) ToAny s) (frees s []) (middle_of s) (grants s (bounded_of s)) (middle_steps ToAny s ok)
-    (subst P (bounded_middle s) (grants_steps (Unit {0}) ToAny s (bounded_of s) (length s.table.tasks) ok (λ k u low e. tt)))
+    (subst P (bounded_middle s) (grants_steps (Unit {0}) ToAny s (bounded_of s) (length s.table.tasks) ok (λ k u low e n core lt may taken. tt)))
 
--- what comes after the turn, and the whole
-pub record IsTurn (s : Setting) (t : ℕ) : Type 0 where
+-- the turns of the places from m to n
+pub turns_between : (G : List Action → ℕ → Type 0) (s : Setting) (m n : ℕ) → IsTable s.table → m ≤ n →
+    ((k u : ℕ) → m ≤ k → k < n → task_in_place s (so_far s (bounded_of s)) k ≡ Some u → IsGoodTurn G s (up_to s k) u) →
+    (rest : List Action) × (up_to s n ≡ up_to s m ++ rest) × EachAfter (IsStep ⊥ G s) (up_to s m) rest
+turns_between G s m n ok le good =
+    let b = bounded_of s in
+    let x = so_far s b in
+    let f = λ (made : List Action) (place : ℕ). turn_in_place s made (task_in_place s x place) in
+    let more = turns_from (IsStep ⊥ G s) f b m n le (λ k from low. place_step ⊥ G s (up_to s k) ok (task_in_place s x k)
+    (λ u e. ((lowest_passes (λ w. eqb (place_of s x w) k) (length s.table.tasks) u e).0, good k u from low e))) in
+    (more.0, ap (λ g. b ++ g) more.1 ∙ sym (append_assoc b (in_turn f b m) more.0), more.2)
+
+-- with the turn in a place the next one begins
+pub after_place : (s : Setting) (k : ℕ) → up_to s (suc k) ≡ up_to s k ++ turn_in_place s (up_to s k) (task_in_place s (so_far s (bounded_of s)) k)
+after_place s k =
+    let b = bounded_of s in
+    let first = grants_of_first k s b in
+    sym (append_assoc b first (turn_in_place s (b ++ first) (task_in_place s (so_far s b) k)))
+
+pub after_own : (s : Setting) (u k : ℕ) → task_in_place s (so_far s (bounded_of s)) k ≡ Some u → up_to s (suc k) ≡ up_to s k ++ turn_in_place s (up_to s k) (Some u)
+after_own s u k e = after_place s k ∙ ap (λ o. up_to s k ++ turn_in_place s (up_to s k) o) e
+
+-- the turns before that of a task give it nothing
+pub to_place : (s : Setting) (u place : ℕ) → IsTable s.table → place_of s (so_far s (bounded_of s)) u ≡ place → EachAfter (IsStep ⊥ (ToOther u) s) (bounded_of s) (grants_of_first place s (bounded_of s))
+to_place s u place ok there =
+    let x = so_far s (bounded_of s) in
+    grants_steps ⊥ (ToOther u) s (bounded_of s) place ok
+    (λ k w low e n core lt may taken same. let wp = place_is s x k w e in let up : place_of s x w ≡ place = ap (place_of s x) same ∙ there in omega (arith, wp, up, low))
+
+-- what comes after the turn of task t, and the whole
+pub record IsTurn (G : List Action → ℕ → Type 0) (s : Setting) (t : ℕ) : Type 0 where
   pub rest : List Action
-  pub pass : pass_of s ≡ (before_turn s t ++ grant_at s (before_turn s t) t) ++ rest
-  pub each : EachAfter (IsStep ⊥ (ToOther t) s) (before_turn s t ++ grant_at s (before_turn s t) t) rest
+  pub pass : pass_of s ≡ with_turn s t ++ rest
+  pub each : EachAfter (IsStep ⊥ G s) (with_turn s t) rest
+
+pub the_rest : (G : List Action → ℕ → Type 0) (s : Setting) (t : ℕ) → IsTable s.table → t < length s.table.tasks →
+    ((k u : ℕ) → place_of s (so_far s (bounded_of s)) t < k → task_in_place s (so_far s (bounded_of s)) k ≡ Some u → IsGoodTurn G s (up_to s k) u) → IsTurn G s t
+the_rest G s t ok lt good =
+    let x = so_far s (bounded_of s) in
+    let mine = place_of s x t in
+    let there = tasks_placed s x t lt in
+    let more = turns_between G s (suc mine) (length s.table.tasks) ok there.place (λ k u from low e. good k u from e) in
+    let upto = after_own s t mine there.own in
+    let P : List Action → Type 0 = λ now. EachAfter (IsStep ⊥ G s) now more.0 in
+    record {
+      rest = more.0;
+      pass = more.1 ∙ ap (λ now. now ++ more.0) upto;
+      each = subst P upto more.2;
+    }
+
+-- the turn, after its first act
+pub record IsActed (s : Setting) (t : ℕ) : Type 0 where
+  pub rest : List Action
+  pub turn : with_turn s t ≡ (before_turn s t ++ act_of s (before_turn s t) t) ++ rest
+  pub each : EachAfter (IsStep ⊥ ToAny s) (before_turn s t ++ act_of s (before_turn s t) t) rest
+
+pub first_act : (s : Setting) (t : ℕ) → IsTable s.table → t < length s.table.tasks → IsActed s t
+first_act s t ok lt =
+    let now = before_turn s t in
+    let f = λ (made : List Action) (act : ℕ). act_in_place s made (Some t) in
+    let least = ok.machine.least in
+    let more = turns_from (IsStep ⊥ ToAny s) f now 1 s.table.cores (omega (arith, least))
+    (λ k from low. act_steps ⊥ ToAny s (now ++ in_turn f now k) t ok lt (λ core low_core may taken. tt)) in
+    let one : in_turn f now 1 ≡ act_of s now t = ap (λ l. act_of s l t) (append-nil now) in
+    let upto : now ++ in_turn f now 1 ≡ now ++ act_of s now t = ap (λ l. now ++ l) one in
+    let P : List Action → Type 0 = λ acts. EachAfter (IsStep ⊥ ToAny s) acts more.0 in
+    record {
+      rest = more.0;
+      turn = ap (λ g. now ++ g) more.1 ∙ sym (append_assoc now (in_turn f now 1) more.0) ∙ ap (λ acts. acts ++ more.0) upto;
+      each = subst P upto more.2;
+    }
+
+-- the rest of the pass
+pub the_turn : (s : Setting) (t : ℕ) → IsTable s.table → t < length s.table.tasks → IsTurn (ToOther t) s t
+the_turn s t ok lt =
+    let x = so_far s (bounded_of s) in
+    the_rest (ToOther t) s t ok lt
+    (λ k u from e n core low may taken same. let at = place_is s x k u e in let tp : place_of s x t ≡ k = ap (place_of s x) (sym same) ∙ at in omega (arith, tp, from))
+
+pub bounded_steady : (s : Setting) → IsTable s.table → IsSteady s.table (actions_of s.history) → IsSteady s.table (so_far s (bounded_of s))
+bounded_steady s ok steady =
+    let P : List Action → Type 0 = λ now. IsSteady s.table (so_far s now) in
+    subst P (sym (bounded_middle s)) (books_along (Unit {0}) s (frees s []) (middle_of s) (middle_steps NoGrant s ok) (frees_steady s steady)).0
+
+-- where a turn begins
+pub place_steady : (s : Setting) (k : ℕ) → IsTable s.table → IsSteady s.table (actions_of s.history) → IsSteady s.table (so_far s (up_to s k))
+place_steady s k ok steady = along s (IsStep ⊥ ToAny s) (IsSteady s.table) (λ now a q was. steady_step ⊥ ToAny s now a q was) (bounded_of s) (grants_of_first k s (bounded_of s))
+    (grants_steps ⊥ ToAny s (bounded_of s) k ok (λ place u low e n core lt may taken. tt)) (bounded_steady s ok steady)
+
+-- a short task is short at its own turn
+pub own_turn : (s : Setting) (u place : ℕ) → IsTable s.table → IsSteady s.table (actions_of s.history) → is_short s.table (so_far s (bounded_of s)) u ≡ true → place_of s (so_far s (bounded_of s)) u ≡ place →
+    is_short s.table (so_far s (up_to s place)) u ≡ true
+own_turn s u place ok steady short there =
+    (own_along ⊥ (ToOther u) s u (bounded_of s) (grants_of_first place s (bounded_of s)) (others u) (to_place s u place ok there) (bounded_steady s ok steady) short).2
 
 module _ (s : Setting) (t : ℕ) (ok : IsTable s.table) (lt : t < length s.table.tasks) (steady : IsSteady s.table (actions_of s.history))
     (waiting : waits_short s (so_far s (bounded_of s)) t ≡ true) where
   pub freed_steady : IsSteady s.table (so_far s (frees s []))
   freed_steady = frees_steady s steady
 
-  bounded_steady : IsSteady s.table (so_far s (bounded_of s))
-  bounded_steady =
-      let P : List Action → Type 0 = λ now. IsSteady s.table (so_far s now) in
-      subst P (sym (bounded_middle s)) (books_along (Unit {0}) s (frees s []) (middle_of s) (middle_steps NoGrant s ok) freed_steady).0
-
-  -- the task waits from the end of the first part on
-  pub freed_waits : waits_short s (so_far s (frees s [])) t ≡ true
-  freed_waits =
+  -- the task has the same cores from the end of the first part on
+  freed_same : IsSameFor s t (so_far s (frees s [])) (so_far s (bounded_of s))
+  freed_same =
       let x = so_far s (frees s []) in
       let y = so_far s (frees s [] ++ middle_of s) in
       let W : List Action → Type 0 = λ now. waits_short s (so_far s now) t ≡ true in
@@ -154,7 +246,15 @@ module _ (s : Setting) (t : ℕ) (ok : IsTable s.table) (lt : t < length s.table
       let books = (books_along (Unit {0}) s (frees s []) (middle_of s) each freed_steady).1 in
       let short : is_short s.table x t ≡ true = sym (short_same s.table x y t (books.books t)) ∙ (waits_parts s y t there).0 in
       let own = own_along (Unit {0}) NoGrant s t (frees s []) (middle_of s) (never_granted t) each freed_steady short in
-      same_waits s t y x lt (same_back s.table t x y own.1) there
+      let P : List Action → Type 0 = λ now. IsSameFor s t x (so_far s now) in
+      subst P (sym (bounded_middle s)) own.1
+
+  -- so it waits there, and needs as many
+  pub freed_waits : waits_short s (so_far s (frees s [])) t ≡ true
+  freed_waits = same_waits s t (so_far s (bounded_of s)) (so_far s (frees s [])) lt (same_back s t (so_far s (frees s [])) (so_far s (bounded_of s)) freed_same) waiting
+
+  pub freed_needs : needs s (so_far s (frees s [])) t ≡ needs s (so_far s (bounded_of s)) t
+  freed_needs = sym (same_needs s t (so_far s (frees s [])) (so_far s (bounded_of s)) lt freed_same)
 
   -- and to the end of the second
   pub unbanned_state : IsSteady s.table (so_far s (unbanned_of s)) × (waits_short s (so_far s (unbanned_of s)) t ≡ true)
@@ -163,25 +263,15 @@ module _ (s : Setting) (t : ℕ) (ok : IsTable s.table) (lt : t < length s.table
       (unbans_steps (Unit {0}) NoGrant s (frees s []) tt) freed_steady freed_waits tt in
       (end.0, end.1)
 
-  -- a short task is short at its own turn
-  own_turn : (u place : ℕ) → is_short s.table (so_far s (bounded_of s)) u ≡ true → place_of s (so_far s (bounded_of s)) u ≡ place →
-      is_short s.table (so_far s (bounded_of s ++ grants_of_first place s (bounded_of s))) u ≡ true
-  own_turn u place short there =
-      let x = so_far s (bounded_of s) in
-      (own_along ⊥ (ToOther u) s u (bounded_of s) (grants_of_first place s (bounded_of s)) (others u)
-      (grants_steps ⊥ (ToOther u) s (bounded_of s) place ok
-      (λ k w low e same. let wp = place_is s x k w e in let up : place_of s x w ≡ place = ap (place_of s x) same ∙ there in omega (arith, wp, up, low)))
-      bounded_steady short).2
-
   -- the turns before that of the task
   pub first_steps : (U : Type 0) → EachAfter (IsStep U (ToShortOther s t) s) (bounded_of s) (grants_of_first (place_of s (so_far s (bounded_of s)) t) s (bounded_of s))
   first_steps U =
       let x = so_far s (bounded_of s) in
       let mine = place_of s x t in
       grants_steps U (ToShortOther s t) s (bounded_of s) mine ok
-      (λ k u low e. let at = place_is s x k u e in (
+      (λ k u low e n core lt_core may taken. let at = place_is s x k u e in (
         (λ same. let tp : place_of s x t ≡ k = ap (place_of s x) (sym same) ∙ at in omega (arith, tp, low)),
-        own_turn u k (short_before s x t u lt (waits_parts s x t waiting).0 (omega (arith, at, low))) at,
+        acts_short s (up_to s k) u n (own_turn s u k ok steady (short_before s x t u lt (waits_parts s x t waiting).0 (omega (arith, at, low))) at) may,
       ))
 
   pub turn_steps : EachAfter (IsStep (Unit {0}) (ToShortOther s t) s) (unbanned_of s) (to_turn s t)
@@ -205,30 +295,3 @@ module _ (s : Setting) (t : ℕ) (ok : IsTable s.table) (lt : t < length s.table
       let end = with_along (Unit {0}) (ToShortOther s t) s t (λ x. Unit {0}) lt (short_others s t) (λ now a q st w was. tt) (unbanned_of s) (to_turn s t) turn_steps
       unbanned_state.0 unbanned_state.1 tt in
       subst P (sym (turn_late s t)) (end.0, end.1)
-
-  -- the turn, and the rest of the pass
-  pub the_turn : IsTurn s t
-  the_turn =
-      let b = bounded_of s in
-      let x = so_far s b in
-      let mine = place_of s x t in
-      let there = tasks_placed s x t lt in
-      let f = λ (made : List Action) (place : ℕ). grant_in_place s made (task_in_place s x place) in
-      let more = turns_from (IsStep ⊥ (ToOther t) s) f b (suc mine) (length s.table.tasks) there.place
-      (λ k from low. place_steps k (λ u e same. let at = place_is s x k u e in let tp : place_of s x t ≡ k = ap (place_of s x) (sym same) ∙ at in omega (arith, tp, from))) in
-      let first = grants_of_first mine s b in
-      let turn = grant_at s (before_turn s t) t in
-      let gives : f (b ++ first) mine ≡ turn = ap (grant_in_place s (b ++ first)) there.own in
-      let upto : b ++ in_turn f b (suc mine) ≡ before_turn s t ++ turn = ap (λ g. b ++ (first ++ g)) gives ∙ sym (append_assoc b first turn) in
-      let P : List Action → Type 0 = λ now. EachAfter (IsStep ⊥ (ToOther t) s) now more.0 in
-      record {
-        rest = more.0;
-        pass = ap (λ g. b ++ g) more.1 ∙ sym (append_assoc b (in_turn f b (suc mine)) more.0) ∙ ap (λ now. now ++ more.0) upto;
-        each = subst P upto more.2;
-      }
-    where
-      place_steps : (k : ℕ) → ((u : ℕ) → task_in_place s (so_far s (bounded_of s)) k ≡ Some u → u ≡ t → ⊥) →
-          EachAfter (IsStep ⊥ (ToOther t) s) (bounded_of s ++ grants_of_first k s (bounded_of s))
-          (grant_in_place s (bounded_of s ++ grants_of_first k s (bounded_of s)) (task_in_place s (so_far s (bounded_of s)) k))
-      place_steps k other = place_step ⊥ (ToOther t) s (bounded_of s ++ grants_of_first k s (bounded_of s)) ok (task_in_place s (so_far s (bounded_of s)) k)
-          (λ u e. ((lowest_passes (λ w. eqb (place_of s (so_far s (bounded_of s)) w) k) (length s.table.tasks) u e).0, other u e))

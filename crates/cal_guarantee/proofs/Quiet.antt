@@ -1,63 +1,56 @@
--- A pass that finds nothing to take leaves all calm; and where nothing is being left after the first
--- part, the next finds a core.
-use Rattle.cal_guarantee.proofs.Common.{◌≡◌, ℕ, ◌+◌, ◌<◌, ◌≤◌, true, false, not, List, [], ◌∷◌, ◌++◌, length, take, None, refl, ap, sym, ◌∙◌, subst, arith, ⊎_elim, zero, suc, append-nil, cases_Bool, and_from, eq-eqb, not-true, false_from_ne_true, Table, IsTable, no_task, owner_of, guaranteed_of, Action, Holder, actions_of, holder_of, is_banned, is_free, is_held_for, held_by, Setting, so_far, sum_below, frees, EachAfter, IsSteady, held_le_booked, is_leaving, unbans, is_short, lacks, lacking, is_open, open_cores, waits_short, open_choice, grant_at, unbanned_of, bounded_of, pass_of}
-use Rattle.std.proofs.lemmas.List.Sums.{sum_by_more, sum_by-take-le}
-use Rattle.std.specs.Prelude.{sum_by}
+-- All stays calm after the turn of a short task that may take no open core; and where nothing is being left
+-- and no free core is banned, as many cores are open as are lacking.
+use Rattle.cal_guarantee.proofs.Common.{◌≡◌, ℕ, ◌+◌, ◌<◌, ◌≤◌, true, false, not, List, ◌++◌, length, take, Some, None, refl, ap, sym, ◌∙◌, subst, arith, ⊎_elim, zero, suc, eqb, cases_Bool, and_from, eq-eqb, not-true, Table, IsTable, no_task, owner_of, guaranteed_of, Action, Holder, actions_of, holder_of, is_banned, is_free, is_held_for, held_by, Setting, so_far, sum_below, IsSteady, held_le_booked, is_leaving, lowest_passes, is_short, lacks, lacks_waiting, is_open, open_choice, task_in_place, place_of, acts_in_place, bounded_of, pass_of, sum_by_more, sum_by-take-le, sum_by, tasks_placed, place_lower}
 use Rattle.cal_policy.specs.declared.board.holders.Placement as placements
 use Rattle.cal_policy.specs.declared.board.holders.Holder.TheVariants as holders
 use Rattle.cal_policy.proofs.ListLemmas.OneNumberMore.{count_both}
 use Rattle.cal_guarantee.proofs.Sums.{sum_le, sum_add, covered}
-use Rattle.cal_guarantee.proofs.Steps.{IsStep, unbans_steps}
-use Rattle.cal_guarantee.proofs.Counts.{lacks_short, lacks_none}
-use Rattle.cal_guarantee.proofs.KeptAlong.{NoGrant, AreEnough, few_step, few_short, with_along, some_waits}
-use Rattle.cal_guarantee.proofs.Unbanned.{NoneBannedBelow, after_unbans}
-use Rattle.cal_guarantee.proofs.Calm.{IsCalm, NoneLeaves, Rests, held_owner, calm_step, calm_along, calm_choice, calm_frees, leaves_refl, leaves_chain}
-use Rattle.cal_guarantee.proofs.PassTurns.{before_turn, from_freed, turn_freed, ToOther, ToShortOther, others, freed_steady, freed_waits, freed_steps, turn_state, the_turn}
-use Rattle.cal_guarantee.proofs.Missed.{few_at_turn, enough_missed}
-use Rattle.cal_guarantee.proofs.Coming.{nothing_from}
+use Rattle.cal_guarantee.proofs.Steps.{IsGoodTurn, acts_steps}
+use Rattle.cal_guarantee.proofs.Acting.{acts_short}
+use Rattle.cal_guarantee.proofs.Counts.{lacks_short, lacks_none, waiting_most}
+use Rattle.cal_guarantee.proofs.KeptAlong.{AreEnough, taken_open}
+use Rattle.cal_guarantee.proofs.Unbanned.{NoneBannedBelow}
+use Rattle.cal_guarantee.proofs.Calm.{IsCalm, NoneLeaves, held_owner, calm_along}
+use Rattle.cal_guarantee.proofs.PassTurns.{up_to, with_turn, ToAny, ToShortOther, short_first, place_is, after_own, place_steady, own_turn, the_rest}
+use Rattle.cal_guarantee.proofs.NoneOpen.{were_along, none_open}
 
--- few open cores, and calm; nothing is being left that was not
-abbrev FewAndCalm : Table → List Action → List Action → Type 0
-FewAndCalm table x y = (open_cores table y < lacking table y) × IsCalm table y × NoneLeaves x y
-
+-- after the turn of a short task that may take no open core
 module _ (s : Setting) (t : ℕ) (ok : IsTable s.table) (lt : t < length s.table.tasks) (steady : IsSteady s.table (actions_of s.history))
-    (waiting : waits_short s (so_far s (bounded_of s)) t ≡ true) (none : open_choice s (so_far s (before_turn s t)) t ≡ None) where
-  -- from the turn to the end of the pass
-  pub rest_calm : grant_at s (before_turn s t) t ≡ [] → IsCalm s.table (so_far s (before_turn s t)) →
-      IsCalm s.table (so_far s (pass_of s)) × NoneLeaves (so_far s (before_turn s t)) (so_far s (pass_of s))
-  rest_calm gives calm =
-      let turn = the_turn s t ok lt steady waiting in
-      let now = before_turn s t in
-      let x = so_far s now in
-      let state = turn_state s t ok lt steady waiting in
-      let few = few_at_turn s t ok lt steady waiting none in
-      let here : now ++ grant_at s now t ≡ now = ap (λ more. now ++ more) gives ∙ append-nil now in
-      let E : List Action → Type 0 = λ acts. EachAfter (IsStep ⊥ (ToOther t) s) acts turn.rest in
-      let end = with_along ⊥ (ToOther t) s t (FewAndCalm s.table x) lt (others t)
-      (λ acts a q st w was.
-      let some = some_waits s (so_far s acts) t lt w in
-      let one = calm_step ⊥ (ToOther t) s acts a q st (λ core thread g. few_short s (so_far s acts) g.task core some was.0 g.may) was.1 in
-      (few_step (ToOther t) s acts a q st some was.0, one.0, leaves_chain x (so_far s acts) (so_far s acts ++ a ∷ []) was.2 one.1))
-      now turn.rest (subst E here turn.each) state.0 state.1 (few, calm, leaves_refl x) in
-      let P : List Action → Type 0 = λ all. IsCalm s.table (so_far s all) × NoneLeaves x (so_far s all) in
-      let whole : pass_of s ≡ now ++ turn.rest = turn.pass ∙ ap (λ acts. acts ++ turn.rest) here in
-      subst P (sym whole) (end.2.1, end.2.2)
+    (short : is_short s.table (so_far s (with_turn s t)) t ≡ true) (none : open_choice s (so_far s (with_turn s t)) t ≡ None) where
+  -- only short tasks are granted cores
+  rest_good : (k v : ℕ) → place_of s (so_far s (bounded_of s)) t < k → task_in_place s (so_far s (bounded_of s)) k ≡ Some v → IsGoodTurn (ToShortOther s t) s (up_to s k) v
+  rest_good k v from e n core low may taken =
+      let x = so_far s (bounded_of s) in
+      let at = place_is s x k v e in (
+        (λ same. let tp : place_of s x t ≡ k = ap (place_of s x) (sym same) ∙ at in omega (arith, tp, from)),
+        ⊎_elim
+            (λ (is : is_short s.table x v ≡ true). acts_short s (up_to s k) v n (own_turn s v k ok steady is at) may)
+            (λ (not_short : is_short s.table x v ≡ false). absurd (never at not_short))
+            (cases_Bool (is_short s.table x v)),
+      )
+    where
+      never : place_of s (so_far s (bounded_of s)) v ≡ k → is_short s.table (so_far s (bounded_of s)) v ≡ false → ⊥
+      never at not_short =
+          let x = so_far s (bounded_of s) in
+          let lt_v = (lowest_passes (λ w. eqb (place_of s x w) k) (length s.table.tasks) v e).0 in
+          let own = after_own s t (place_of s x t) (tasks_placed s x t lt).own in
+          let S : List Action → Type 0 = λ now. is_short s.table (so_far s now) t ≡ true in
+          let N : List Action → Type 0 = λ now. open_choice s (so_far s now) t ≡ None in
+          let now = acts_in_place n s (Some v) (up_to s k) in
+          let were = were_along ToAny s (up_to s k) now (acts_steps ⊥ ToAny s (up_to s k) v n ok lt_v (λ act c low_c may_c taken_c. tt)) (place_steady s k ok steady) in
+          let is = were.at core (taken_open s (so_far s (up_to s k ++ now)) v core taken).0 in
+          none_open s t ok lt steady (subst S (sym own) short) (subst N (sym own) none) k core from low
+          (λ u lt_u is_short_u. let less = place_lower s x u v lt_u (short_first s x u v is_short_u not_short) in omega (arith, less, at)) is
 
-  -- from the beginning to the end
-  pub quiet_pass : IsCalm s.table (actions_of s.history) → IsCalm s.table (so_far s (pass_of s)) × NoneLeaves (actions_of s.history) (so_far s (pass_of s))
-  quiet_pass calm =
-      let h = actions_of s.history in
-      let x = so_far s (frees s []) in
-      let first = calm_frees s calm in
-      let end = calm_along (Unit {0}) (ToShortOther s t) s (λ acts core thread g. g.good.1) (frees s []) (from_freed s t) (freed_steps s t ok lt steady waiting)
-      (freed_steady s t ok lt steady waiting) first.0 in
-      let P : List Action → Type 0 = λ now. Rests s.table x (so_far s now) in
-      let there : Rests s.table x (so_far s (before_turn s t)) = subst P (sym (turn_freed s t)) end in
-      let nothing = nothing_from s t ok lt steady waiting none (calm_choice s (before_turn s t) t ok there.0 there.1) in
-      let rest = rest_calm nothing.1 there.1 in
-      let y = so_far s (before_turn s t) in
-      let z = so_far s (pass_of s) in
-      (rest.0, leaves_chain h y z (leaves_chain h x y first.1 there.2) rest.1)
+  -- so all stays calm to the end of the pass
+  pub rest_calm : IsCalm s.table (so_far s (with_turn s t)) → IsSteady s.table (so_far s (with_turn s t)) →
+      IsCalm s.table (so_far s (pass_of s)) × NoneLeaves (so_far s (with_turn s t)) (so_far s (pass_of s))
+  rest_calm calm st =
+      let turn = the_rest (ToShortOther s t) s t ok lt rest_good in
+      let now = with_turn s t in
+      let end = calm_along ⊥ (ToShortOther s t) s (λ acts core thread g. g.good.1) now turn.rest turn.each st calm in
+      let P : List Action → Type 0 = λ all. IsCalm s.table (so_far s all) × NoneLeaves (so_far s now) (so_far s all) in
+      subst P (sym turn.pass) (end.1, end.2)
 
 -- what the tasks are guaranteed in all
 abbrev sum_of : Table → ℕ → ℕ
@@ -94,9 +87,10 @@ not_open x c stays open_is shut holders.Free e =
 not_open x c stays open_is shut (holders.Held p) e = (p, e)
 not_open x c stays open_is shut (holders.Leaving p cause) e = let clash : true ≡ false = sym (ap is_leaving e) ∙ stays in cc
 
-pub all_open : (table : Table) (x : List Action) → IsTable table → IsSteady table x → IsCalm table x → ((c : ℕ) → c < table.cores → is_leaving (holder_of x c) ≡ false) →
-    NoneBannedBelow x table.cores → AreEnough table x
-all_open table x ok steady calm stays below =
+pub all_open : (s : Setting) (x : List Action) → IsTable s.table → IsSteady s.table x → IsCalm s.table x → ((c : ℕ) → c < s.table.cores → is_leaving (holder_of x c) ≡ false) →
+    NoneBannedBelow x s.table.cores → AreEnough s x
+all_open s x ok steady calm stays below =
+    let table = s.table in
     let m = length table.tasks in
     let n = table.cores in
     let both = count_both (is_open x) n in
@@ -105,20 +99,7 @@ all_open table x ok steady calm stays below =
     let found = not_open x c (stays c low) (below c low) (not-true (is_open x c) shut) (holder_of x c) refl in
     let u = owner_of table found.0.thread in
     (u, held_owner table x c found.0 steady found.1, ap (is_held_for table u) found.1 ∙ eq-eqb u u refl)) in
-    let split = sum_add (lacks table x) (held_by table x) m in
-    let each = sum_le (λ u. lacks table x u + held_by table x u) (guaranteed_of table) m (λ u low. lacks_held table x u (calm.within u low)) in
+    let split = sum_add (lacks_waiting s x) (held_by table x) m in
+    let each = sum_le (λ u. lacks_waiting s x u + held_by table x u) (guaranteed_of table) m
+    (λ u low. omega (arith, waiting_most s x u, lacks_held table x u (calm.within u low))) in
     omega (arith, both, held, split, each, guaranteed_all table ok)
-
--- a pass that begins calm, and after whose first part nothing is being left, does not miss the task
-pub none_left : (s : Setting) (t : ℕ) (ok : IsTable s.table) (lt : t < length s.table.tasks) (steady : IsSteady s.table (actions_of s.history)) →
-    (waiting : waits_short s (so_far s (bounded_of s)) t ≡ true) → open_choice s (so_far s (before_turn s t)) t ≡ None → IsCalm s.table (actions_of s.history) →
-    ((c : ℕ) → c < s.table.cores → is_leaving (holder_of (so_far s (frees s [])) c) ≡ true → ⊥) → ⊥
-none_left s t ok lt steady waiting none calm gone =
-    let first = freed_steady s t ok lt steady waiting in
-    let first_waits = freed_waits s t ok lt steady waiting in
-    let x = so_far s (unbanned_of s) in
-    let end = calm_along (Unit {0}) NoGrant s (λ acts core thread g. absurd g.good) (frees s []) (unbans s (frees s [])) (unbans_steps (Unit {0}) NoGrant s (frees s []) tt) first (calm_frees s calm).0 in
-    enough_missed s t ok lt steady waiting none (⊎_elim
-    (λ enough. enough)
-    (λ below. all_open s.table x ok end.0 end.1 (λ c low. false_from_ne_true (is_leaving (holder_of x c)) (λ is. gone c low (end.2.before c is))) below)
-    (after_unbans s t (frees s []) lt first first_waits))

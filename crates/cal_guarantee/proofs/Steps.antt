@@ -1,7 +1,6 @@
 -- What each action of a pass rests on, at its own place.
-use Rattle.cal_guarantee.proofs.Common.{◌≡◌, ℕ, ◌<◌, ◌⊎◌, Bool, true, false, not, ◌&&◌, cond, eqb, ltb, List, [], ◌∷◌, ◌++◌, length, Option, Some, None, refl, ap, sym, ◌∙◌, subst, arith, inl, inr, ⊎_elim, All, zero, suc, ◌-◌, is_some, option_or, and_parts, eqb-true, eq-eqb, ltb-true, not-true, sibling_of, Table, IsTable, IsTask, task_at, owner_of, thread_of, limit_of, guaranteed_of, is_latency_critical, is_critical_kind, some_then, some_else, Action, Free, Unban, Ban, Revoke, Cap, Grant, CoreClass, Candidate, Holder, holder_of, ban_of, is_banned, last_thread, in_turn, comes_before, is_idle, class_number, is_free, is_held, is_held_for, held_by, booked_by, is_over, Setting, so_far, kept_now, has_room, is_held_with_room, best_below, EachAfter, thread_choice, grant_of, preempt_class, idle_class, is_granted_in, is_thread_for, thread_rank, highest_passes, lowest_passes, best_ranked, each_append, each_in_turn, so_far_more, unban_for, unban_at, unbans, due_for, bans_at, bans, owed_to, is_task, are_lacked, waits, may_take, open_class, owed_class, open_choice, held_class, held_choice, may_preempt, choice_for, grant_at, grant_in_place, grants_of_first, task_in_place, place_of}
+use Rattle.cal_guarantee.proofs.Common.{◌≡◌, ℕ, ◌<◌, ◌⊎◌, Bool, true, false, not, ◌&&◌, cond, eqb, ltb, List, [], ◌∷◌, ◌++◌, length, Option, Some, None, refl, ap, sym, ◌∙◌, subst, arith, inl, inr, ⊎_elim, All, zero, suc, ◌-◌, is_some, option_or, and_parts, eqb-true, eq-eqb, ltb-true, not-true, sibling_of, Table, IsTable, IsTask, task_at, owner_of, thread_of, limit_of, guaranteed_of, is_latency_critical, is_critical_kind, some_then, some_else, Action, Free, Unban, Ban, Revoke, Cap, Grant, CoreClass, Candidate, Holder, holder_of, ban_of, is_banned, last_thread, in_turn, comes_before, is_idle, class_number, is_free, is_held, is_held_for, held_by, booked_by, is_over, Setting, so_far, kept_now, has_room, is_held_with_room, best_below, EachAfter, thread_choice, grant_of, preempt_class, idle_class, is_granted_in, is_thread_for, thread_rank, highest_passes, lowest_passes, best_ranked, each_append, each_in_turn, so_far_more, unban_for, unban_at, unbans, due_for, bans_at, bans, owed_to, is_task, are_lacked, waits, may_take, open_class, owed_class, open_choice, held_class, held_choice, may_preempt, may_take_from, choice_for, may_act, act_of, act_in_place, acts_in_place, turn_in_place, grants_of_first, task_in_place, place_of, Task}
 use Rattle.std.proofs.lemmas.List.Elements.{All-head, All-tail}
-use Rattle.cal_machine.specs.declared.task.Task.{Task}
 use Rattle.cal_machine.specs.declared.task.Kind.{Kind}
 use Rattle.cal_machine.specs.declared.task.Kind.TheVariants as kinds
 use Rattle.cal_policy.specs.declared.history.action.Cause.TheVariants as causes
@@ -45,6 +44,14 @@ IsStep U G s acts (Ban core thread started) = IsBanStep s acts core
 IsStep U G s acts (Revoke core cause) = IsRevokeStep s acts core
 IsStep U G s acts (Cap task cap) = Unit {0}
 IsStep U G s acts (Grant core thread class) = IsGrantStep G s acts core thread
+
+-- G is known of each grant that an act of task t may make after these actions
+abbrev pub IsGood : (List Action → ℕ → Type 0) → Setting → List Action → ℕ → Type 0
+IsGood G s acts t = (core : ℕ) → core < s.table.cores → may_act s acts t ≡ true → may_take s (so_far s acts) t core ≡ true → G acts t
+
+-- and of each in its turn
+abbrev pub IsGoodTurn : (List Action → ℕ → Type 0) → Setting → List Action → ℕ → Type 0
+IsGoodTurn G s acts t = (n : ℕ) → IsGood G s (acts ++ acts_in_place n s (Some t) acts) t
 
 best_effort_kind : (kind : Kind) → is_critical_kind kind ≡ false → kind ≡ kinds.BestEffort
 best_effort_kind kinds.LatencyCritical e = cc
@@ -175,7 +182,7 @@ bandwidth_steps U G s acts ok = either_step (IsStep U G s) acts (ltb s.table.ban
     (cut_of_step U G s acts ok (victim_of s (so_far s acts)) refl) (rise_step U G s acts _)
 
 -- the last part: what is chosen
-or_some : {X : Type 0} (o p : Option X) (k : X) → option_or o p ≡ Some k → (o ≡ Some k) ⊎ ((o ≡ None) × (p ≡ Some k))
+pub or_some : {X : Type 0} (o p : Option X) (k : X) → option_or o p ≡ Some k → (o ≡ Some k) ⊎ ((o ≡ None) × (p ≡ Some k))
 or_some None p k e = inr (refl, e)
 or_some (Some y) p k e = inl e
 
@@ -204,16 +211,17 @@ open_taken s x t k e = ⊎_elim
     (found.0, open_class_taken s x t k.number k.rank found.1))
     (or_some (best_below comes_before (owed_class s x t) s.table.cores) (best_below comes_before (open_class s x t) s.table.cores) k e)
 
-preempt_cases : (critical over : Bool) (r : CoreClass) →
+pub preempt_cases : (critical over : Bool) (r : CoreClass) →
     cond (not critical) (Some classes.BestEffortBurstable) (cond over (Some classes.LatencyCriticalBurstable) None) ≡ Some r →
     (is_idle r ≡ false) × ((critical ≡ false) ⊎ (over ≡ true))
 preempt_cases false over r e = let same : classes.BestEffortBurstable ≡ r = cc in (ap is_idle (sym same), inl refl)
 preempt_cases true true r e = let same : classes.LatencyCriticalBurstable ≡ r = cc in (ap is_idle (sym same), inr refl)
 preempt_cases true false r e = cc
 
--- a core that is revoked: it is none of the idle ones, and held by a task that is over
+-- a core that is revoked: it is none of the idle ones, held by a task that is over, and was not granted in
+-- the pass
 abbrev pub IsLost : Setting → List Action → ℕ → CoreClass → Type 0
-IsLost s acts c r = (is_idle r ≡ false) × IsRevokeStep s acts c
+IsLost s acts c r = (is_idle r ≡ false) × IsRevokeStep s acts c × (is_granted_in acts c ≡ false)
 
 held_class_lost : (s : Setting) (acts : List Action) (t c : ℕ) (r : CoreClass) → IsTable s.table → c < s.table.cores →
     (h : Holder) → holder_of (so_far s acts) c ≡ h → held_class s acts t c h ≡ Some r → IsLost s acts c r
@@ -222,8 +230,10 @@ held_class_lost s acts t c r ok lt (holders.Held p) there e =
     let x = so_far s acts in
     let other = owner_of s.table p.thread in
     let over = ltb (booked_by s.table x t) (guaranteed_of s.table t) && not (eqb other t) && is_over s.table x other in
-    let class = (some_then (is_held_with_room s (holders.Held p) && not (is_granted_in acts c)) (preempt_class s.table x t other) r e).1 in
-    let found = preempt_cases (is_latency_critical s.table other) over r class in (
+    let both = some_then (is_held_with_room s (holders.Held p) && not (is_granted_in acts c) && may_take_from s x t other) (preempt_class s.table x t other) r e in
+    let may = and_parts (is_held_with_room s (holders.Held p) && not (is_granted_in acts c)) (may_take_from s x t other) both.0 in
+    let fresh = not-true (is_granted_in acts c) (and_parts (is_held_with_room s (holders.Held p)) (not (is_granted_in acts c)) may.0).1 in
+    let found = preempt_cases (is_latency_critical s.table other) over r both.1 in (
       found.0,
       record {
         loser = p;
@@ -234,6 +244,7 @@ held_class_lost s acts t c r ok lt (holders.Held p) there e =
             (and_parts (ltb (booked_by s.table x t) (guaranteed_of s.table t) && not (eqb other t)) (is_over s.table x other) is).1)
             found.1;
       },
+      fresh,
     )
 held_class_lost s acts t c r ok lt (holders.Leaving p cause) there e = cc
 
@@ -245,7 +256,7 @@ held_lost s acts t k ok e =
 
 -- what is made of a choice
 module _ (U : Type 0) (G : List Action → ℕ → Type 0) (s : Setting) (acts : List Action) (t : ℕ) (ok : IsTable s.table) (own : t < length s.table.tasks)
-    (waiting : waits s (so_far s acts) t ≡ true) (good : G acts t) where
+    (waiting : waits s (so_far s acts) t ≡ true) (good : IsGood G s acts t) (may : may_act s acts t ≡ true) where
   choice_cases : (thread : Candidate ℕ) (k : Candidate CoreClass) → thread_choice s (so_far s acts) t ≡ Some thread → choice_for s acts t ≡ Some k →
       ((is_idle k.rank ≡ true) × IsGrantStep G s acts k.number (thread_of s.table t thread.number)) ⊎ IsLost s acts k.number k.rank
   choice_cases thread k chosen e = ⊎_elim
@@ -262,11 +273,11 @@ module _ (U : Type 0) (G : List Action → ℕ → Type 0) (s : Setting) (acts :
           low = found.0;
           waiting = waiting;
           may = found.1.0;
-          good = good;
+          good = good k.number found.0 may found.1.0;
         },
       ))
-      (λ lost. inr (held_lost s acts t k ok (some_then (may_preempt s (so_far s acts) t) (held_choice s acts t) k lost.1).1).1)
-      (or_some (open_choice s (so_far s acts) t) (cond (may_preempt s (so_far s acts) t) (held_choice s acts t) None) k e)
+      (λ lost. inr (held_lost s acts t k ok (some_then (may_preempt s acts t) (held_choice s acts t) k lost.1).1).1)
+      (or_some (open_choice s (so_far s acts) t) (cond (may_preempt s acts t) (held_choice s acts t) None) k e)
 
   choice_step : (thread : Candidate ℕ) (k : Candidate CoreClass) →
       ((is_idle k.rank ≡ true) × IsGrantStep G s acts k.number (thread_of s.table t thread.number)) ⊎ IsLost s acts k.number k.rank →
@@ -283,15 +294,17 @@ module _ (U : Type 0) (G : List Action → ℕ → Type 0) (s : Setting) (acts :
   given_step (Some thread) None e f = tt
   given_step (Some thread) (Some k) e f = choice_step thread k (choice_cases thread k e f) (is_idle k.rank) refl
 
-turn_step : (U : Type 0) (G : List Action → ℕ → Type 0) (s : Setting) (acts : List Action) (t : ℕ) → IsTable s.table → t < length s.table.tasks → G acts t →
-    (b : Bool) → waits s (so_far s acts) t ≡ b → EachAfter (IsStep U G s) acts (cond b (grant_of s t (thread_choice s (so_far s acts) t) (choice_for s acts t)) [])
-turn_step U G s acts t ok own good true e = given_step U G s acts t ok own e good (thread_choice s (so_far s acts) t) (choice_for s acts t) refl refl
-turn_step U G s acts t ok own good false e = tt
+either_act : (U : Type 0) (G : List Action → ℕ → Type 0) (s : Setting) (acts : List Action) (t : ℕ) → IsTable s.table → t < length s.table.tasks → IsGood G s acts t →
+    (b : Bool) → (waits s (so_far s acts) t && may_act s acts t) ≡ b → EachAfter (IsStep U G s) acts (cond b (grant_of s t (thread_choice s (so_far s acts) t) (choice_for s acts t)) [])
+either_act U G s acts t ok own good true e =
+    let both = and_parts (waits s (so_far s acts) t) (may_act s acts t) e in
+    given_step U G s acts t ok own both.0 good both.1 (thread_choice s (so_far s acts) t) (choice_for s acts t) refl refl
+either_act U G s acts t ok own good false e = tt
 
--- the turn of a task
-pub grant_at_steps : (U : Type 0) (G : List Action → ℕ → Type 0) (s : Setting) (acts : List Action) (t : ℕ) → IsTable s.table → t < length s.table.tasks → G acts t →
-    EachAfter (IsStep U G s) acts (grant_at s acts t)
-grant_at_steps U G s acts t ok own good = turn_step U G s acts t ok own good (waits s (so_far s acts) t) refl
+-- an act of a task
+pub act_steps : (U : Type 0) (G : List Action → ℕ → Type 0) (s : Setting) (acts : List Action) (t : ℕ) → IsTable s.table → t < length s.table.tasks → IsGood G s acts t →
+    EachAfter (IsStep U G s) acts (act_of s acts t)
+act_steps U G s acts t ok own good = either_act U G s acts t ok own good (waits s (so_far s acts) t && may_act s acts t) refl
 
 -- what f gives in turn, each after what it gave before
 pub each_turn : {X : Type 0} (P : List X → X → Type 0) (f : List X → ℕ → List X) (before : List X) (n : ℕ) →
@@ -300,15 +313,27 @@ each_turn P f before zero e = tt
 each_turn P f before (suc n) e =
     each_append P before (in_turn f before n) (f (before ++ in_turn f before n) n) (each_turn P f before n (λ k lt. e k (omega arith))) (e n (omega arith))
 
+-- the acts of a task
+pub acts_steps : (U : Type 0) (G : List Action → ℕ → Type 0) (s : Setting) (acts : List Action) (t n : ℕ) → IsTable s.table → t < length s.table.tasks → IsGoodTurn G s acts t →
+    EachAfter (IsStep U G s) acts (acts_in_place n s (Some t) acts)
+acts_steps U G s acts t n ok own good = each_turn (IsStep U G s) (λ made act. act_in_place s made (Some t)) acts n
+    (λ k lt. act_steps U G s (acts ++ acts_in_place k s (Some t) acts) t ok own (good k))
+
+pub none_in_turn : (s : Setting) (acts : List Action) (n : ℕ) → acts_in_place n s None acts ≡ []
+none_in_turn s acts zero = refl
+none_in_turn s acts (suc n) = ap (λ l. l ++ []) (none_in_turn s acts n)
+
 pub place_step : (U : Type 0) (G : List Action → ℕ → Type 0) (s : Setting) (acts : List Action) → IsTable s.table → (o : Option ℕ) →
-    ((u : ℕ) → o ≡ Some u → (u < length s.table.tasks) × G acts u) → EachAfter (IsStep U G s) acts (grant_in_place s acts o)
-place_step U G s acts ok None e = tt
-place_step U G s acts ok (Some u) e = let is = e u refl in grant_at_steps U G s acts u ok is.0 is.1
+    ((u : ℕ) → o ≡ Some u → (u < length s.table.tasks) × IsGoodTurn G s acts u) → EachAfter (IsStep U G s) acts (turn_in_place s acts o)
+place_step U G s acts ok None e =
+    let P : List Action → Type 0 = λ l. EachAfter (IsStep U G s) acts l in
+    subst P (sym (none_in_turn s acts s.table.cores)) tt
+place_step U G s acts ok (Some u) e = let is = e u refl in acts_steps U G s acts u s.table.cores ok is.0 is.1
 
 -- the turns of the first so many tasks
 pub grants_steps : (U : Type 0) (G : List Action → ℕ → Type 0) (s : Setting) (acts : List Action) (n : ℕ) → IsTable s.table →
-    ((place u : ℕ) → place < n → task_in_place s (so_far s acts) place ≡ Some u → G (acts ++ grants_of_first place s acts) u) →
+    ((place u : ℕ) → place < n → task_in_place s (so_far s acts) place ≡ Some u → IsGoodTurn G s (acts ++ grants_of_first place s acts) u) →
     EachAfter (IsStep U G s) acts (grants_of_first n s acts)
-grants_steps U G s acts n ok h = each_turn (IsStep U G s) (λ made place. grant_in_place s made (task_in_place s (so_far s acts) place)) acts n
+grants_steps U G s acts n ok h = each_turn (IsStep U G s) (λ made place. turn_in_place s made (task_in_place s (so_far s acts) place)) acts n
     (λ k lt. place_step U G s (acts ++ grants_of_first k s acts) ok (task_in_place s (so_far s acts) k)
     (λ u e. ((lowest_passes (λ w. eqb (place_of s (so_far s acts) w) k) (length s.table.tasks) u e).0, h k u lt e)))

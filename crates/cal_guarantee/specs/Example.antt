@@ -1,4 +1,4 @@
--- A small run in which a task waits as the guarantee asks, and is granted a core no earlier than the
+-- A small run in which a task waits as the guarantee asks, and is granted its cores no earlier than the
 -- guarantee says.
 use Rattle.std.specs.Prelude.{◌≡◌, ◌≢◌, ℕ, ◌+◌, ◌<◌, ◌≤◌, true, List, [], ◌∷◌, Some, slice_get}
 use Rattle.cal_signal.specs.declared.record.Record.{Record}
@@ -13,15 +13,16 @@ use Rattle.cal_policy.specs.declared.history.entry.PassEntry.{PassEntry}
 use Rattle.cal_policy.specs.declared.history.look.Seen.{Seen}
 use Rattle.cal_policy.specs.declared.history.look.Seen.TheVariants.{Whole}
 use Rattle.cal_assured.specs.Guarantee.{WaitsThrough}
+use Rattle.cal_guarantee.specs.WholeGuarantee.{NeedsFromTo, granted_before}
 
--- a task that may have two cores, of which none is guaranteed to it, and one that is guaranteed one
+-- a task that may have two cores, of which none is guaranteed to it, and one that is guaranteed two
 abbrev pub first_task : Task
 first_task =
     record { kind = kinds.LatencyCritical; guaranteed = 0; limit = 2; delay = 0; request = 0 }
 
 abbrev pub second_task : Task
 second_task =
-    record { kind = kinds.LatencyCritical; guaranteed = 1; limit = 1; delay = 0; request = 0 }
+    record { kind = kinds.LatencyCritical; guaranteed = 2; limit = 2; delay = 0; request = 0 }
 
 -- both on two cores
 abbrev pub two_tasks : Table
@@ -43,14 +44,14 @@ shown taken queued = record {
   since = 0;
 }
 
--- a pass at tick 2 whose looks found this of the three threads, with room in each ring
-abbrev pub entry_of : Seen → Seen → Seen → List Action → PassEntry
-entry_of first second third actions = record {
+-- a pass at tick 2 whose looks found this of the four threads, with room in each ring
+abbrev pub entry_of : Seen → Seen → Seen → Seen → List Action → PassEntry
+entry_of first second third fourth actions = record {
   input = record {
     now = 2;
     bandwidth = 0;
-    seen = first ∷ second ∷ third ∷ [];
-    rooms = true ∷ true ∷ true ∷ [];
+    seen = first ∷ second ∷ third ∷ fourth ∷ [];
+    rooms = true ∷ true ∷ true ∷ true ∷ [];
   };
   actions = actions;
 }
@@ -58,23 +59,25 @@ entry_of first second third actions = record {
 -- the first task gets a core, and then the other
 abbrev pub first_pass : PassEntry
 first_pass =
-    entry_of (Whole 1 (shown 0 1)) (Whole 1 (shown 0 1)) (Whole 1 (shown 0 0)) (Grant 0 0 3 ∷ [])
+    entry_of (Whole 1 (shown 0 1)) (Whole 1 (shown 0 1)) (Whole 1 (shown 0 0)) (Whole 1 (shown 0 0))
+    (Grant 0 0 3 ∷ [])
 
 abbrev pub second_pass : PassEntry
 second_pass =
-    entry_of (Whole 1 (shown 0 1)) (Whole 1 (shown 0 1)) (Whole 1 (shown 0 0)) (Grant 1 1 1 ∷ [])
+    entry_of (Whole 1 (shown 0 1)) (Whole 1 (shown 0 1)) (Whole 1 (shown 0 0)) (Whole 1 (shown 0 0))
+    (Grant 1 1 1 ∷ [])
 
--- the other task has a request: a core is revoked for it
+-- each thread of the other task has a request: both cores are revoked for it
 abbrev pub third_pass : PassEntry
 third_pass =
-    entry_of (Whole 1 (shown 0 1)) (Whole 1 (shown 0 1)) (Whole 2 (shown 0 1))
-    (Revoke 0 (causes.Preempt 1) ∷ [])
+    entry_of (Whole 1 (shown 0 1)) (Whole 1 (shown 0 1)) (Whole 2 (shown 0 1)) (Whole 2 (shown 0 1))
+    (Revoke 0 (causes.Preempt 1) ∷ Revoke 1 (causes.Preempt 1) ∷ [])
 
--- the thread has left it, and the task is granted it
+-- the threads have left them, and the task is granted both
 abbrev pub fourth_pass : PassEntry
 fourth_pass =
-    entry_of (Whole 2 (shown 2 0)) (Whole 1 (shown 0 1)) (Whole 2 (shown 0 1))
-    (Free 0 ∷ Grant 0 2 3 ∷ [])
+    entry_of (Whole 2 (shown 2 0)) (Whole 2 (shown 2 0)) (Whole 2 (shown 0 1)) (Whole 2 (shown 0 1))
+    (Free 0 ∷ Free 1 ∷ Grant 0 2 3 ∷ Grant 1 3 1 ∷ [])
 
 abbrev pub four_passes : List PassEntry
 four_passes = first_pass ∷ second_pass ∷ third_pass ∷ fourth_pass ∷ []
@@ -89,3 +92,8 @@ pub record WaitsToTheLast (table : Table) (history : List PassEntry) (t d p : �
 -- so the guarantee's premises can be met, and its bound is exact
 abbrev pub TheBoundIsReached : Type 0
 TheBoundIsReached = WaitsToTheLast two_tasks four_passes 1 1 2
+
+-- and so for two cores: the task needs both through the last two passes, and is granted both by the last
+abbrev pub TheWholeBoundIsReached : Type 0
+TheWholeBoundIsReached = NeedsFromTo two_tasks four_passes 1 1 2 2
+    × (granted_before two_tasks four_passes 1 3 ≡ granted_before two_tasks four_passes 1 2)

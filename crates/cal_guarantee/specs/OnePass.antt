@@ -1,21 +1,20 @@
 -- One pass: who is short and waits does so up to its own turn, and how cores come to it.
-use Rattle.std.specs.Prelude.{◌≡◌, ◌↔◌, ℕ, ◌<◌, ◌≤◌, true, List, [], length, Some, None, slice_get}
+use Rattle.std.specs.Prelude.{◌≡◌, ◌↔◌, ℕ, ◌<◌, ◌≤◌, min, true, List, [], length, None}
 use Rattle.cal_machine.specs.Table.{IsTable}
-use Rattle.cal_machine.specs.TableTasks.{owner_of}
 use Rattle.cal_policy.specs.declared.history.action.Action.{Action}
-use Rattle.cal_policy.specs.declared.history.action.Action.TheVariants.{Grant}
 use Rattle.cal_policy.specs.Pass.Frees.{frees}
 use Rattle.cal_policy.specs.Setting.{Setting, so_far}
 use Rattle.cal_assured.specs.Laws.{made_before_turn}
-use Rattle.cal_policy.specs.Assured.Owed.{owed_to}
+use Rattle.cal_policy.specs.Assured.Owed.{owed_below}
 use Rattle.cal_policy.specs.Assured.Pass.{unbanned_of, bounded_of, pass_of, IsLegal}
 use Rattle.cal_policy.specs.Assured.Short.{is_short, lacking, open_cores, waits_short}
 use Rattle.cal_policy.specs.Assured.Taking.{open_choice}
+use Rattle.cal_guarantee.specs.WholeGuarantee.{granted_to, needs_at}
 
--- a short task that may take no open core: fewer are open than are lacking
+-- a short task that waits and may take no open core: fewer are open than are lacking
 abbrev pub FewCoresAreKept : Type 0
-FewCoresAreKept = (s : Setting) (x : List Action) (t : ℕ) → is_short s.table x t ≡ true →
-    open_choice s x t ≡ None → open_cores s.table x < lacking s.table x
+FewCoresAreKept = (s : Setting) (x : List Action) (t : ℕ) → waits_short s x t ≡ true →
+    open_choice s x t ≡ None → open_cores s.table x < lacking s x
 
 -- task t is short and waits where the grants of this pass begin, after a legal history
 pub record IsWaiting (s : Setting) (t : ℕ) : Type 0 where
@@ -41,22 +40,19 @@ abbrev pub WaitsLastToTheTurn : Type 0
 WaitsLastToTheTurn = (s : Setting) (t : ℕ) → IsWaiting s t →
     waits_short s (so_far s (made_before_turn s t)) t ≡ true
 
--- the pass grants a core to a thread of task t
-pub record IsServed (s : Setting) (t : ℕ) : Type 0 where
-  pub place : ℕ
-  pub core : ℕ
-  pub thread : ℕ
-  pub class : ℕ
-  pub granted : slice_get (pass_of s) place ≡ Some (Grant core thread class)
-  pub task : owner_of s.table thread ≡ t
-
--- where as many cores are open as are lacking after the second part, it does
+-- where as many cores are open as are lacking after the second part, the pass grants it as many as it
+-- needs
 abbrev pub OpenCoresCome : Type 0
 OpenCoresCome = (s : Setting) (t : ℕ) → IsWaiting s t →
-    lacking s.table (so_far s (unbanned_of s)) ≤ open_cores s.table (so_far s (unbanned_of s)) →
-    IsServed s t
+    lacking s (so_far s (unbanned_of s)) ≤ open_cores s.table (so_far s (unbanned_of s)) →
+    needs_at s t ≤ granted_to s.table t (pass_of s)
 
--- so it does where a core is owed to the task after the first part
+-- how many cores are owed to task t
+abbrev pub owed_cores : Setting → ℕ → List Action → ℕ
+owed_cores s t x = owed_below x t s.table.cores
+
+-- of the cores that are owed to it after the first part it is granted as many as it needs, or as many
+-- as there are
 abbrev pub OwedCoresCome : Type 0
-OwedCoresCome = (s : Setting) (t c : ℕ) → IsWaiting s t → c < s.table.cores →
-    owed_to (so_far s (frees s [])) c ≡ Some t → IsServed s t
+OwedCoresCome = (s : Setting) (t : ℕ) → IsWaiting s t →
+    min (owed_cores s t (so_far s (frees s []))) (needs_at s t) ≤ granted_to s.table t (pass_of s)

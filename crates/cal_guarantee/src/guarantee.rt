@@ -2,7 +2,9 @@
 
 ghost use Rattle.cal_assured.specs.Guarantee.{GuaranteesAreGiven};
 ghost use Rattle.cal_guarantee.specs.Enough.{FirstAndLastAreEnough};
-ghost use Rattle.cal_guarantee.specs.Example.{TheBoundIsReached};
+ghost use Rattle.cal_guarantee.specs.Example.{TheBoundIsReached, TheWholeBoundIsReached};
+ghost use Rattle.cal_guarantee.specs.Honest.{HonestWaitsStay};
+ghost use Rattle.cal_guarantee.specs.WholeGuarantee.{GuaranteesAreGivenWhole};
 
 /// Let a latency-critical task be short and wait where the grants of each of the passes `p` to
 /// `p + d` begin, `d` at least 1. Let every ring have room in them; and let each core that is being
@@ -22,9 +24,30 @@ pub fn first_and_last_are_enough()
     ensures { FirstAndLastAreEnough }
 {}
 
+/// The same, whole. Let the task need `n` cores in each of these passes: where its grants begin, what
+/// it could be granted there, and what it was granted since pass `p` began, come to `n` at least. It
+/// could be granted as many cores as it lacks, has late threads for, and has threads on no core for.
+/// Then in these passes `n` cores are granted to its threads.
+pub fn guarantees_are_given_whole()
+    ensures { GuaranteesAreGivenWhole }
+{}
+
+/// An honest wait does not come and go. Let a request of a thread be late in one pass, and clocks not
+/// fall from then on. In each later pass in which the thread shows it still, is on no core where the
+/// grants begin and has room in its ring, its task waits there if it is short.
+pub fn honest_waits_stay()
+    ensures { HonestWaitsStay }
+{}
+
 /// The guarantee's premises can be met, and its bound is exact. In a run of four passes on two cores
-/// a task waits through the last two, with `d` of 1: the first of them revokes a core for it, and
-/// the second grants it one.
+/// a task waits through the last two, with `d` of 1: the first of them revokes both cores for it, and
+/// the second grants it them.
 pub fn the_bound_is_reached()
     ensures { TheBoundIsReached }
+{}
+
+/// The same of the whole guarantee: in this run the task needs two cores, and is granted both by the
+/// last pass, and none before it.
+pub fn the_whole_bound_is_reached()
+    ensures { TheWholeBoundIsReached }
 {}

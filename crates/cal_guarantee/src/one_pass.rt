@@ -3,6 +3,7 @@
 ghost use Rattle.cal_guarantee.specs.OnePass.{ShortLastsToTheTurn, WaitsLastToTheGrants};
 ghost use Rattle.cal_guarantee.specs.OnePass.{WaitsLastToTheTurn, FewCoresAreKept};
 ghost use Rattle.cal_guarantee.specs.OnePass.{OpenCoresCome, OwedCoresCome};
+ghost use Rattle.cal_guarantee.specs.OpenCores.{NothingIsKeptFromEverybody};
 
 /// Whether a task is short is the same after the first part of a pass and at its own turn.
 pub fn short_lasts_to_the_turn()
@@ -20,21 +21,27 @@ pub fn waits_last_to_the_turn()
     ensures { WaitsLastToTheTurn }
 {}
 
-/// If a short task may take no open core, then fewer cores are open than are lacking: of each other
-/// short task that waits, at most as many are kept from it as that one lacks.
+/// If a short task that waits may take no open core, then fewer cores are open than are lacking: of
+/// each other short task that waits, at most as many are kept from it as that one lacks.
 pub fn few_cores_are_kept()
     ensures { FewCoresAreKept }
 {}
 
 /// A task is short and waits where the grants begin. If as many cores were open as were lacking
-/// after the second part of the pass, the pass grants the task one: no ban takes a core that is
-/// lacking, and neither does a task that is not short.
+/// after the second part of the pass, the pass grants the task as many as it needs: no ban takes a
+/// core that is lacking, and neither does a task that is not short.
 pub fn open_cores_come()
     ensures { OpenCoresCome }
 {}
 
-/// A task is short and waits where the grants begin. If a core was owed to it after the first part
-/// of the pass, the pass grants the task one.
+/// A task is short and waits where the grants begin. Of the cores that were owed to it after the first
+/// part of the pass, the pass grants it as many as it needs, or as many as there were.
 pub fn owed_cores_come()
     ensures { OwedCoresCome }
+{}
+
+/// Nothing is kept from everybody: if a core is open after a pass, and a task waits that was granted
+/// none in it, then the core is owed to another task, which was granted one.
+pub fn nothing_is_kept_from_everybody()
+    ensures { NothingIsKeptFromEverybody }
 {}

@@ -1,5 +1,5 @@
 -- A pass of the second policy goes by what the passes before left. Nothing else here is of it.
-use Rattle.std.proofs.Common.{◌≡◌, ℕ, ◌+◌, ◌&&◌, ◌||◌, true, false, not, cond, eqb, nat_lt, nat_le, List, [], ◌∷◌, length, Option, Some, None, refl, ap, ◌∙◌}
+use Rattle.std.proofs.Common.{◌≡◌, ℕ, ◌+◌, ◌&&◌, ◌||◌, Bool, true, false, not, cond, eqb, nat_lt, nat_le, min, drop, List, [], ◌∷◌, length, Option, Some, None, refl, ap, ◌∙◌}
 use Rattle.std.specs.Option.{is_some, option_or}
 use Rattle.cal_machine.specs.Machine.{sibling_of}
 use Rattle.cal_machine.specs.TableTasks.{owner_of, thread_of, limit_of, delay_of, is_latency_critical}
@@ -15,20 +15,21 @@ use Rattle.cal_policy.specs.History.Lists.{in_turn}
 use Rattle.cal_policy.specs.Board.Counts.{is_free, held_by}
 use Rattle.cal_policy.specs.Pass.Bandwidth.{bandwidth_part}
 use Rattle.cal_policy.specs.Pass.Bans.{still_shows, ban_for}
-use Rattle.cal_policy.specs.Pass.Choice.{count_below, best_below, lowest_below}
+use Rattle.cal_policy.specs.Pass.Choice.{count_below, sum_below, best_below, lowest_below}
 use Rattle.cal_policy.specs.Pass.Frees.{frees}
 use Rattle.cal_policy.specs.Pass.Grants.{thread_choice, may_book, idle_class, preempt_class, is_granted_in, grant_of}
 use Rattle.cal_policy.specs.Setting.{so_far, is_held_with_room}
-use Rattle.cal_policy.specs.Assured.Grants.{grant_at, grant_in_place, grants}
+use Rattle.cal_policy.specs.Assured.Acted.{has_acted}
+use Rattle.cal_policy.specs.Assured.Grants.{act_of, act_in_place, turn_in_place, grants}
 use Rattle.cal_policy.specs.Assured.Hyperthreads.{unban_for, unban_at, unbans, due_for, bans_at, bans}
-use Rattle.cal_policy.specs.Assured.InFlight.{is_untaken, is_in_flight, is_late, pressing, helpers, coming}
+use Rattle.cal_policy.specs.Assured.InFlight.{is_untaken, is_in_flight, is_late, pressing, helpers, is_new_in_flight, new_helpers, coming}
 use Rattle.cal_policy.specs.Assured.Order.{group_of, is_later, is_rather, goes_before, place_of, task_in_place}
 use Rattle.cal_policy.specs.Assured.Owed.{owed_to, is_task, owed_below}
 use Rattle.cal_policy.specs.Assured.Pass.{pass_of}
-use Rattle.cal_policy.specs.Assured.Short.{is_short, lacks, lacking, is_open, open_cores, surplus, waits, waits_short, some_waits_short, are_lacked, are_wanted}
-use Rattle.cal_policy.specs.Assured.Taking.{is_kept_for, is_kept_for_short, is_kept, open_class, open_choice, held_class, held_choice, may_preempt, choice_for}
+use Rattle.cal_policy.specs.Assured.Short.{is_short, lacks, lacking, needs, is_open, open_cores, surplus, waits, waits_short, some_waits_short, are_lacked, are_wanted}
+use Rattle.cal_policy.specs.Assured.Taking.{is_kept_for, is_kept_for_short, is_kept, open_class, open_choice, held_class, held_choice, fewer_come, may_take_from, more_press, may_preempt, choice_for}
 use Rattle.cal_idle.proofs.Pair.{Pair, first, second, so_far_same, kept_same, part_same}
-use Rattle.cal_idle.proofs.CaladanPass.{frees_same, due_same, ban_for_same, bandwidth_same, delay_same, task_delay_same, choice_same, grant_of_same}
+use Rattle.cal_idle.proofs.CaladanPass.{frees_same, due_same, ban_for_same, bandwidth_same, delay_same, task_delay_same, thread_rank_same, choice_same, grant_of_same}
 use Rattle.cal_idle.specs.Idle.{GoesByWhatIsLeft}
 
 -- ---- who waits ----
@@ -45,8 +46,14 @@ pressing_same w x t = λ i. count_below (λ j. late_same w (thread_of w.table t 
 helpers_same : (w : Pair) (x : List Action) (t : ℕ) → helpers (first w) x t ≡ helpers (second w) x t
 helpers_same w x t = λ i. count_below (λ j. flight_same w x (thread_of w.table t j) i && not (late_same w (thread_of w.table t j) i)) (limit_of w.table t)
 
+new_flight_same : (w : Pair) (x : List Action) (k : ℕ) → is_new_in_flight (first w) x k ≡ is_new_in_flight (second w) x k
+new_flight_same w x k = λ i. not (eqb (count_below (λ c. is_granted_in (drop (length (w.same.done i)) x) c && is_untaken (kept_same w k i) k (holder_of x c)) w.table.cores) 0)
+
+new_helpers_same : (w : Pair) (x : List Action) (t : ℕ) → new_helpers (first w) x t ≡ new_helpers (second w) x t
+new_helpers_same w x t = λ i. count_below (λ j. new_flight_same w x (thread_of w.table t j) i && not (late_same w (thread_of w.table t j) i)) (limit_of w.table t)
+
 surplus_same : (w : Pair) (x : List Action) (t : ℕ) → surplus (first w) x t ≡ surplus (second w) x t
-surplus_same w x t = ap (cond (is_short w.table x t) 0) (helpers_same w x t)
+surplus_same w x t = λ i. cond (is_short w.table x t) (new_helpers_same w x t i) (helpers_same w x t i)
 
 waits_same : (w : Pair) (x : List Action) (t : ℕ) → waits (first w) x t ≡ waits (second w) x t
 waits_same w x t = λ i. nat_lt (surplus_same w x t i) (pressing_same w x t i) && may_book (first w) x t && is_some (choice_same w x t i)
@@ -57,11 +64,18 @@ waits_short_same w x t = ap (λ b. is_short w.table x t && b) (waits_same w x t)
 some_waits_same : (w : Pair) (x : List Action) → some_waits_short (first w) x ≡ some_waits_short (second w) x
 some_waits_same w x = λ i. not (eqb (count_below (λ t. waits_short_same w x t i) (length w.table.tasks)) 0)
 
+lacking_same : (w : Pair) (x : List Action) → lacking (first w) x ≡ lacking (second w) x
+lacking_same w x = λ i. sum_below (λ t. cond (waits_same w x t i) (lacks w.table x t) 0) (length w.table.tasks)
+
 lacked_same : (w : Pair) (x : List Action) → are_lacked (first w) x ≡ are_lacked (second w) x
-lacked_same w x = ap (λ b. b && nat_le (open_cores w.table x) (lacking w.table x)) (some_waits_same w x)
+lacked_same w x = λ i. some_waits_same w x i && nat_le (open_cores w.table x) (lacking_same w x i)
 
 wanted_same : (w : Pair) (x : List Action) → are_wanted (first w) x ≡ are_wanted (second w) x
-wanted_same w x = ap (λ b. b && nat_lt (open_cores w.table x) (lacking w.table x)) (some_waits_same w x)
+wanted_same w x = λ i. some_waits_same w x i && nat_lt (open_cores w.table x) (lacking_same w x i)
+
+needs_same : (w : Pair) (x : List Action) (t : ℕ) → needs (first w) x t ≡ needs (second w) x t
+needs_same w x t = λ i. min (lacks w.table x t)
+    (min (pressing_same w x t i) (count_below (λ j. is_some (thread_rank_same w x (thread_of w.table t j) i)) (limit_of w.table t)))
 
 -- ---- bans ----
 
@@ -118,10 +132,10 @@ kept_for_same w x t (Some u) = ap (λ b. not (eqb u t) && b) (waits_same w x u)
 
 kept_for_short_same : (w : Pair) (x : List Action) (t c : ℕ) (owed : Option ℕ) → is_kept_for_short (first w) x t c owed ≡ is_kept_for_short (second w) x t c owed
 kept_for_short_same w x t c None = refl
-kept_for_short_same w x t c (Some u) = ap (λ b. not (eqb u t) && b && nat_lt (owed_below x u c) (lacks w.table x u)) (waits_short_same w x u)
+kept_for_short_same w x t c (Some u) = λ i. not (eqb u t) && waits_short_same w x u i && nat_lt (owed_below x u c) (needs_same w x u i)
 
 is_kept_same : (w : Pair) (x : List Action) (t c : ℕ) → is_kept (first w) x t c ≡ is_kept (second w) x t c
-is_kept_same w x t c = λ i. cond (is_short w.table x t) (kept_for_short_same w x t c (owed_to x c) i) (lacked_same w x i || kept_for_same w x t (owed_to x c) i)
+is_kept_same w x t c = λ i. cond (is_short w.table x t) (kept_for_short_same w x t c (owed_to x c) i) (kept_for_same w x t (owed_to x c) i)
 
 open_class_same : (w : Pair) (x : List Action) (t c : ℕ) → open_class (first w) x t c ≡ open_class (second w) x t c
 open_class_same w x t c = λ i. cond (is_open x c && not (is_kept_same w x t c i)) (Some (idle_class w.table t (holder_of x (sibling_of c)) (last_thread x c))) None
@@ -134,7 +148,8 @@ open_choice_same w x t = λ i. option_or
 held_class_same : (w : Pair) (acts : List Action) (t c : ℕ) (holder : Holder) → held_class (first w) acts t c holder ≡ held_class (second w) acts t c holder
 held_class_same w acts t c holders.Free = refl
 held_class_same w acts t c (holders.Held placement) = λ i. cond
-    (is_held_with_room (first w) (holders.Held placement) && not (is_granted_in acts c))
+    (is_held_with_room (first w) (holders.Held placement) && not (is_granted_in acts c)
+    && may_take_from (first w) (so_far_same w acts i) t (owner_of w.table placement.thread))
     (preempt_class w.table (so_far_same w acts i) t (owner_of w.table placement.thread)) None
 held_class_same w acts t c (holders.Leaving placement cause) = refl
 
@@ -144,35 +159,43 @@ held_same w acts t = λ i. best_below comes_before (λ c. one c i) w.table.cores
     one : (c : ℕ) → held_class (first w) acts t c (holder_of (so_far (first w) acts) c) ≡ held_class (second w) acts t c (holder_of (so_far (second w) acts) c)
     one c = held_class_same w acts t c (holder_of (so_far (first w) acts) c) ∙ ap (λ x. held_class (second w) acts t c (holder_of x c)) (so_far_same w acts)
 
-preempt_same : (w : Pair) (x : List Action) (t : ℕ) → may_preempt (first w) x t ≡ may_preempt (second w) x t
-preempt_same w x t = λ i. is_latency_critical w.table t && nat_lt (coming (first w) x t + surplus_same w x t i) (pressing_same w x t i)
+more_same : (w : Pair) (x : List Action) (t : ℕ) → more_press (first w) x t ≡ more_press (second w) x t
+more_same w x t = λ i. nat_lt (coming (first w) x t + surplus_same w x t i) (pressing_same w x t i)
+
+preempt_same : (w : Pair) (acts : List Action) (t : ℕ) → may_preempt (first w) acts t ≡ may_preempt (second w) acts t
+preempt_same w acts t =
+    (λ i. is_latency_critical w.table t && more_same w (so_far (first w) acts) t i && (not (has_acted w.table acts t) || fewer_come (first w) (so_far (first w) acts) t))
+    ∙ ap (λ x. is_latency_critical w.table t && more_press (second w) x t && (not (has_acted w.table acts t) || fewer_come (second w) x t)) (so_far_same w acts)
 
 core_same : (w : Pair) (acts : List Action) (t : ℕ) → choice_for (first w) acts t ≡ choice_for (second w) acts t
 core_same w acts t =
-    let x : List Action = so_far (first w) acts in
-    (λ i. option_or (open_choice_same w x t i) (cond (preempt_same w x t i) (held_same w acts t i) None))
-    ∙ ap (λ x. option_or (open_choice (second w) x t) (cond (may_preempt (second w) x t) (held_choice (second w) acts t) None)) (so_far_same w acts)
+    (λ i. option_or (open_choice_same w (so_far (first w) acts) t i) (cond (preempt_same w acts t i) (held_same w acts t i) None))
+    ∙ ap (λ x. option_or (open_choice (second w) x t) (cond (may_preempt (second w) acts t) (held_choice (second w) acts t) None)) (so_far_same w acts)
 
 -- ---- grants ----
 
-grant_same : (w : Pair) (acts : List Action) (t : ℕ) → grant_at (first w) acts t ≡ grant_at (second w) acts t
-grant_same w acts t =
+act_same : (w : Pair) (acts : List Action) (t : ℕ) → act_of (first w) acts t ≡ act_of (second w) acts t
+act_same w acts t =
     let x : List Action = so_far (first w) acts in
-    (λ i. cond (waits_same w x t i) (grant_of (first w) t (choice_same w x t i) (core_same w acts t i)) [])
-    ∙ ap (λ l. cond (waits (second w) x t) l []) (grant_of_same w t (thread_choice (second w) x t) (choice_for (second w) acts t))
-    ∙ ap (λ x. cond (waits (second w) x t) (grant_of (second w) t (thread_choice (second w) x t) (choice_for (second w) acts t)) []) (so_far_same w acts)
+    let may : List Action → Bool = λ x. is_short w.table x t || not (has_acted w.table acts t) in
+    (λ i. cond (waits_same w x t i && may x) (grant_of (first w) t (choice_same w x t i) (core_same w acts t i)) [])
+    ∙ ap (λ l. cond (waits (second w) x t && may x) l []) (grant_of_same w t (thread_choice (second w) x t) (choice_for (second w) acts t))
+    ∙ ap (λ x. cond (waits (second w) x t && may x) (grant_of (second w) t (thread_choice (second w) x t) (choice_for (second w) acts t)) []) (so_far_same w acts)
 
-grant_there_same : (w : Pair) (acts : List Action) (t : Option ℕ) → grant_in_place (first w) acts t ≡ grant_in_place (second w) acts t
-grant_there_same w acts None = refl
-grant_there_same w acts (Some t) = grant_same w acts t
+act_there_same : (w : Pair) (acts : List Action) (t : Option ℕ) → act_in_place (first w) acts t ≡ act_in_place (second w) acts t
+act_there_same w acts None = refl
+act_there_same w acts (Some t) = act_same w acts t
+
+turn_same : (w : Pair) (acts : List Action) (t : Option ℕ) → turn_in_place (first w) acts t ≡ turn_in_place (second w) acts t
+turn_same w acts t = λ i. in_turn (λ made act. act_there_same w made t i) acts w.table.cores
 
 grants_same : (w : Pair) (acts : List Action) → grants (first w) acts ≡ grants (second w) acts
 grants_same w acts = λ i. in_turn (λ made place. one made place i) acts (length w.table.tasks)
   where
-    one : (made : List Action) (place : ℕ) → grant_in_place (first w) made (task_in_place (first w) (so_far (first w) acts) place)
-        ≡ grant_in_place (second w) made (task_in_place (second w) (so_far (second w) acts) place)
-    one made place = grant_there_same w made (task_in_place (first w) (so_far (first w) acts) place)
-        ∙ ap (grant_in_place (second w) made) (in_place_same w (so_far (first w) acts) place
+    one : (made : List Action) (place : ℕ) → turn_in_place (first w) made (task_in_place (first w) (so_far (first w) acts) place)
+        ≡ turn_in_place (second w) made (task_in_place (second w) (so_far (second w) acts) place)
+    one made place = turn_same w made (task_in_place (first w) (so_far (first w) acts) place)
+        ∙ ap (turn_in_place (second w) made) (in_place_same w (so_far (first w) acts) place
         ∙ ap (λ x. task_in_place (second w) x place) (so_far_same w acts))
 
 -- ---- the pass ----

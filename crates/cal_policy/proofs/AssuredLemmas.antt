@@ -1,4 +1,5 @@
 -- The passes of the second policy, `assured`.
+pub mod Acts
 pub mod AsKept
 pub mod BooksNoMore
 pub mod Counting
@@ -16,6 +17,7 @@ pub mod NoneToTake
 pub mod Numbering
 pub mod Pairs
 pub mod Ranks
+pub mod Room
 pub mod Sent
 pub mod TurnOrder
 pub mod Turns

@@ -14,15 +14,16 @@ pub use Rattle.cal_machine.specs.declared.core_set.CoreSet.{CoreSet}
 pub use Rattle.cal_machine.specs.declared.task.Kind.{Kind}
 pub use Rattle.cal_machine.specs.declared.task.Task.{Task}
 pub use Rattle.cal_machine.specs.declared.task_table.TheConstants.{MOST_TASKS}
-pub use Rattle.cal_policy.specs.Assured.AtTurn.{AreRanks, IsCalm, IsRankOf, IsTurnOf, StaysOut, clocks, is_lacked_by_others, rank_of, standing_of}
-pub use Rattle.cal_policy.specs.Assured.Grants.{grant_in_place, grants, grants_of_first}
+pub use Rattle.cal_policy.specs.Assured.Acted.{has_acted, is_act_of}
+pub use Rattle.cal_policy.specs.Assured.AtTurn.{AreRanks, IsCalm, IsRankOf, IsTurnOf, StaysOut, clocks, rank_of, standing_of}
+pub use Rattle.cal_policy.specs.Assured.Grants.{act_in_place, act_of, acts_in_place, grants, grants_of_first, may_act, turn_in_place}
 pub use Rattle.cal_policy.specs.Assured.Hyperthreads.{due_for}
-pub use Rattle.cal_policy.specs.Assured.InFlight.{coming, helps, is_in_flight, is_late, is_untaken, presses, pressing}
+pub use Rattle.cal_policy.specs.Assured.InFlight.{coming, helps, helps_newly, is_in_flight, is_late, is_untaken, made_now, presses, pressing}
 pub use Rattle.cal_policy.specs.Assured.Order.{goes_before, group_of, is_later, is_rather, place_of, task_in_place}
 pub use Rattle.cal_policy.specs.Assured.Owed.{is_task, left_for, owed_made, owed_to}
 pub use Rattle.cal_policy.specs.Assured.Pass.{ComesTo, bounded_of, unbanned_of}
-pub use Rattle.cal_policy.specs.Assured.Short.{are_lacked, are_wanted, is_open, is_short, lacking, lacks, open_cores, some_waits_short, surplus, waits, waits_short}
-pub use Rattle.cal_policy.specs.Assured.Taking.{choice_for, held_choice, held_class, is_kept, is_kept_for, is_kept_for_short, may_preempt, may_take, open_choice, open_class, owed_class}
+pub use Rattle.cal_policy.specs.Assured.Short.{are_lacked, are_wanted, is_open, is_short, lacking, lacks, lacks_waiting, open_cores, some_waits_short, surplus, waits, waits_short}
+pub use Rattle.cal_policy.specs.Assured.Taking.{choice_for, held_choice, held_class, is_kept, is_kept_for, is_kept_for_short, may_preempt, may_take, may_take_from, more_press, open_choice, open_class, owed_class}
 pub use Rattle.cal_policy.specs.Auditor.{KeepsUp}
 pub use Rattle.cal_policy.specs.Board.{BansAgree, CapsAgree, HasGranted, HoldersAgree, HoldingSound, KeepsBefore, NamesCores, NamesTable, core_changed, granted_in, holder_at, holder_in, kept_holder, kept_number, kept_placement, placement_of}
 pub use Rattle.cal_policy.specs.Board.CoreSets.{IsSetOfBanned, IsSorted, Sorts}
@@ -33,7 +34,7 @@ pub use Rattle.cal_policy.specs.Board.OpenCores.{IsSameElsewhere, Opens, core_na
 pub use Rattle.cal_policy.specs.Board.RecentCores.{AreRecent, had_by, last_thread_in}
 pub use Rattle.cal_policy.specs.Board.Unshown.{IsShownOn, Shows}
 pub use Rattle.cal_policy.specs.Explain.Asked.{IsBanReason, IsCoreState, IsTaskState, IsThreadState}
-pub use Rattle.cal_policy.specs.Explain.AssuredTurns.{IsOrder, made_before, next_turn, placed_task}
+pub use Rattle.cal_policy.specs.Explain.AssuredTurns.{IsOrder, first_act, made_before, next_turn, placed_task}
 pub use Rattle.cal_policy.specs.Explain.Claims.{IsClaim, IsKeeping, IsLateness, IsShortage}
 pub use Rattle.cal_policy.specs.Explain.Turns.{IsTurn, first_turn, freed_of, granted_of, made_in, next_in_part}
 pub use Rattle.cal_policy.specs.Explain.Walks.{begun_on}
@@ -85,7 +86,7 @@ pub use Rattle.cal_signal.specs.Shown.{IsFitShown, IsShownAfter, nothing_shown}
 pub use Rattle.cal_signal.specs.declared.look.Look.{Look}
 pub use Rattle.cal_signal.specs.declared.record.Record.{Record}
 pub use Rattle.cal_signal.specs.declared.shown.Shown.{Shown}
-pub use Rattle.std.proofs.Common.{Bool, IsTrue, List, None, Option, Some, [], add-one, ap, append_assoc, arith, cond, eqb, false, get_or, if◌then◌else◌, inl, inr, leb, length, length-append, length-take, ltb, map, max, min, nat_le, nat_lt, not, refl, replicate, rules, set, slice_get, slice_index, slice_index_or, subst, suc, suc-mul, sym, take, true, zero, ℕ, ⊎_elim, ◌&&◌, ◌*◌, ◌++◌, ◌+◌, ◌-◌, ◌/◌, ◌<◌, ◌==◌, ◌^◌, ◌||◌, ◌↔◌, ◌∙◌, ◌∷◌, ◌≡◌, ◌≢◌, ◌≤◌, ◌⊎◌}
+pub use Rattle.std.proofs.Common.{Bool, IsTrue, List, None, Option, Some, [], add-one, ap, append_assoc, arith, cond, drop, drop_at, eqb, false, get_or, if◌then◌else◌, inl, inr, leb, length, length-append, length-take, ltb, map, max, min, nat_le, nat_lt, not, refl, replicate, rules, set, slice_get, slice_index, slice_index_or, subst, suc, suc-mul, sym, take, take-append-drop, true, zero, ℕ, ⊎_elim, ◌&&◌, ◌*◌, ◌++◌, ◌+◌, ◌-◌, ◌/◌, ◌<◌, ◌==◌, ◌^◌, ◌||◌, ◌↔◌, ◌∙◌, ◌∷◌, ◌≡◌, ◌≢◌, ◌≤◌, ◌⊎◌}
 pub use Rattle.std.proofs.Math.Bool.{and-false}
 pub use Rattle.std.proofs.Math.Seq.{take-append_seam}
 pub use Rattle.std.proofs.lemmas.Bool.{and_from, and_parts, and_right, both_ways, cases_Bool, cases_eq, cases_lt, cases_order, eq-eqb, eqb-true, false_from_ne_true, le-leb, le-ltb, leb-true, lt-ltb, ltb-false, ltb-true, ne_eqb, not-true, not_from_false}

@@ -1,5 +1,6 @@
 -- The pass of the second policy, `assured`, in the same words as that of Pass.antt: what its tasks
 -- wait for, what is kept for whom, and the parts in which it differs.
+pub mod Acted
 pub mod AtTurn
 pub mod Cause
 pub mod Grants

@@ -11,3 +11,4 @@ pub mod Rows
 pub mod Asking
 pub mod Crowding
 pub mod Measuring
+pub mod Replayed

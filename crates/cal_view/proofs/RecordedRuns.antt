@@ -1,5 +1,7 @@
 -- What was written of the run that was read is the input's.
-use Rattle.std.proofs.Common.{◌≡◌, ◌++◌, ℕ, List, Option, IfErr, OnOk, Result, Ok, Err, sym, subst}
+use Rattle.std.proofs.Common.{◌≡◌, ◌∙◌, ◌++◌, [], ℕ, List, Option, IfErr, OnOk, Result, Ok, Err, ap, sym, subst}
+use Rattle.std.proofs.KnownBytes.{Appends-trans}
+use Rattle.std.proofs.lemmas.List.{append-nil}
 use Rattle.std.specs.Io.KnownBytes.{Appends}
 use Rattle.cal_input.specs.Answers.{Failed}
 use Rattle.cal_input.specs.Recorded.{Run}
@@ -21,3 +23,7 @@ records (Ok done) front input (Ok run) old new text e written kind =
     subst (λ (t : List ℕ). Appends old new (front_of front input ++ t)) (same_text (history_text run.history) text e) written
 records (Err f) front input outcome old new text e written kind =
     subst (λ (g : RunFault). Failed g outcome) (sym kind) (has_run (λ (run : Run). history_text run.history) outcome text e)
+
+-- a text was written after what stands in front of it
+pub after_front : (a b c : Option (List ℕ)) (front none text : List ℕ) → none ≡ [] → Appends a b (front ++ none) → Appends b c text → Appends a c (front ++ text)
+after_front a b c front none text is p q = Appends-trans a b c front text (subst (Appends a b) (ap (λ (l : List ℕ). front ++ l) is ∙ append-nil front) p) q

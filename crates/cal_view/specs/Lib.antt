@@ -1,3 +1,4 @@
 pub mod Guarantees
 pub mod Recording
 pub mod Moving
+pub mod Running

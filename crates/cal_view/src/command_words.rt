@@ -9,3 +9,4 @@ pub mod log_words;
 pub mod move_words;
 pub mod plan_words;
 pub mod policy_words;
+pub mod replay_words;

@@ -12,4 +12,6 @@ pub mod moving;
 pub mod naming;
 pub mod pacing;
 pub mod recording;
+pub mod replaying;
+pub mod running;
 pub mod telling;

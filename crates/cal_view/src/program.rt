@@ -17,8 +17,10 @@ use crate::jobs::input::JobInput;
 use crate::jobs::measuring::answer_measure;
 use crate::jobs::moving::Moving;
 use crate::jobs::naming::{names_of, refuse_count, refuse_words_of_names};
-use crate::jobs::pacing::refuse_memory;
+use crate::jobs::pacing::{end_paced, refuse_memory};
 use crate::jobs::recording::record;
+use crate::jobs::replaying::{HistoryText, answer_replayed};
+use crate::jobs::running::record_run;
 use crate::jobs::telling::tell;
 use crate::refusing::{end_refusal, refuse_gone, refuse_two_standards, refused_input};
 use cal_came::{CameFile, CountAsked};
@@ -280,19 +282,21 @@ impl<'h, 'a, H: Files> ProgramRun<'h, 'a, H> {
         };
     }
 
-    /// All bytes of the file of when requests came; none where none is named.
-    fn read_came(&self) -> Result<Vec<u8>, Failure<'a>> {
-        match self.request.counting.came {
+    /// All bytes of the file of this name; none where none is named.
+    fn read_beside(&self, named: Option<&'a str>) -> Result<Vec<u8>, Failure<'a>> {
+        match named {
             Some(name) => read_named(self.rt, self.alloc, name),
             None => Ok(Vec::new(self.alloc)),
         }
     }
 
-    /// What a job of an input is done on, where the file of when its requests came has these bytes.
+    /// What a job of an input is done on, where the file of when its requests came, and the history
+    /// that it replays, have these bytes.
     fn job_input<'i>(
         &'i self,
         read: RefusedInput<'i>,
         came: &'i [u8],
+        history: &'i [u8],
         labels: Labels<'i>,
     ) -> JobInput<'i> {
         let CountWords {
@@ -307,11 +311,19 @@ impl<'h, 'a, H: Files> ProgramRun<'h, 'a, H> {
             ),
             None => (None, None),
         };
+        let replay = match self.request.replay {
+            Some(name) => Some(HistoryText {
+                name,
+                text: history,
+            }),
+            None => None,
+        };
         JobInput {
             alloc: self.alloc,
             read,
             policy: self.request.policy,
             plan: self.request.plan,
+            replay,
             came,
             counting: CountAsked {
                 came: file,
@@ -333,13 +345,17 @@ impl<'h, 'a, H: Files> ProgramRun<'h, 'a, H> {
     ) -> Result<u8, RunFault> {
         let alloc = self.alloc;
         let bytes = read_input(alloc, &mut reader)?;
-        let came = match self.read_came() {
+        let came = match self.read_beside(self.request.counting.came) {
             Ok(came) => came,
             Err(failure) => return Ok(failure.end(errors)),
         };
-        let alone = self.request.plan.is_some() || self.request.counting.are_given();
+        let history = match self.read_beside(self.request.replay) {
+            Ok(history) => history,
+            Err(failure) => return Ok(failure.end(errors)),
+        };
+        let alone = self.request.is_run_alone();
         let read = refused_input(job, alone, bytes.as_slice());
-        let input = self.job_input(read, came.as_slice(), labels);
+        let input = self.job_input(read, came.as_slice(), history.as_slice(), labels);
         match answer_read(job, &input, output, errors) {
             Ok(status) => Ok(status),
             Err(fault) => end_refusal(alloc, read, fault, errors),
@@ -362,7 +378,15 @@ fn answer_read<W: Write, E: Write>(
     if let Some(status) = refuse_memory(input, errors)? {
         return Ok(status);
     }
+    if let Some(history) = input.replay {
+        return answer_replayed(job, input, history, output, errors);
+    }
     match job {
+        InputJob::Run { front } => {
+            let (policy, plan) = (input.policy, input.plan);
+            let wrote = record_run(alloc, policy, plan, bytes, front, output);
+            return end_paced(wrote, errors);
+        }
         InputJob::Check => return answer_check(alloc, bytes, output),
         InputJob::Explain { asked } => return answer_explain(input, asked, output, errors),
         InputJob::Measure { form } => return answer_measure(input, form, output, errors),

@@ -49,8 +49,10 @@ pub fn refused_with<'a>(input: &'a [u8], wanted: &'a [TraceKind]) -> RefusedInpu
 /// How many of the files that a request reads are the standard input.
 fn standard_inputs(request: &Request<'_>) -> usize {
     let mut count = usize::from(request.input.is_none());
-    if request.counting.came == Some(STANDARD) {
-        count = count.saturating_add(1);
+    for named in [request.counting.came, request.replay] {
+        if named == Some(STANDARD) {
+            count = count.saturating_add(1);
+        }
     }
     match &request.job {
         Job::Move { asked } if asked.to == STANDARD => count.saturating_add(1),
@@ -109,14 +111,15 @@ pub fn refuse_gone<E: Write>(word: &str, errors: &mut E) -> u8
     2
 }
 
-/// The traces that a job reads: where a run alone is asked for, by a plan or to count its requests,
-/// arrivals.
+/// The traces that a job reads: where a run alone is asked for, by a plan, to count its requests or to
+/// replay a history, arrivals.
 fn traces_of(job: InputJob, alone: bool) -> &'static [TraceKind] {
     if alone {
         return &[TraceKind::Arrivals];
     }
     match job {
         InputJob::History { .. } => &[TraceKind::Signals],
+        InputJob::Run { .. } => &[TraceKind::Arrivals],
         InputJob::Facts {
             facts: Facts::Requests | Facts::Turns,
         } => &[TraceKind::Arrivals],

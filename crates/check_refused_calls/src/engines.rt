@@ -6,7 +6,10 @@ use crate::texts::write_legal;
 use cal_came::CountAsked;
 use cal_engine::{RunAnswer, decide, run_audit, run_lockstep, run_sim};
 use cal_policy::Policy;
-use cal_tables::{Labels, MeasuredInput, MoveAsked, NumberForm, NumberStyle, measure, moved_input};
+use cal_tables::{
+    Labels, MeasuredInput, MoveAsked, NumberForm, NumberStyle, measure, measure_replayed,
+    moved_input,
+};
 use cal_trace::{read_history, write_arrivals, write_comings};
 use std::alloc::Global;
 use std::io::Write;
@@ -69,17 +72,36 @@ fn in_columns() -> NumberStyle<'static> {
     }
 }
 
-/// The numbers of a run.
-pub fn measured(rt: &HostRuntime, given: &TableAndTrace) -> Tried<()> {
-    let mut text = writer(rt.alloc())?;
-    begin(rt)?;
-    let asked = MeasuredInput {
+/// The input, measured in lockstep.
+fn asked<'a>(given: &TableAndTrace<'a>) -> MeasuredInput<'a> {
+    MeasuredInput {
         bytes: given.text,
         policy: Policy::Caladan,
         plan: None,
         counting: CountAsked::NONE,
-    };
-    answer(rt, measure(rt.alloc(), asked, in_columns(), &mut text))?;
+    }
+}
+
+/// The numbers of a run.
+pub fn measured(rt: &HostRuntime, given: &TableAndTrace) -> Tried<()> {
+    let mut text = writer(rt.alloc())?;
+    begin(rt)?;
+    let made = measure(rt.alloc(), asked(given), in_columns(), &mut text);
+    answer(rt, made)?;
+    rt.stdout().write_all(text.as_slice())?;
+    Ok(())
+}
+
+/// The numbers of a run that has the passes of a history, which is that of a run on one thread.
+pub fn replayed(rt: &HostRuntime, given: &TableAndTrace) -> Tried<()> {
+    let mut history = writer(rt.alloc())?;
+    let ran = run_lockstep(rt.alloc(), given.text, RunAnswer::History, &mut history);
+    ran.or(Err(Stop::Wrong))?;
+    let mut text = writer(rt.alloc())?;
+    begin(rt)?;
+    let rows = history.as_slice();
+    let made = measure_replayed(rt.alloc(), asked(given), rows, in_columns(), &mut text);
+    answer(rt, made)?;
     rt.stdout().write_all(text.as_slice())?;
     Ok(())
 }

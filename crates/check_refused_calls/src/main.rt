@@ -111,6 +111,7 @@ fn call_whole(rt: &HostRuntime, word: &str, given: &TableAndTrace) -> Tried<()> 
         "run_audit" => engines::audited(rt, given),
         "run_lockstep" => engines::on_one_thread(rt, given),
         "measure" => engines::measured(rt, given),
+        "measure_replayed" => engines::replayed(rt, given),
         "move" => engines::moved(rt, given),
         "full_history" => full::full_history(rt, given),
         "full_journal" => full::full_journal(rt, given),

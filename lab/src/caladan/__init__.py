@@ -29,30 +29,32 @@ from __future__ import annotations
 from typing import TYPE_CHECKING, Any
 
 __version__ = "5"
-__all__ = ["Answer", "LeftOut", "Log", "Refusal", "Run", "Table", "compare", "core", "sweep"]
-OF_LOGS = {"Log": ".logs.log", "LeftOut": ".logs.running"}
+__all__ = ["ActionRefused", "Answer", "LeftOut", "Log", "Policy", "Refusal", "Run", "Table", "Trials", "compare",
+           "core", "policies", "sweep", "world"]
 # Functions of caladan.core which, as its classes and constants, go by `caladan.` too for a version more.
 OF_CORE = ("action_row", "machine_of", "recorded", "taken", "text_of", "text_of_rows", "written")
 
 if TYPE_CHECKING:
-    from . import core
+    from . import core, policies, world
     from .lab import Answer, Run, Table, compare, sweep
     from .logs.log import Log
     from .logs.running import LeftOut
+    from .policies.policy import ActionRefused, Policy
     from .refusal import Refusal
+    from .trials import Trials
+
+# The modules of names that are not lab.py's.
+PLACES = {"Refusal": ".refusal", "Policy": ".policies.policy", "ActionRefused": ".policies.policy",
+          "Trials": ".trials", "Log": ".logs.log", "LeftOut": ".logs.running"}
 
 
 def __getattr__(name: str) -> Any:
     """What is imported once it is used: the command line needs none of it."""
     import importlib
-    if name == "core":
-        return importlib.import_module(".core", __name__)
-    if name == "Refusal":
-        return importlib.import_module(".refusal", __name__).Refusal
-    if name in OF_LOGS:
-        return getattr(importlib.import_module(OF_LOGS[name], __name__), name)
+    if name in ("core", "policies", "world"):
+        return importlib.import_module(f".{name}", __name__)
     if name in __all__:
-        return getattr(importlib.import_module(".lab", __name__), name)
+        return getattr(importlib.import_module(PLACES.get(name, ".lab"), __name__), name)
     if name[:1].isupper() or name in OF_CORE:
         found = importlib.import_module(".core", __name__)
         if name in found.__all__:

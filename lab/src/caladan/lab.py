@@ -6,7 +6,7 @@ import functools
 import io
 import os
 from dataclasses import dataclass, field, replace
-from typing import TYPE_CHECKING, Callable, Iterable, Mapping, Optional, Sequence, Union
+from typing import TYPE_CHECKING, Callable, Iterable, Mapping, Optional, Sequence, Union, overload
 
 from .arrivals import arrivals_of, turns_of
 from .comparisons.command import runs_of, sheet_of
@@ -15,6 +15,8 @@ from .comparisons.runs import NONE_CAME, Runs
 from .figures import as_csv
 from .files import Output, read_named
 from .labels import Labels, names_of
+from .plans import plan_words
+from .players import Players, naming, own_of
 from .programs import Came, Text, Viewer, Word, simulator, viewer
 from .refusal import Refusal
 from .stamps import tick_of
@@ -23,6 +25,7 @@ from .sweeps.command import asked_of, table_of
 from .tables import KEYS, SEPARATOR, UNKNOWN_KEY, Machine, names_in, table_part
 from .varying import key_of, variations_of
 from .windows import MIDDLE, Window
+from .words.arg import EXEC, POLICIES
 from .words.asked import LAB
 from .words.parsing import Asked, read_words
 
@@ -32,10 +35,20 @@ if TYPE_CHECKING:
     from .logs.log import Log
     from .pictures.asked import Look
     from .pictures.picture import File, Picture
+    from .policies.playing import Own
+    from .policies.policy import Policy
+    from .trials import Trials
 
 Value = Union[str, int, float]
 Option = Union[Value, bool, None, Iterable[Value]]
 Keys = Mapping[str, Iterable[Value]]
+By = Union[str, "Policy"]
+
+
+NO_POLICY = "no policy: caladan, assured, exec:COMMAND, or an instance of a class of caladan.Policy"
+BOTH = "policy and policies are both given, and one of the two is asked for"
+# For how many seconds a run waits for an answer of a policy that is a program.
+PATIENCE = 10
 
 
 def each_of(value: Union[Value, Iterable[Value]]) -> Iterable[Value]:
@@ -78,6 +91,26 @@ def frame_of(csv: bytes, tick: str, index: Optional[str] = None) -> pandas.DataF
     """A frame of the program's CSV, in which ticks have their unit."""
     frame = read_frame(csv.decode().replace("[ticks]", f"[{tick}]") if tick else csv.decode())
     return frame.set_index(index) if index else frame
+
+
+def called(policy: By) -> str:
+    """What a policy is called."""
+    return policy if isinstance(policy, str) else policy.called
+
+
+def own_in(policies: Sequence[By]) -> tuple["Policy", ...]:
+    """Those that are written in Python. Refusal of what is no policy."""
+    found: list[Policy] = []
+    for each in policies:
+        if isinstance(each, str):
+            if each not in POLICIES and not each.startswith(EXEC):
+                raise Refusal(f"{each}: {NO_POLICY}")
+            continue
+        from .policies.policy import Policy
+        if not isinstance(each, Policy):
+            raise Refusal(f"{each!r}: {NO_POLICY}")
+        found.append(each)
+    return tuple(found)
 
 
 @dataclass(frozen=True)
@@ -129,14 +162,15 @@ class Table:
             raise Refusal(f"{unknown} {UNKNOWN_KEY}", below=KEYS)
         return replace(self, text=self.machine.text(given))
 
-    def run(self, policy: str = "caladan", plan: Optional[Mapping[str, Option]] = None, **arrivals: Option) -> "Run":
+    def run(self, policy: By = "caladan", plan: Optional[Mapping[str, Option]] = None, **arrivals: Option) -> "Run":
         """The run on the arrivals that `caladan_view arrivals` makes by these options, such as task=0, load=0.7,
-        service="90%:1,10%:20", turns=2000, seed=7; or log=.., unit=.., turn=.. for those of a log."""
+        service="90%:1,10%:20", turns=2000, seed=7; or log=.., unit=.., turn=.. for those of a log. The policy is
+        caladan, assured, exec:COMMAND, or one of your own."""
         words = ["arrivals", *words_of({**({"names": ",".join(self.names)} if self.names else {}), **arrivals})]
         ran = self.view.told([*words, "--came", Came()], self.text)
-        return Run(self, ran.out, ran.came, tuple(words), policy, tuple(words_of(plan or {})))
+        return Run(self, ran.out, ran.came, tuple(words), called(policy), tuple(words_of(plan or {})), own_in([policy]))
 
-    def run_log(self, log: Log, turn: str, policy: str = "caladan", plan: Optional[Mapping[str, Option]] = None,
+    def run_log(self, log: Log, turn: str, policy: By = "caladan", plan: Optional[Mapping[str, Option]] = None,
                 **options: Option) -> "Run":
         """The run of a log, with turns as long as `turn` says, as "5us". Options are those of `caladan_lab log`, as
         batch="batch", task=0, turns=2000, tick="ns". A tick is that of the table, else the unit of the log. A warning,
@@ -144,19 +178,20 @@ class Table:
         from .logs.running import run_of
         more = words_of({"names": ",".join(self.names) or None, "tick": self.tick or None, **options})
         ran = run_of(self.view, log, self.text, self.machine, turn, more)
-        return Run(replace(self, text=ran.text, tick=ran.tick), ran.arrivals, ran.came, ran.words, policy,
-                   tuple(words_of(plan or {})))
+        return Run(replace(self, text=ran.text, tick=ran.tick), ran.arrivals, ran.came, ran.words, called(policy),
+                   tuple(words_of(plan or {})), own_in([policy]))
 
-    def run_of(self, arrivals: Union[str, "os.PathLike[str]"], policy: str = "caladan",
+    def run_of(self, arrivals: Union[str, "os.PathLike[str]"], policy: By = "caladan",
                plan: Optional[Mapping[str, Option]] = None) -> "Run":
         """The run on the arrivals of a file."""
-        return Run(self, read_named(os.fspath(arrivals)), None, (), policy, tuple(words_of(plan or {})))
+        given = read_named(os.fspath(arrivals))
+        return Run(self, given, None, (), called(policy), tuple(words_of(plan or {})), own_in([policy]))
 
 
 @dataclass(frozen=True)
 class Run:
-    """A run of a table: its arrivals, when their requests came, the words that made them, its policy, and the words of
-    its plan. The frames are made once each."""
+    """A run of a table: its arrivals, when their requests came, the words that made them, its policy, the words of its
+    plan, and the policy itself where that is written in Python. The frames are made once each."""
 
     table: Table
     arrivals: bytes
@@ -164,6 +199,7 @@ class Run:
     words: tuple[str, ...] = ()
     policy: str = "caladan"
     plan: tuple[str, ...] = field(default=())
+    own: tuple["Policy", ...] = field(default=(), repr=False, compare=False)
 
     def __repr__(self) -> str:
         return f"<Run of {self.table!r} by {self.policy}: {' '.join(self.words) or 'arrivals of a file'}>"
@@ -185,9 +221,24 @@ class Run:
         """The input of the programs: the table, the line ---, the arrivals."""
         return self.table.text.rstrip(b"\n") + b"\n" + SEPARATOR + self.arrivals
 
+    @functools.cached_property
+    def is_own(self) -> bool:
+        """Whether its policy is one that the program has not."""
+        return bool(self.own) or self.policy.startswith(EXEC)
+
+    @functools.cached_property
+    def by(self) -> list[Word]:
+        """The words by which the program makes the run; by a policy that it has not those by which it plays it
+        again."""
+        players = Players(self.table.view, own_of([self.policy], PATIENCE, self.own))
+        if self.is_own:
+            self.table.view.told(["requests", *self.plan], self.input)
+        return players.words(self.policy, self.table.machine, self.arrivals, plan_words(self.plan))
+
     def told(self, word: str, *more: Word) -> bytes:
         """What the program says of the run."""
-        return self.table.view.told([word, "--policy", self.policy, *self.plan, *more], self.input).out
+        with naming(self.policy):
+            return self.table.view.told([word, *self.by, *more], self.input).out
 
     def counted(self) -> list[Word]:
         return [] if self.came is None else ["--came", Text(self.came)]
@@ -257,6 +308,8 @@ class Run:
 
     def explain(self, number: int, task: Optional[int] = None, core: Optional[int] = None) -> str:
         """Why a pass, from 0, does what it does."""
+        if self.is_own:
+            raise Refusal(f"{self.policy}: a pass is explained by the rules of caladan or of assured")
         more = words_of({"pass": number, "task": task, "core": core})
         history = simulator(self.table.view).told(["lockstep", "--table", "--policy", self.policy], self.input).out
         return self.table.view.told(["explain", "--policy", self.policy, *more], history).out.decode()
@@ -321,46 +374,92 @@ def _asked(word: str, table: Table, vary: Optional[Keys], options: Mapping[str, 
     return words, read_words(LAB, words)
 
 
-def compare(runs: Union[Run, Sequence[Run]], vary: Optional[Keys] = None, **options: Option) -> Answer:
+def _asked_by(policies: Sequence[By]) -> dict[str, Option]:
+    """The option for these policies, but those in Python."""
+    names = [it for it in policies if isinstance(it, str)]
+    return {"policy": ",".join(names) or None}
+
+
+def compare(runs: Union[Run, Sequence[Run]], vary: Optional[Keys] = None, policies: Sequence[By] = (),
+            **options: Option) -> Answer:
     """The numbers of several tables on the same arrivals: of one run with keys of its table varied; or of several runs,
-    whose first has the arrivals. Options are those of `caladan_lab compare`, as policy="caladan,assured"."""
+    whose first has the arrivals. Options are those of `caladan_lab compare`, as policy="caladan,assured"; or policies
+    are given, as ["caladan", LongestWait()]."""
     given = [runs] if isinstance(runs, Run) else list(runs)
-    first = given[0]
-    words, asked = _asked("compare", first.table, vary, options)
+    if policies and options.get("policy") is not None:
+        raise Refusal(BOTH)
+    first, own = given[0], own_in(policies)
+    words, asked = _asked("compare", first.table, vary, {**(_asked_by(policies) if policies else {}), **options})
+    if own:
+        asked = replace(asked, found={**asked.found, "policy": [called(it) for it in policies]})
     variations = variations_of(asked.all("vary"), first.table.names or names_in(first.table.text), first.table.tick)
     tables = b"".join(it.table.machine.text() + SEPARATOR for it in given)
     text = tables + first.arrivals
     reading = Reading(first.table.view, text, parts_of(text, bool(variations)), bool(variations))
     came = None if first.came is None else ("the comings", first.came)
     labels = first.table.labels
-    made = runs_of(asked, reading, variations, labels, came)
+    made = runs_of(asked, reading, variations, labels, came, own)
 
     def csv_of(runs: Runs) -> str:
         return sheet_of(runs, variations, labels, came is not None, True).decode()
     return Answer(csv_of(made), tuple(words), first.table, runs=made, drawn=lambda: csv_of(made.of_whole()))
 
 
-def listed(values: Union[Value, Sequence[Value], None]) -> Optional[str]:
-    """Values as a word has them, with commas between."""
-    if values is None or isinstance(values, str):
-        return values
-    return ",".join(map(str, each_of(values)))
+Load = Union[Value, Sequence[Value], None]
+OfTable = Union[Table, str, "os.PathLike[str]"]
+OfLog = Union["Log", str, "os.PathLike[str]", None]
 
 
-def sweep(table: Table, load: Union[Value, Sequence[Value], None] = None, vary: Optional[Keys] = None,
-          log: Union[Log, str, "os.PathLike[str]", None] = None, scale: Union[Value, Sequence[Value], None] = None,
-          rate: Union[Value, Sequence[Value], None] = None, **options: Option) -> Answer:
-    """The response of a task at rising loads, or at requests a second (`rate`), for which the table has a tick; or of
-    the requests of a log, which is a Log or a file, at times its load (`scale`) or at requests a second. Options are
-    those of `caladan_lab sweep`, as task=0, service=10, turns=2000, seeds=5, slo="task.0.p99=400"; of a log turn="5us",
-    batch="batch", seeds=10."""
-    from .logs.log import Log as Read
-    read = log if isinstance(log, Read) else None
-    file = None if log is None else log.name if isinstance(log, Read) else os.fspath(log)
-    of_log: dict[str, Option] = {"log": file, "scale": listed(scale), "rate": listed(rate)}
-    unit: dict[str, Option] = {} if read is None else {"unit": read.unit}
-    words, asked = _asked("sweep", table, vary, {"load": listed(load), **of_log, **unit, **options})
+@overload
+def sweep(table: OfTable, load: Load = None, vary: Optional[Keys] = None, policies: None = None, loads: Load = None,
+          log: OfLog = None, scale: Load = None, rate: Load = None, **options: Option) -> Answer: ...
+
+
+@overload
+def sweep(table: OfTable, load: Load = None, vary: Optional[Keys] = None, *, policies: Sequence[By], loads: Load = None,
+          log: OfLog = None, scale: Load = None, rate: Load = None, **options: Option) -> "Trials": ...
+
+
+def sweep(table: OfTable, load: Load = None, vary: Optional[Keys] = None, policies: Optional[Sequence[By]] = None,
+          loads: Load = None, log: OfLog = None, scale: Load = None, rate: Load = None,
+          **options: Option) -> Union[Answer, "Trials"]:
+    """The response of a task at rising loads, or at requests a second (`rate`), for which the table has a tick; of a
+    Table or of the file of one. Options are those of `caladan_lab sweep`, as task=0, service=10, turns=2000, seeds=5,
+    slo="task.0.p99=400". With policies, as ["caladan", LongestWait()], a run by each, and Trials, whose frame has a row
+    for each run; without `task` the first latency-critical task has the loads then, and each best-effort one more work
+    than it can do. With a log, a Log or a file, the requests are its own, at times its load (`scale`) or at requests a
+    second, as turn="5us", batch="batch", seeds=10."""
+    of_table = table if isinstance(table, Table) else Table.read(table)
+    given = load if loads is None else loads
+    if policies is not None:
+        refuse_beside_policies({"a log": log, "the load of a log": scale, "a rate": rate}, options)
+        from .trials import trials_of
+        return trials_of(of_table, given, vary, policies, options)
+    words, asked = _asked("sweep", of_table, vary, {"load": load_word(given), **of_log(log, scale, rate), **options})
     names_of(asked.one("names"))
-    of_words = asked_of(asked, read, names_in(table.text))
-    csv, lines = swept(of_words, table.text, table.view)
-    return Answer(csv, tuple(words), table, tuple(lines.splitlines()), swept=of_words.loads.task)
+    read = None if log is None or isinstance(log, (str, os.PathLike)) else log
+    of_words = asked_of(asked, read, names_in(of_table.text))
+    csv, lines = swept(of_words, of_table.text, of_table.view)
+    return Answer(csv, tuple(words), of_table, tuple(lines.splitlines()), swept=of_words.loads.task)
+
+
+def refuse_beside_policies(of_program: Mapping[str, object], options: Mapping[str, Option]) -> None:
+    """Refusal of what is given beside `policies`, and is the program's alone; and of `policy`, which says it again."""
+    given = next((name for name, value in of_program.items() if value is not None), None)
+    if given is not None:
+        raise Refusal(f"{given} is swept by the program's policies: leave `policies` out, and give policy=..")
+    if options.get("policy") is not None:
+        raise Refusal(BOTH)
+
+
+def of_log(log: OfLog, scale: Load, rate: Load) -> dict[str, Option]:
+    """The options for a log, by its file, or one that is read."""
+    more: dict[str, Option] = {"scale": load_word(scale), "rate": load_word(rate)}
+    if log is None or isinstance(log, (str, os.PathLike)):
+        return {"log": None if log is None else os.fspath(log), **more}
+    return {"log": log.name, "unit": log.unit, **more}
+
+
+def load_word(load: Load) -> Optional[str]:
+    """The word of one load or several."""
+    return None if load is None else str(load) if isinstance(load, (str, int, float)) else ",".join(map(str, load))

@@ -2,7 +2,7 @@
 from __future__ import annotations
 
 from dataclasses import dataclass
-from typing import Optional
+from typing import Optional, Sequence
 
 from .refusal import Refusal
 from .words.parsing import Asked
@@ -42,6 +42,11 @@ class Plan:
             raise Refusal(NOT_BORNE)
         if self.is_shown:
             raise Refusal(NOT_SHOWN)
+
+
+def plan_words(words: Sequence[str]) -> Plan:
+    """The plan of the program's words for it."""
+    return Plan(**{flag.removeprefix("--"): word for flag, word in zip(words[::2], words[1::2])})
 
 
 def plan_of(asked: Asked) -> Plan:

@@ -11,7 +11,7 @@ import subprocess
 import sys
 import threading
 from dataclasses import dataclass
-from typing import Optional, Sequence, Union
+from typing import Optional, Protocol, Sequence, Union
 
 from . import __version__
 from .refusal import Refusal
@@ -56,11 +56,18 @@ class Interrupted(Exception):
     """No more is asked."""
 
 
+class Running(Protocol):
+    """A process that can be ended."""
+
+    def kill(self) -> None:
+        """Ends it."""
+
+
 class Asking:
     """The processes that run now. Once it is ended none is begun."""
 
     def __init__(self) -> None:
-        self.lock, self.running, self.is_ended = threading.Lock(), set[subprocess.Popen[bytes]](), False
+        self.lock, self.running, self.is_ended = threading.Lock(), set[Running](), False
 
     def begin(self, words: Sequence[str], files: Sequence[int], **how: int) -> subprocess.Popen[bytes]:
         with self.lock:
@@ -70,7 +77,12 @@ class Asking:
             self.running.add(process)
         return process  # type: ignore[no-any-return]
 
-    def ended(self, process: subprocess.Popen[bytes]) -> None:
+    def note(self, process: Running) -> None:
+        """Notes a process that was begun elsewhere."""
+        with self.lock:
+            self.running.add(process)
+
+    def ended(self, process: Running) -> None:
         with self.lock:
             self.running.discard(process)
 

@@ -17,7 +17,8 @@ A case has words, files and a standard input, made from seeds by the modules of 
 own. Its answer is the exit status, both outputs, and each file that is new, changed or gone. `check` compares all to
 the byte, but for the name of the program: a line that begins with `caladan_view:`, or with `Usage: caladan_view`, must
 begin so with NAME (else the file name of the program's last word); within a line either name may stand. Another program
-than caladan_view is asked to count and judge as that did (frozen/changed.py; README.md says what is otherwise). The
+than caladan_view is asked to count and judge as that did, and not asked for runs by the policy assured that are others
+now (frozen/changed.py; README.md says what is otherwise). The
 last line is 'N passed, M failed', and above it stands the first difference of each case that failed. A case that is
 made otherwise than the kept one fails too: freeze it again."""
 import argparse
@@ -30,7 +31,7 @@ from typing import Sequence
 
 sys.dont_write_bytecode = True
 from frozen.case import Answer, Case  # noqa: E402
-from frozen.changed import asked_as_before, said_as_before  # noqa: E402
+from frozen.changed import OTHER_RUNS, asked_as_before, said_as_before  # noqa: E402
 from frozen.comparing import KEPT_NAME, differences  # noqa: E402
 from frozen.coverage import table_of_options, table_of_statuses, table_of_texts  # noqa: E402
 from frozen.every import cases, chosen  # noqa: E402
@@ -91,7 +92,8 @@ def check(given: argparse.Namespace) -> int:
     name = given.name or os.path.basename(shlex.split(given.program)[-1])
     kept, failed = kept_answers(given.answers), 0
     waiting = [it for it in asked if it.name not in kept]
-    named = {it.name: it for it in asked if it.name in kept}
+    others = {it.name for it in asked if it.name in OTHER_RUNS and name != KEPT_NAME}
+    named = {it.name: it for it in asked if it.name in kept and it.name not in others}
     # Another program than the one whose answers are kept is asked to count and judge as that did.
     run = [*named.values()] if name == KEPT_NAME else [asked_as_before(it, kept[it.name].answer)
                                                        for it in named.values()]
@@ -108,6 +110,8 @@ def check(given: argparse.Namespace) -> int:
     failed += len(gone)
     if waiting:
         print(f"no answer to {len(waiting)} other cases is kept yet")
+    if others:
+        print(f"of other runs by the policy assured, and not compared: {', '.join(sorted(others))}")
     print(f"{passed} passed, {failed} failed")
     return 1 if failed or not passed else 0
 

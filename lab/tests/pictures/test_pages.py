@@ -29,4 +29,5 @@ class Pages(unittest.TestCase):
                 self.assertEqual(set(parts_of(paper)) - named, set())
 
     def test_no_other_is_there(self):
-        self.assertEqual(set(os.listdir(FOLDER)), {f"{it}.svg" for it in (*pictures(), "host")})
+        """The picture of policies is compared by the commands of its page."""
+        self.assertEqual(set(os.listdir(FOLDER)), {f"{it}.svg" for it in (*pictures(), "host", "policies")})

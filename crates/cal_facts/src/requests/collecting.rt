@@ -10,7 +10,10 @@ ghost use Rattle.cal_machine.specs.TableTasks.{threads_of_table};
 ghost use Rattle.cal_measure.specs.ThreadWork.{IsThreadWorkOf};
 ghost use Rattle.cal_tables.specs.Planned.{AreGivenBy, ArePlannedBy};
 ghost use Rattle.cal_trace.specs.Arrivals.FitsTable.{FitsTable};
+ghost use Rattle.cal_trace.specs.History.Ranges.{IsInRange};
+ghost use Rattle.cal_trace.specs.History.Reading.{extent_of};
 ghost use Rattle.cal_trace.specs.declared.arrivals.Arrivals.{Arrivals as RunArrivals};
+ghost use Rattle.cal_facts.specs.Replayed.{IsReplayServed};
 ghost use Rattle.cal_facts.specs.Served.{IsRunServed};
 
 use crate::requests::served::ServedRequests;
@@ -18,10 +21,11 @@ use cal_kthread::TurnEntries;
 use cal_machine::Config;
 use cal_measure::{ThreadWork, end_works, open_works, run_end};
 use cal_paced::Plan;
-use cal_policy::{Actions, Policy};
+use cal_policy::{Actions, PassEntry, Policy};
+use cal_replay::Stopped;
 use cal_run::{Collector, step_given};
 use cal_sched::BareScheduler;
-use cal_tables::collected_by;
+use cal_tables::{collected_by, replayed_by};
 use cal_trace::Arrivals;
 use std::alloc::{AllocError, Global};
 
@@ -108,6 +112,29 @@ pub(crate) fn served_of_run(
 {
     let mut open = OpenRequests::open(alloc, config)?;
     collected_by(alloc, config, policy, plan, given, &mut open)?;
+    let OpenRequests { works, .. } = open;
+    let threads = end_works(alloc, works, run_end(given))?;
+    let served = ServedRequests::of(alloc, threads.as_slice())?;
+    Ok(served)
+}
+
+/// Makes a whole run whose passes are those of this history, by this plan or in lockstep, on one thread
+/// on what `planned_for` gives, and takes what its threads serve while it is made.
+pub(crate) fn served_of_replay(
+    alloc: Global,
+    config: &Config,
+    plan: Option<Plan>,
+    given: &mut Arrivals,
+    history: &[PassEntry],
+) -> Result<ServedRequests, Stopped<AllocError>>
+    requires fits { FitsTable config.now given.old }
+    requires given { AreGivenBy plan given.old }
+    requires range { IsInRange (extent_of config.now) history.now }
+    ensures { (arrivals : RunArrivals) → ArePlannedBy plan arrivals given.old →
+        IfOk result (IsReplayServed plan config.now arrivals given.new history.now) }
+{
+    let mut open = OpenRequests::open(alloc, config)?;
+    replayed_by(alloc, config, plan, given, history, &mut open)?;
     let OpenRequests { works, .. } = open;
     let threads = end_works(alloc, works, run_end(given))?;
     let served = ServedRequests::of(alloc, threads.as_slice())?;

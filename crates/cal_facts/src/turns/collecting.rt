@@ -4,6 +4,9 @@ ghost use Rattle.std.specs.Prelude.{◌≡◌, [], IfErr, IfOk, replicate};
 ghost use Rattle.cal_machine.specs.TableTasks.{threads_of_table};
 ghost use Rattle.cal_tables.specs.Planned.{IsFaultBy};
 ghost use Rattle.cal_trace.specs.Arrivals.FitsTable.{FitsTable};
+ghost use Rattle.cal_trace.specs.History.Ranges.{IsInRange};
+ghost use Rattle.cal_trace.specs.History.Reading.{extent_of};
+ghost use Rattle.cal_facts.specs.Replayed.{AreTurnsOfReplay};
 ghost use Rattle.cal_facts.specs.WorkTurns.{AreTurnsOfRun};
 
 use crate::turns::work::WorkTurn;
@@ -12,10 +15,10 @@ use cal_kthread::TurnEntries;
 use cal_machine::Config;
 use cal_measure::run_end;
 use cal_paced::Plan;
-use cal_policy::{Actions, Policy};
+use cal_policy::{Actions, PassEntry, Policy};
 use cal_run::{Collected, Collector, OpenCollection, step_given};
 use cal_sched::BareScheduler;
-use cal_tables::{PlannedFault, collected_by, planned_for};
+use cal_tables::{PlannedFault, ReplayedFault, collected_by, planned_for, replayed_by};
 use cal_trace::Arrivals;
 use std::alloc::{AllocError, Global};
 
@@ -81,6 +84,30 @@ pub(crate) fn turns_of_run(
     let mut given = planned_for(alloc, plan, arrivals)?;
     let mut open = OpenTurns::open(alloc, config)?;
     let left = collected_by(alloc, config, policy, plan, &mut given, &mut open)?;
+    let OpenTurns { kept, .. } = open;
+    let Collected { journals, .. } = kept.close(alloc)?;
+    let (threads, last) = (config.threads(), run_end(&given));
+    let works = works_below(alloc, threads, last, journals.as_slice(), left.as_slice())?;
+    Ok(works)
+}
+
+/// Makes a whole run whose passes are those of this history, by this plan or in lockstep, on one thread
+/// on these arrivals, and tells the turns at work of its threads.
+pub(crate) fn turns_of_replay(
+    alloc: Global,
+    config: &Config,
+    plan: Option<Plan>,
+    arrivals: Arrivals,
+    history: &[PassEntry],
+) -> Result<Vec<WorkTurn>, ReplayedFault>
+    requires fits { FitsTable config.now arrivals }
+    requires range { IsInRange (extent_of config.now) history.now }
+    ensures { IfOk result (λ works.
+        AreTurnsOfReplay plan config.now arrivals history.now works.items) }
+{
+    let mut given = planned_for(alloc, plan, arrivals)?;
+    let mut open = OpenTurns::open(alloc, config)?;
+    let left = replayed_by(alloc, config, plan, &mut given, history, &mut open)?;
     let OpenTurns { kept, .. } = open;
     let Collected { journals, .. } = kept.close(alloc)?;
     let (threads, last) = (config.threads(), run_end(&given));

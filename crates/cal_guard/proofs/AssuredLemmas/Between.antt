@@ -65,10 +65,10 @@ ready_at laws table history ok legal (suc p) le = ⊎_elim
     (λ past. absurd (let no = past.0 in omega (arith, no, le)))
     (slice_get_cases history p).1
 
-are_permitted : (s : Setting) → IsTable s.table → IsPermittedWhole s → ArePermitted s (pass_of s)
-are_permitted s ok whole = record {
+are_permitted : (s : Setting) → IsTable s.table → NoPairBanned (actions_of s.history) → IsPermittedWhole s → ArePermitted s (pass_of s)
+are_permitted s ok apart whole = record {
   each = λ i a e. each_at (IsPermitted s) [] (pass_of s) i a whole.each e;
-  short = pass_short s ok whole.freed.base.apart whole.banned.base.apart;
+  short = pass_short s ok apart;
   settled = record { emptied = whole.after.emptied; lowered = whole.after.lowered };
 }
 
@@ -79,6 +79,7 @@ passes_permitted laws table history ok legal = record {
       let pass = legal.passes p entry e in
       let s : Setting = setting_of table (take p history) entry in
       let P : List Action → Type 0 = λ acts. ArePermitted s acts in
-      let whole = whole_pass laws table (take p history) entry ok (ready_at laws table history ok legal p (omega (arith, within))) in
-      record { input = pass.input; actions = subst P (sym pass.actions) (are_permitted s ok whole) };
+      let ready = ready_at laws table history ok legal p (omega (arith, within)) in
+      let whole = whole_pass laws table (take p history) entry ok ready in
+      record { input = pass.input; actions = subst P (sym pass.actions) (are_permitted s ok ready.apart whole) };
 }

@@ -20,7 +20,7 @@ use Rattle.cal_policy.specs.Assured.Hyperthreads.{unbans, due_for, bans_at, bans
 use Rattle.cal_policy.specs.Assured.Pass.{unbanned_of, bounded_of, pass_of}
 use Rattle.cal_policy.specs.Assured.Short.{is_open, surplus, are_lacked}
 use Rattle.cal_policy.specs.Assured.InFlight.{pressing}
-use Rattle.cal_policy.specs.Assured.Taking.{is_kept, held_class}
+use Rattle.cal_policy.specs.Assured.Taking.{is_kept, may_take_from, held_class}
 use Rattle.cal_policy.proofs.AssuredLemmas.Done.{IsUnbanned, IsGranted, IsFreeing, IsUnbanning, IsServing, open_taken, held_taken, frees_made, unbans_made, grants_made}
 use Rattle.cal_guard.proofs.AssuredLemmas.Standing.{Lowers, none_over_more, IsUnsent, NoneGranted, none_granted_more, unsent_more, sent_quiet, loser_unsent, sent_revoked, thread_unsent, Base, base_shrinks, base_granted}
 use Rattle.cal_policy.proofs.AssuredLemmas.Walks.{each_leads, turns_lead}
@@ -381,8 +381,10 @@ takeable s acts t core class ok low (holders.Leaving p cause) e f = absurd (cc)
 takeable s acts t core class ok low (holders.Held p) e f =
     let x : List Action = so_far s acts in
     let u : ℕ = owner_of s.table p.thread in
-    let there = some_then (has_room s p.thread && not (is_granted_in acts core)) (preempt_class s.table x t u) class f in
-    let both = and_parts (has_room s p.thread) (not (is_granted_in acts core)) there.0 in
+    let may = may_take_from s x t u in
+    let there = some_then (has_room s p.thread && not (is_granted_in acts core) && may) (preempt_class s.table x t u) class f in
+    let first = and_parts (has_room s p.thread && not (is_granted_in acts core)) may there.0 in
+    let both = and_parts (has_room s p.thread) (not (is_granted_in acts core)) first.0 in
     record {
       low = low;
       fresh = not-true (is_granted_in acts core) both.1;

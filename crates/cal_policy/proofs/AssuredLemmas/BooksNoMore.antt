@@ -1,9 +1,10 @@
 -- A task that may book no more cores may book none while cores are granted and revoked.
-use Rattle.cal_policy.proofs.Common.{◌≡◌, ℕ, ◌≤◌, Bool, true, false, not, ◌&&◌, ◌||◌, cond, eqb, nat_lt, List, [], ◌∷◌, ◌++◌, zero, suc, Option, Some, None, refl, sym, ap, ◌∙◌, arith, subst, append_assoc, nat_tests, and_parts, append-nil, option_or, unwrap_or, Table, thread_of, limit_of, is_latency_critical, Action, Free, Unban, Ban, Revoke, Cap, Grant, Cause, CoreClass, Candidate, Holder, grant_in_place, task_in_place, is_open, waits, is_kept, held_class, open_choice, held_choice, may_preempt, choice_for, is_free, is_held, is_booked_for, booked_by, cap_of, holder_of, holder_made, is_banned, last_placement, placement_made, placed, left_by, class_number, is_idle, last_after, in_turn, grant_of, may_book, thread_choice, Setting, so_far, unwrap_if}
+use Rattle.cal_policy.proofs.Common.{◌≡◌, ℕ, ◌≤◌, Bool, true, false, not, ◌&&◌, ◌||◌, cond, eqb, nat_lt, List, [], ◌∷◌, ◌++◌, Option, Some, None, refl, sym, ap, ◌∙◌, arith, subst, nat_tests, and_parts, append-nil, option_or, unwrap_or, Table, thread_of, limit_of, is_latency_critical, Action, Free, Unban, Ban, Revoke, Cap, Grant, Cause, CoreClass, Candidate, Holder, may_act, act_of, act_in_place, turn_in_place, task_in_place, is_open, waits, is_kept, held_class, open_choice, held_choice, may_preempt, choice_for, is_free, is_held, is_booked_for, booked_by, cap_of, holder_of, holder_made, is_banned, last_placement, placement_made, placed, left_by, class_number, is_idle, last_after, in_turn, grant_of, may_book, thread_choice, Setting, so_far, unwrap_if}
 use Rattle.cal_policy.specs.declared.history.action.Cause.TheVariants as causes
 use Rattle.cal_policy.specs.declared.board.holders.Placement as placements
 use Rattle.cal_policy.specs.declared.board.holders.Holder.TheVariants as holders
 use Rattle.cal_policy.proofs.AssuredLemmas.Done.{open_taken, held_taken}
+use Rattle.cal_policy.proofs.AssuredLemmas.Walks.{turns_keep}
 use Rattle.cal_policy.proofs.HistoryLemmas.OneMore.{holder_push, last_cap_push}
 use Rattle.cal_policy.proofs.ListLemmas.Counted.{count_le}
 use Rattle.cal_policy.proofs.PassLemmas.Fits.{so_far_push}
@@ -63,7 +64,7 @@ last_held : (c : ℕ) (before xs : List Action) (p : placements.Placement) → l
 last_held c before [] p e = cc
 last_held c before (a ∷ xs) p e = held_or c before xs a p (last_held c (before ++ a ∷ []) xs p) (last_after (holder_made c) (before ++ a ∷ []) xs) refl e
 
-held_granted : (x : List Action) (c : ℕ) (p : placements.Placement) → holder_of x c ≡ holders.Held p → last_placement x c ≡ Some p
+pub held_granted : (x : List Action) (c : ℕ) (p : placements.Placement) → holder_of x c ≡ holders.Held p → last_placement x c ≡ Some p
 held_granted x c p e = last_held c [] x p (by_made (last_after (holder_made c) [] x) e)
   where
     by_made : (o : Option Holder) → unwrap_or o holders.Free ≡ holders.Held p → o ≡ Some (holders.Held p)
@@ -77,11 +78,11 @@ revoked_books table x core t cause holders.Free e is held = cc
 revoked_books table x core t cause (holders.Held p) e is held = ap (λ o. is_booked_for table t (left_by o cause)) (held_granted x core p e) ∙ is
 revoked_books table x core t cause (holders.Leaving p why) e is held = cc
 
-same_number : (core c : ℕ) → eqb core c ≡ true → c ≡ core
+pub same_number : (core c : ℕ) → eqb core c ≡ true → c ≡ core
 same_number core c e = grind (arith, nat_tests)
 
 -- what such an action does to the core that it names
-abbrev Moves : List Action → Action → Type 0
+abbrev pub Moves : List Action → Action → Type 0
 Moves x (Grant core thread class) = is_free (holder_of x core) ≡ true
 Moves x (Revoke core cause) = is_held (holder_of x core) ≡ true
 Moves x (Free core) = ⊥
@@ -95,7 +96,7 @@ free_books_none table t (holders.Held p) e = cc
 free_books_none table t (holders.Leaving p cause) e = cc
 
 -- a core that is booked for a task stays so
-stays_booked : (table : Table) (x : List Action) (a : Action) (t c : ℕ) → Moves x a → is_booked_for table t (holder_of x c) ≡ true → is_booked_for table t (holder_of (x ++ a ∷ []) c) ≡ true
+pub stays_booked : (table : Table) (x : List Action) (a : Action) (t c : ℕ) → Moves x a → is_booked_for table t (holder_of x c) ≡ true → is_booked_for table t (holder_of (x ++ a ∷ []) c) ≡ true
 stays_booked table x (Free core) t c m is = absurd m
 stays_booked table x (Unban core) t c m is = absurd m
 stays_booked table x (Ban core thread started) t c m is = absurd m
@@ -141,7 +142,7 @@ one_books s x a t m e =
     (books_by (booked_by s.table x t) (booked_by s.table (x ++ a ∷ []) t) (limit_of s.table t) (cap_of s.table x t) (is_latency_critical s.table t) more e)
 
 -- what the turn of a task gives
-abbrev AllMove : List Action → List Action → Type 0
+abbrev pub AllMove : List Action → List Action → Type 0
 AllMove x [] = Unit {0}
 AllMove x (a ∷ []) = Moves x a
 AllMove x (a ∷ b ∷ more) = ⊥
@@ -179,22 +180,25 @@ moves_if : (x l : List Action) (b : Bool) → AllMove x l → AllMove x (cond b 
 moves_if x l true m = m
 moves_if x l false m = tt
 
-turn_moves : (s : Setting) (acts : List Action) (o : Option ℕ) → AllMove (so_far s acts) (grant_in_place s acts o)
-turn_moves s acts None = tt
-turn_moves s acts (Some t) = moves_if (so_far s acts) (grant_of s t (thread_choice s (so_far s acts) t) (choice_for s acts t)) (waits s (so_far s acts) t)
-    (chosen_moves s acts t (thread_choice s (so_far s acts) t) (open_choice s (so_far s acts) t) refl (may_preempt s (so_far s acts) t) (held_choice s acts t) refl)
+pub act_moves : (s : Setting) (acts : List Action) (t : ℕ) → AllMove (so_far s acts) (act_of s acts t)
+act_moves s acts t = moves_if (so_far s acts) (grant_of s t (thread_choice s (so_far s acts) t) (choice_for s acts t)) (waits s (so_far s acts) t && may_act s acts t)
+    (chosen_moves s acts t (thread_choice s (so_far s acts) t) (open_choice s (so_far s acts) t) refl (may_preempt s acts t) (held_choice s acts t) refl)
 
 all_books : (s : Setting) (acts l : List Action) (t : ℕ) → AllMove (so_far s acts) l → may_book s (so_far s acts) t ≡ false → may_book s (so_far s (acts ++ l)) t ≡ false
 all_books s acts [] t m e = ap (λ l. may_book s (so_far s l) t) (append-nil acts) ∙ e
 all_books s acts (a ∷ []) t m e = ap (λ x. may_book s x t) (so_far_push s acts a) ∙ one_books s (so_far s acts) a t m e
 all_books s acts (a ∷ b ∷ more) t m e = absurd m
 
+act_books : (s : Setting) (acts : List Action) (o : Option ℕ) (t : ℕ) → may_book s (so_far s acts) t ≡ false → may_book s (so_far s (acts ++ act_in_place s acts o)) t ≡ false
+act_books s acts None t e = ap (λ l. may_book s (so_far s l) t) (append-nil acts) ∙ e
+act_books s acts (Some u) t e = all_books s acts (act_of s acts u) t (act_moves s acts u) e
+
+turn_books : (s : Setting) (acts : List Action) (o : Option ℕ) (t : ℕ) → may_book s (so_far s acts) t ≡ false → may_book s (so_far s (acts ++ turn_in_place s acts o)) t ≡ false
+turn_books s acts o t e = turns_keep (λ l. may_book s (so_far s l) t ≡ false) (λ made act. act_in_place s made o) s.table.cores
+    (λ now act is. act_books s now o t is) acts e
+
 -- after so many turns
 pub books_none : (s : Setting) (acts x : List Action) (t n : ℕ) → may_book s (so_far s acts) t ≡ false →
-    may_book s (so_far s (acts ++ in_turn (λ made place. grant_in_place s made (task_in_place s x place)) acts n)) t ≡ false
-books_none s acts x t zero e = ap (λ l. may_book s (so_far s l) t) (append-nil acts) ∙ e
-books_none s acts x t (suc n) e =
-    let f : List Action → ℕ → List Action = λ made place. grant_in_place s made (task_in_place s x place) in
-    let now : List Action = acts ++ in_turn f acts n in
-    ap (λ l. may_book s (so_far s l) t) (sym (append_assoc acts (in_turn f acts n) (f now n)))
-    ∙ all_books s now (f now n) t (turn_moves s now (task_in_place s x n)) (books_none s acts x t n e)
+    may_book s (so_far s (acts ++ in_turn (λ made place. turn_in_place s made (task_in_place s x place)) acts n)) t ≡ false
+books_none s acts x t n e = turns_keep (λ l. may_book s (so_far s l) t ≡ false) (λ made place. turn_in_place s made (task_in_place s x place)) n
+    (λ now place is. turn_books s now (task_in_place s x place) t is) acts e

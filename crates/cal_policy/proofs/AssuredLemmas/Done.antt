@@ -1,5 +1,5 @@
 -- Each action of a pass, with what stands at its own place.
-use Rattle.cal_policy.proofs.Common.{◌≡◌, ℕ, ◌+◌, ◌<◌, ◌⊎◌, Bool, true, false, not, ◌&&◌, cond, eqb, nat_lt, List, [], ◌∷◌, ◌++◌, length, Option, Some, None, inl, inr, refl, ap, ◌∙◌, subst, option_or, is_some, and_parts, ltb-true, sibling_of, owner_of, thread_of, is_latency_critical, some_then, Action, Free, Unban, Ban, Revoke, Cap, Grant, BannedFor, Holder, Candidate, CoreClass, class_number, is_idle, comes_before, holder_of, last_thread, ban_of, is_banned, is_held, best_below, lowest_below, shows_left, free_at, frees, still_shows, ban_for, victim_of, core_to_lose, cut_at, cut_of, rise_of, is_capped, bandwidth_part, thread_choice, grant_of, idle_class, preempt_class, is_granted_in, EachAfter, IsFreed, IsCapCut, IsCapRise, followed, Setting, so_far, kept_now, is_held_with_room, grant_in_place, grants_of_first, grants, due_for, pressing, coming, task_in_place, place_of, bounded_of, ComesTo, surplus, waits, are_wanted, may_take, open_class, owed_class, open_choice, held_class, held_choice, may_preempt, choice_for, owed_to, is_task}
+use Rattle.cal_policy.proofs.Common.{◌≡◌, ℕ, ◌<◌, ◌⊎◌, Bool, true, false, not, ◌&&◌, cond, eqb, nat_lt, List, [], ◌∷◌, ◌++◌, length, Option, Some, None, inl, inr, refl, ap, ◌∙◌, subst, option_or, is_some, and_parts, sibling_of, owner_of, thread_of, is_latency_critical, some_then, Action, Free, Unban, Ban, Revoke, Cap, Grant, BannedFor, Holder, Candidate, CoreClass, class_number, is_idle, comes_before, holder_of, last_thread, ban_of, is_banned, is_held, best_below, lowest_below, shows_left, free_at, frees, still_shows, ban_for, victim_of, core_to_lose, cut_at, cut_of, rise_of, is_capped, bandwidth_part, thread_choice, grant_of, idle_class, preempt_class, is_granted_in, EachAfter, IsFreed, IsCapCut, IsCapRise, followed, Setting, so_far, kept_now, is_held_with_room, may_act, act_of, act_in_place, acts_in_place, turn_in_place, grants_of_first, grants, due_for, task_in_place, place_of, bounded_of, ComesTo, waits, are_wanted, may_take, open_class, owed_class, open_choice, may_take_from, held_class, held_choice, more_press, may_preempt, choice_for, owed_to, is_task}
 use Rattle.cal_policy.specs.declared.history.action.Cause.TheVariants as causes
 use Rattle.cal_policy.specs.declared.board.holders.Holder.TheVariants as holders
 use Rattle.cal_policy.proofs.ListLemmas.Counted.{best_ranked, lowest_passes}
@@ -28,6 +28,7 @@ pub record IsGranted (s : Setting) (acts : List Action) (core thread class : ℕ
   pub task : ℕ
   pub own : task < length s.table.tasks
   pub waiting : waits s (so_far s acts) task ≡ true
+  pub may : may_act s acts task ≡ true
   pub chosen_thread : Candidate ℕ
   pub longest : thread_choice s (so_far s acts) task ≡ Some chosen_thread
   pub thread_chosen : thread ≡ thread_of s.table task chosen_thread.number
@@ -37,7 +38,8 @@ pub record IsGranted (s : Setting) (acts : List Action) (core thread class : ℕ
   pub class_chosen : class ≡ class_number choice.rank
   pub place : ℕ
   pub turn : task_in_place s (so_far s (bounded_of s)) place ≡ Some task
-  pub before : acts ≡ followed (bounded_of s) (grants_of_first place s)
+  pub act : ℕ
+  pub before : acts ≡ followed (followed (bounded_of s) (grants_of_first place s)) (acts_in_place act s (Some task))
 
 -- what the first part does, the second, and the last
 abbrev pub IsFreeing : Setting → List Action → Action → Type 0
@@ -198,7 +200,7 @@ held_high : (s : Setting) (acts : List Action) (t core : ℕ) (class : CoreClass
 held_high s acts t core class holders.Free e = cc
 held_high s acts t core class (holders.Leaving p cause) e = cc
 held_high s acts t core class (holders.Held p) e =
-    let there = some_then (is_held_with_room s (holders.Held p) && not (is_granted_in acts core)) (preempt_class s.table (so_far s acts) t (owner_of s.table p.thread)) class e in
+    let there = some_then (is_held_with_room s (holders.Held p) && not (is_granted_in acts core) && may_take_from s (so_far s acts) t (owner_of s.table p.thread)) (preempt_class s.table (so_far s acts) t (owner_of s.table p.thread)) class e in
     preempt_high s.table (so_far s acts) t (owner_of s.table p.thread) class there.1
 
 pub held_taken : (s : Setting) (acts : List Action) (t : ℕ) (choice : Candidate CoreClass) → held_choice s acts t ≡ Some choice → IsHeldFor s acts t choice.number choice.rank
@@ -206,15 +208,21 @@ held_taken s acts t choice e =
     let ranked = best_ranked comes_before (λ c. held_class s acts t c (holder_of (so_far s acts) c)) s.table.cores choice e in
     record { low = ranked.0; classed = ranked.1; high = held_high s acts t choice.number choice.rank (holder_of (so_far s acts) choice.number) ranked.1 }
 
--- the turn of a task
-record IsTurn (s : Setting) (acts : List Action) (t : ℕ) : Type 0 where
+-- the actions before an act of a task in its place
+abbrev before_act : Setting → ℕ → ℕ → ℕ → List Action
+before_act s place t act = followed (followed (bounded_of s) (grants_of_first place s)) (acts_in_place act s (Some t))
+
+-- an act of a task
+record IsAct (s : Setting) (acts : List Action) (t : ℕ) : Type 0 where
   own : t < length s.table.tasks
   waiting : waits s (so_far s acts) t ≡ true
+  may : may_act s acts t ≡ true
   place : ℕ
   turn : task_in_place s (so_far s (bounded_of s)) place ≡ Some t
-  before : acts ≡ followed (bounded_of s) (grants_of_first place s)
+  act : ℕ
+  before : acts ≡ before_act s place t act
 
-granted_made : (s : Setting) (acts : List Action) (t : ℕ) (thread : Candidate ℕ) (core : Candidate CoreClass) → IsTurn s acts t → thread_choice s (so_far s acts) t ≡ Some thread →
+granted_made : (s : Setting) (acts : List Action) (t : ℕ) (thread : Candidate ℕ) (core : Candidate CoreClass) → IsAct s acts t → thread_choice s (so_far s acts) t ≡ Some thread →
     open_choice s (so_far s acts) t ≡ Some core → (b : Bool) → is_idle core.rank ≡ b →
     EachAfter (IsServing s) acts (cond b (Grant core.number (thread_of s.table t thread.number) (class_number core.rank) ∷ []) (Revoke core.number (causes.Preempt t) ∷ []))
 granted_made s acts t thread core turn longest least true is = (
@@ -222,6 +230,7 @@ granted_made s acts t thread core turn longest least true is = (
     task = t;
     own = turn.own;
     waiting = turn.waiting;
+    may = turn.may;
     chosen_thread = thread;
     longest = longest;
     thread_chosen = refl;
@@ -231,22 +240,24 @@ granted_made s acts t thread core turn longest least true is = (
     class_chosen = refl;
     place = turn.place;
     turn = turn.turn;
+    act = turn.act;
     before = turn.before;
   },
   tt,
 )
 granted_made s acts t thread core turn longest least false is = let idle = (open_taken s (so_far s acts) t core least).idle in absurd (cc)
 
-revoked_made : (s : Setting) (acts : List Action) (t : ℕ) (thread : Candidate ℕ) (core : Candidate CoreClass) → IsTurn s acts t →
-    open_choice s (so_far s acts) t ≡ None → may_preempt s (so_far s acts) t ≡ true → held_choice s acts t ≡ Some core → (b : Bool) → is_idle core.rank ≡ b →
+revoked_made : (s : Setting) (acts : List Action) (t : ℕ) (thread : Candidate ℕ) (core : Candidate CoreClass) → IsAct s acts t →
+    open_choice s (so_far s acts) t ≡ None → may_preempt s acts t ≡ true → held_choice s acts t ≡ Some core → (b : Bool) → is_idle core.rank ≡ b →
     EachAfter (IsServing s) acts (cond b (Grant core.number (thread_of s.table t thread.number) (class_number core.rank) ∷ []) (Revoke core.number (causes.Preempt t) ∷ []))
 revoked_made s acts t thread core turn none may held true is = let high = (held_taken s acts t core held).high in absurd (cc)
 revoked_made s acts t thread core turn none may held false is =
-    let both = and_parts (is_latency_critical s.table t) (nat_lt (coming s (so_far s acts) t + surplus s (so_far s acts) t) (pressing s (so_far s acts) t)) may in
-    (record { own = turn.own; critical = both.0; waiting = turn.waiting; none_open = none; more_press = ltb-true _ _ both.1; class = core.rank; least = held }, tt)
+    let presses = and_parts (is_latency_critical s.table t && more_press s (so_far s acts) t) _ may in
+    let both = and_parts (is_latency_critical s.table t) (more_press s (so_far s acts) t) presses.0 in
+    (record { own = turn.own; critical = both.0; waiting = turn.waiting; none_open = none; may = may; class = core.rank; least = held }, tt)
 
-chosen_made : (s : Setting) (acts : List Action) (t : ℕ) (thread : Option (Candidate ℕ)) → IsTurn s acts t → thread_choice s (so_far s acts) t ≡ thread →
-    (o : Option (Candidate CoreClass)) → open_choice s (so_far s acts) t ≡ o → (b : Bool) → may_preempt s (so_far s acts) t ≡ b → (h : Option (Candidate CoreClass)) → held_choice s acts t ≡ h →
+chosen_made : (s : Setting) (acts : List Action) (t : ℕ) (thread : Option (Candidate ℕ)) → IsAct s acts t → thread_choice s (so_far s acts) t ≡ thread →
+    (o : Option (Candidate CoreClass)) → open_choice s (so_far s acts) t ≡ o → (b : Bool) → may_preempt s acts t ≡ b → (h : Option (Candidate CoreClass)) → held_choice s acts t ≡ h →
     EachAfter (IsServing s) acts (grant_of s t thread (option_or o (cond b h None)))
 chosen_made s acts t None turn e o f b g h i = tt
 chosen_made s acts t (Some thread) turn e (Some core) f b g h i = granted_made s acts t thread core turn e f (is_idle core.rank) refl
@@ -254,19 +265,29 @@ chosen_made s acts t (Some thread) turn e None f true g (Some core) i = revoked_
 chosen_made s acts t (Some thread) turn e None f true g None i = tt
 chosen_made s acts t (Some thread) turn e None f false g h i = tt
 
-place_made : (s : Setting) (place : ℕ) (o : Option ℕ) → task_in_place s (so_far s (bounded_of s)) place ≡ o →
-    EachAfter (IsServing s) (followed (bounded_of s) (grants_of_first place s)) (grant_in_place s (followed (bounded_of s) (grants_of_first place s)) o)
-place_made s place None e = tt
-place_made s place (Some t) e =
-    let acts : List Action = followed (bounded_of s) (grants_of_first place s) in
-    let there = lowest_passes (λ t. eqb (place_of s (so_far s (bounded_of s)) t) place) (length s.table.tasks) t e in
-    each_if (IsServing s) acts (waits s (so_far s acts) t) (grant_of s t (thread_choice s (so_far s acts) t) (choice_for s acts t)) (λ waiting.
-    chosen_made s acts t (thread_choice s (so_far s acts) t) (record { own = there.0; waiting = waiting; place = place; turn = e; before = refl }) refl
-    (open_choice s (so_far s acts) t) refl (may_preempt s (so_far s acts) t) refl (held_choice s acts t) refl)
+act_made : (s : Setting) (place t act : ℕ) → t < length s.table.tasks → task_in_place s (so_far s (bounded_of s)) place ≡ Some t →
+    EachAfter (IsServing s) (before_act s place t act) (act_of s (before_act s place t act) t)
+act_made s place t act own e =
+    let acts : List Action = before_act s place t act in
+    each_if (IsServing s) acts (waits s (so_far s acts) t && may_act s acts t) (grant_of s t (thread_choice s (so_far s acts) t) (choice_for s acts t)) (λ both.
+    let parts = and_parts (waits s (so_far s acts) t) (may_act s acts t) both in
+    chosen_made s acts t (thread_choice s (so_far s acts) t) (record { own = own; waiting = parts.0; may = parts.1; place = place; turn = e; act = act; before = refl }) refl
+    (open_choice s (so_far s acts) t) refl (may_preempt s acts t) refl (held_choice s acts t) refl)
+
+place_made : (s : Setting) (place : ℕ) (o : Option ℕ) → task_in_place s (so_far s (bounded_of s)) place ≡ o → (act : ℕ) →
+    let acts : List Action = followed (followed (bounded_of s) (grants_of_first place s)) (acts_in_place act s o) in EachAfter (IsServing s) acts (act_in_place s acts o)
+place_made s place None e act = tt
+place_made s place (Some t) e act =
+    let there = lowest_passes (λ t. eqb (place_of s (so_far s (bounded_of s)) t) place) (length s.table.tasks) t e in act_made s place t act there.0 e
+
+turn_made : (s : Setting) (place : ℕ) (o : Option ℕ) → task_in_place s (so_far s (bounded_of s)) place ≡ o →
+    EachAfter (IsServing s) (followed (bounded_of s) (grants_of_first place s)) (turn_in_place s (followed (bounded_of s) (grants_of_first place s)) o)
+turn_made s place o e =
+    each_turn (IsServing s) (λ made act. act_in_place s made o) (followed (bounded_of s) (grants_of_first place s)) s.table.cores (λ act lt. place_made s place o e act)
 
 pub grants_made : (s : Setting) → EachAfter (IsServing s) (bounded_of s) (grants s (bounded_of s))
-grants_made s = each_turn (IsServing s) (λ made place. grant_in_place s made (task_in_place s (so_far s (bounded_of s)) place)) (bounded_of s) (length s.table.tasks)
-    (λ place lt. place_made s place (task_in_place s (so_far s (bounded_of s)) place) refl)
+grants_made s = each_turn (IsServing s) (λ made place. turn_in_place s made (task_in_place s (so_far s (bounded_of s)) place)) (bounded_of s) (length s.table.tasks)
+    (λ place lt. turn_made s place (task_in_place s (so_far s (bounded_of s)) place) refl)
 
 then_done : (s : Setting) (acts more : List Action) → EachAfter (IsDone s) [] acts → EachAfter (IsDone s) acts more → EachAfter (IsDone s) [] (acts ++ more)
 then_done s acts more e f = each_append (IsDone s) [] acts more e f

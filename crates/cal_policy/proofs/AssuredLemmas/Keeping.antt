@@ -1,5 +1,5 @@
 -- Which cores are kept, by the tests that are made in turn; and a choice after another.
-use Rattle.cal_policy.proofs.Common.{◌≡◌, Bool, true, false, not, cond, ◌&&◌, ◌||◌, Option, Some, None, refl, option_or}
+use Rattle.cal_policy.proofs.Common.{◌≡◌, Bool, true, false, cond, ◌&&◌, Option, Some, None, refl, option_or}
 
 pub second_fails : (a b : Bool) → b ≡ false → false ≡ (a && b)
 second_fails true b e = cc
@@ -10,20 +10,10 @@ middle_fails true true r e = cc
 middle_fails true false r e = refl
 middle_fails false b r e = refl
 
-pub kept_lacked : (short lacked a b : Bool) → true ≡ (not short && lacked) → true ≡ cond short a (lacked || b)
-kept_lacked true lacked a b e = cc
-kept_lacked false true a b e = refl
-kept_lacked false false a b e = cc
-
-pub kept_none : (short lacked : Bool) → false ≡ (not short && lacked) → false ≡ cond short false (lacked || false)
-kept_none true lacked e = refl
-kept_none false true e = cc
-kept_none false false e = refl
-
-pub kept_other : (short lacked a b : Bool) → short ≡ false → false ≡ (not short && lacked) → b ≡ cond short a (lacked || b)
-kept_other true lacked a b e f = cc
-kept_other false true a b e f = cc
-kept_other false false a b e f = refl
+-- a core that is owed to nobody is kept from nobody
+pub kept_none : (short : Bool) → false ≡ cond short false false
+kept_none true = refl
+kept_none false = refl
 
 -- the first choice, where there is one, else the next
 pub chosen_here : {X : Type 0} (x : X) (first next : Option X) → Some x ≡ first → Some x ≡ option_or first next

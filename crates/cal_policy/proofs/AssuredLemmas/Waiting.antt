@@ -1,5 +1,6 @@
 -- Threads that do not wait do not press.
-use Rattle.cal_policy.proofs.Common.{◌≡◌, ℕ, ◌+◌, ◌<◌, ◌≤◌, Bool, true, false, not, ◌&&◌, cond, eqb, nat_lt, List, [], length, Option, Some, None, refl, sym, ap, ◌∙◌, arith, is_some, nat_tests, and-false, first_thread, owner_of, thread_of, delay_of, limit_of, has_thread, Action, Board, IsCalm, grant_in_place, is_in_flight, is_late, presses, pressing, place_of, task_in_place, is_short, surplus, waits, waits_short, some_waits_short, KeepsSets, count_below, may_book, thread_choice, Setting, so_far, Stands}
+use Rattle.cal_policy.proofs.Common.{◌≡◌, ℕ, ◌+◌, ◌<◌, ◌≤◌, Bool, false, not, ◌&&◌, eqb, nat_lt, List, [], length, Option, refl, sym, ap, ◌∙◌, arith, is_some, nat_tests, and-false, first_thread, owner_of, thread_of, delay_of, limit_of, has_thread, Action, Board, IsCalm, turn_in_place, is_in_flight, is_late, presses, pressing, place_of, task_in_place, is_short, surplus, waits, waits_short, some_waits_short, KeepsSets, count_below, may_book, thread_choice, Setting, so_far, Stands}
+use Rattle.cal_policy.proofs.AssuredLemmas.Acts.{idle_place, waits_not}
 use Rattle.cal_policy.proofs.AssuredLemmas.Counting.{count_skip, below_nothing, none_passes}
 use Rattle.cal_policy.proofs.ListLemmas.Counted.{lowest_passes}
 use Rattle.cal_policy.proofs.PassLemmas.NothingDue.{no_delay}
@@ -47,17 +48,12 @@ pub calm_short : (b : Board) (s : Setting) (acts : List Action) → Stands b s a
     waits_short s (so_far s acts) t ≡ false
 calm_short b s acts st sets t most none = ap (λ w. is_short s.table (so_far s acts) t && w) (calm_task b s acts st sets t most none) ∙ and-false (is_short s.table (so_far s acts) t)
 
-pub unless_waits : (b : Bool) (l : List Action) → b ≡ false → cond b l [] ≡ []
-unless_waits true l e = cc
-unless_waits false l e = refl
-
 -- where no task waits none is given anything in its place
 pub nothing_in_place : (s : Setting) (acts x : List Action) (place : ℕ) (o : Option ℕ) → task_in_place s x place ≡ o →
-    ((t : ℕ) → t < length s.table.tasks → waits s (so_far s acts) t ≡ false) → grant_in_place s acts o ≡ []
-nothing_in_place s acts x place None e calm = refl
-nothing_in_place s acts x place (Some t) e calm =
-    let there = lowest_passes (λ u. eqb (place_of s x u) place) (length s.table.tasks) t e in
-    unless_waits (waits s (so_far s acts) t) _ (calm t there.0)
+    ((t : ℕ) → t < length s.table.tasks → waits s (so_far s acts) t ≡ false) → turn_in_place s acts o ≡ []
+nothing_in_place s acts x place o e calm = idle_place s acts o (λ t is.
+    let there = lowest_passes (λ u. eqb (place_of s x u) place) (length s.table.tasks) t (e ∙ is) in
+    waits_not s acts t (calm t there.0))
 
 not_pressing : (s : Setting) (x : List Action) (k : ℕ) → is_late s k ≡ false → presses s x k ≡ false
 not_pressing s x k e = ap (λ b. b && not (is_in_flight s x k)) e

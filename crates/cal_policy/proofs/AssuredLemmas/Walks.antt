@@ -50,6 +50,14 @@ turns_lead P Q f (suc n) step before q =
     let last = step now n (omega arith) first.1 in
     (each_append P before (in_turn f before n) (f now n) first.0 last.0, rw (append_assoc before (in_turn f before n) (f now n)) at last.1)
 
+-- what each turn keeps all turns keep
+pub turns_keep : {X : Type 0} (Q : List X → Type 0) (f : List X → ℕ → List X) (n : ℕ) → ((now : List X) (k : ℕ) → Q now → Q (now ++ f now k)) →
+    (before : List X) → Q before → Q (before ++ in_turn f before n)
+turns_keep Q f zero step before q = rw append-nil q
+turns_keep Q f (suc n) step before q =
+    let now = before ++ in_turn f before n in
+    rw (append_assoc before (in_turn f before n) (f now n)) at (step now n (turns_keep Q f n step before q))
+
 -- what comes after others has their number for its place
 pub place_after : {X : Type 0} (acts rest : List X) (x : X) → slice_get (acts ++ x ∷ rest) (length acts) ≡ Some x
 place_after [] rest x = refl

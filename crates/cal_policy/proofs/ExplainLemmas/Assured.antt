@@ -1,5 +1,5 @@
 -- The turns of a pass of the second policy follow one another, and its order stays.
-use Rattle.cal_policy.proofs.Common.{◌≡◌, ℕ, ◌+◌, ◌<◌, ◌≤◌, ◌++◌, List, [], length, true, false, nat_lt, Option, ap, sym, refl, ◌∙◌, arith, subst, ⊎_elim, cases_lt, nat_tests, append-nil, Table, Action, Policy, Caladan, Assured, grant_in_place, unbanned_of, bounded_of, IsOrder, next_turn, made_before, placed_task, IsTurn, first_turn, next_in_part, freed_of, in_turn, free_at, pass_by, Setting}
+use Rattle.cal_policy.proofs.Common.{◌≡◌, ℕ, ◌+◌, ◌<◌, ◌≤◌, ◌++◌, List, [], length, true, false, nat_lt, Option, ap, sym, refl, ◌∙◌, arith, subst, ⊎_elim, cases_lt, nat_tests, append-nil, Table, Action, Policy, Caladan, Assured, act_in_place, turn_in_place, grants_of_first, unbanned_of, bounded_of, IsOrder, first_act, next_turn, made_before, placed_task, IsTurn, first_turn, next_in_part, freed_of, in_turn, free_at, pass_by, Setting}
 use Rattle.cal_policy.specs.declared.explain.turn.Turn.{Turn}
 use Rattle.cal_policy.specs.declared.explain.turn.Turn.TheVariants.{Free, Unban, Ban, Bandwidth, LatencyCritical, BestEffort, Placed, End}
 use Rattle.cal_policy.specs.Assured.Hyperthreads.{unban_at, bans_at}
@@ -21,16 +21,28 @@ part_follows M f before many k turn following lt more last = ⊎_elim
     (λ g. let same : k + 1 ≡ many = omega (arith, g, lt) in rw (not_less (k + 1) many g) (last ∙ turn_more f before k many same))
     (cases_lt (k + 1) many)
 
+-- an act is followed by the next of its task, and the last by the first of the next task
+acts_follow : (s : Setting) (place act : ℕ) → place < length s.table.tasks → act < s.table.cores → made_before s (next_turn s.table (Placed place act)) ≡ made_after_by Assured s (Placed place act)
+acts_follow s place act lt low =
+    let before = bounded_of s ++ grants_of_first place s (bounded_of s) in
+    let f : List Action → ℕ → List Action = λ made k. act_in_place s made (placed_task s place) in
+    ⊎_elim
+    (λ l. rw (less (act + 1) s.table.cores l) (turn_more f before act (act + 1) refl))
+    (λ g. let all : act + 1 ≡ s.table.cores = omega (arith, g, low) in
+    rw (not_less (act + 1) s.table.cores g)
+    (part_follows (made_before s) (λ made k. turn_in_place s made (placed_task s k)) (bounded_of s) (length s.table.tasks) place first_act End lt (append-nil _) refl
+    ∙ turn_more f before act s.table.cores all))
+    (cases_lt (act + 1) s.table.cores)
+
 -- after what a turn makes stand the actions that come before the next
 pub assured_follows : (s : Setting) (turn : Turn) → IsTurn s.table turn → made_before s (next_turn s.table turn) ≡ made_after_by Assured s turn
 assured_follows s (Free core) lt = part_follows (made_before s) (free_at s) [] s.table.cores core Free (Unban 0) lt refl (append-nil (freed_of s))
 assured_follows s (Unban core) lt = part_follows (made_before s) (unban_at s) (freed_of s) s.table.cores core Unban (Ban 0) lt refl (append-nil (unbanned_of s))
 assured_follows s (Ban core) lt = part_follows (made_before s) (bans_at s) (unbanned_of s) s.table.cores core Ban Bandwidth lt refl refl
-assured_follows s Bandwidth lt = append-nil (bounded_of s)
+assured_follows s Bandwidth lt = append-nil (bounded_of s ++ []) ∙ append-nil (bounded_of s)
 assured_follows s (LatencyCritical task) lt = sym (append-nil _)
 assured_follows s (BestEffort task) lt = sym (append-nil _)
-assured_follows s (Placed place) lt =
-    part_follows (made_before s) (λ made k. grant_in_place s made (placed_task s k)) (bounded_of s) (length s.table.tasks) place Placed End lt refl refl
+assured_follows s (Placed place act) lt = acts_follow s place act lt.0 lt.1
 assured_follows s End lt = sym (append-nil _)
 
 -- after what a turn makes stand the actions that come before the next, whichever the policy is
@@ -62,10 +74,13 @@ fixed_or_kept s (Ban core) acts order new e keeps fixed kept = part_keeps s s.ta
 fixed_or_kept s Bandwidth acts order new e keeps fixed kept = let P : List Action → Type 0 = λ l. IsOrder s l new in subst P e (fixed refl)
 fixed_or_kept s (LatencyCritical task) acts order new e keeps fixed kept = tt
 fixed_or_kept s (BestEffort task) acts order new e keeps fixed kept = tt
-fixed_or_kept s (Placed place) acts order new e keeps fixed kept =
+fixed_or_kept s (Placed place act) acts order new e keeps fixed kept =
     let P : List (Option ℕ) → Type 0 = λ o. IsOrder s (bounded_of s) o in
-    let same : IsOrder s (bounded_of s) new = subst P (sym (kept (λ (h : Placed place ≡ Bandwidth). cc))) keeps in
-    part_keeps s (length s.table.tasks) place Placed End new same tt
+    let same : IsOrder s (bounded_of s) new = subst P (sym (kept (λ (h : Placed place act ≡ Bandwidth). cc))) keeps in
+    ⊎_elim
+    (λ l. rw (less (act + 1) s.table.cores l) same)
+    (λ g. rw (not_less (act + 1) s.table.cores g) (part_keeps s (length s.table.tasks) place first_act End new same tt))
+    (cases_lt (act + 1) s.table.cores)
 fixed_or_kept s End acts order new e keeps fixed kept = tt
 
 pub order_after : (policy : Policy) (s : Setting) (turn : Turn) (acts : List Action) (order new : List (Option ℕ)) →

@@ -1,5 +1,5 @@
 -- Why each core is taken away under this policy.
-use Rattle.std.specs.Prelude.{◌≡◌, ℕ, ◌+◌, ◌<◌, true, List, [], ◌∷◌, ◌++◌, length, Some, None}
+use Rattle.std.specs.Prelude.{◌≡◌, ℕ, ◌<◌, true, List, [], ◌∷◌, ◌++◌, length, Some, None}
 use Rattle.cal_machine.specs.Machine.{sibling_of}
 use Rattle.cal_machine.specs.TableTasks.{is_latency_critical}
 use Rattle.cal_policy.specs.declared.history.action.Action.{Action}
@@ -11,9 +11,8 @@ use Rattle.cal_policy.specs.History.{holder_of}
 use Rattle.cal_policy.specs.Board.Counts.{is_held}
 use Rattle.cal_policy.specs.Pass.Made.{IsRevokedForBandwidth}
 use Rattle.cal_policy.specs.Assured.Hyperthreads.{due_for}
-use Rattle.cal_policy.specs.Assured.InFlight.{pressing, coming}
-use Rattle.cal_policy.specs.Assured.Short.{surplus, waits}
-use Rattle.cal_policy.specs.Assured.Taking.{open_choice, held_choice}
+use Rattle.cal_policy.specs.Assured.Short.{waits}
+use Rattle.cal_policy.specs.Assured.Taking.{open_choice, held_choice, may_preempt}
 use Rattle.cal_policy.specs.Setting.{Setting, so_far, kept_now}
 
 -- the core is revoked because it was just banned
@@ -41,9 +40,9 @@ pub record IsForTask (s : Setting) (acts : List Action) (core t : ℕ) : Type 0 
   pub waiting : waits s (so_far s acts) t ≡ true
   -- it may take no open core
   pub none_open : open_choice s (so_far s acts) t ≡ None
-  -- more of its threads press than cores are coming to it and helpers on their way
-  pub more_press : coming s (so_far s acts) t + surplus s (so_far s acts) t
-      < pressing s (so_far s acts) t
+  -- more of its threads press than cores are coming to it and helpers on their way; and it has not
+  -- acted in this pass, or fewer are coming than it lacks
+  pub may : may_preempt s acts t ≡ true
   -- of the cores that may be taken for it this is the one of the least class, the lowest of those
   pub class : CoreClass
   pub least : held_choice s acts t ≡ Some (record { rank = class; number = core })

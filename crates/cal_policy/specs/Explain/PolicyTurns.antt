@@ -39,7 +39,7 @@ made_after_by policy s turn = followed (made_before_by policy s turn)
 -- at a turn by place the order is the one that was fixed where grants began
 abbrev pub KeepsOrder : Policy → Setting → Turn → List (Option ℕ) → Type 0
 KeepsOrder Caladan s turn order = Unit {0}
-KeepsOrder Assured s (Placed place) order = IsOrder s (bounded_of s) order
+KeepsOrder Assured s (Placed place act) order = IsOrder s (bounded_of s) order
 KeepsOrder Assured s turn order = Unit {0}
 
 -- the order names tasks of the table

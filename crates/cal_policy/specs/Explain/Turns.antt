@@ -56,7 +56,7 @@ IsTurn table (Ban core) = core < table.cores
 IsTurn table Bandwidth = Unit {0}
 IsTurn table (LatencyCritical task) = task < length table.tasks
 IsTurn table (BestEffort task) = task < length table.tasks
-IsTurn table (Placed place) = place < length table.tasks
+IsTurn table (Placed place act) = (place < length table.tasks) × (act < table.cores)
 IsTurn table End = Unit {0}
 
 -- the first turn of each pass
@@ -80,7 +80,7 @@ next_turn table Bandwidth = LatencyCritical 0
 next_turn table (LatencyCritical task) =
     next_in_part (length table.tasks) LatencyCritical task (BestEffort 0)
 next_turn table (BestEffort task) = next_in_part (length table.tasks) BestEffort task End
-next_turn table (Placed place) = End
+next_turn table (Placed place act) = End
 next_turn table End = End
 
 -- the actions of the pass that come before a turn; at the end all of them
@@ -93,7 +93,7 @@ made_before s (LatencyCritical task) = followed (bounded_of s)
     (λ acts. in_turn (grant_of_kind_at kinds.LatencyCritical s) acts task)
 made_before s (BestEffort task) = followed (granted_of s)
     (λ acts. in_turn (grant_of_kind_at kinds.BestEffort s) acts task)
-made_before s (Placed place) = pass_of s
+made_before s (Placed place act) = pass_of s
 made_before s End = pass_of s
 
 -- the actions that a turn makes after those
@@ -104,5 +104,5 @@ made_in s acts (Ban core) = bans_at s acts core
 made_in s acts Bandwidth = bandwidth_part s acts
 made_in s acts (LatencyCritical task) = grant_of_kind_at kinds.LatencyCritical s acts task
 made_in s acts (BestEffort task) = grant_of_kind_at kinds.BestEffort s acts task
-made_in s acts (Placed place) = []
+made_in s acts (Placed place act) = []
 made_in s acts End = []

@@ -14,7 +14,9 @@ ghost use Rattle.cal_policy.specs.State.{IsOfTable};
 
 use crate::board::Board;
 use crate::explain::walk::PassWalk;
+use crate::history::action::Action;
 use crate::pass::Pass;
+use crate::pass::assured::acted::has_acted;
 
 /// Whether a thread is late, and whether it is in flight.
 #[derive(Clone, Copy, Debug, PartialEq, Eq)]
@@ -32,19 +34,26 @@ pub struct Claim {
     pub is_short: bool,
     /// How many cores it lacks where it is short, else 0.
     pub lacks: usize,
+    /// How many of those it could be granted in this pass: it has as many late threads for them, and
+    /// as many threads that may be granted one.
+    pub needs: usize,
     /// How many of its threads are late and not in flight.
     pub pressing: usize,
     /// How many are in flight and not late.
     pub helpers: usize,
-    /// How many of those count: none where it is short.
+    /// How many of those count: where it is short only those that were granted their cores in this
+    /// pass.
     pub surplus: usize,
     /// How many cores are being left for it.
     pub coming: usize,
     /// Whether it waits: more of its threads press than there is surplus, it may book one more core,
     /// and it has a thread that may be granted one.
     pub waits: bool,
-    /// Whether a core may be revoked for it: it is latency-critical, and more of its threads press
-    /// than cores are coming to it and surplus there is.
+    /// Whether it has acted in this pass: it was granted a core, or one was revoked for it.
+    pub has_acted: bool,
+    /// Whether a core may be revoked for it: it is latency-critical, more of its threads press than
+    /// cores are coming to it and surplus there is, and it has not acted in this pass, or fewer are
+    /// coming than it lacks.
     pub may_revoke: bool,
 }
 
@@ -55,7 +64,7 @@ pub struct Shortage {
     pub some_waits: bool,
     /// How many cores are free and not banned.
     pub open_cores: usize,
-    /// How many all short tasks lack, whether they wait or not.
+    /// How many all short tasks lack that wait.
     pub lacking: usize,
     /// Whether some short task waits, and no more cores are open than are lacking.
     pub are_lacked: bool,
@@ -78,22 +87,26 @@ impl Pass<'_> {
         }
     }
 
-    /// What a task may claim.
-    fn claim_of(&self, board: &Board, task: usize) -> Claim
+    /// What a task may claim, by the actions of the pass so far.
+    fn claim_of(&self, board: &Board, made: &[Action], task: usize) -> Claim
         requires at_hand { IsOfTable self.now.config.now board.now }
         requires task { task < length self.now.config.now.tasks }
-        ensures { Within self.now board.now (λ s acts. IsClaim s (so_far s acts) task result) }
+        ensures { Within self.now board.now (λ s acts. made.now ≡ acts →
+            IsClaim s acts task result) }
     {
         let unhelped = self.unhelped(board, task);
+        let acted = has_acted(self.config, made, task);
         Claim {
             is_short: self.is_short(board, task),
             lacks: self.lacks(board, task),
+            needs: self.needs(board, task),
             pressing: self.pressing(board, task),
             helpers: self.helpers(board, task),
             surplus: self.surplus(board, task),
             coming: self.coming(board, task),
             waits: self.waits(board, task),
-            may_revoke: self.may_revoke_for(board, task, unhelped),
+            has_acted: acted,
+            may_revoke: self.may_revoke_for(board, task, unhelped, acted),
         }
     }
 
@@ -128,9 +141,9 @@ impl PassWalk<'_> {
         requires walk { IsWalk self.now }
         requires task { task < length self.now.config.now.tasks }
         ensures { (h : Begun) → Walks self.now h →
-            IsClaim (setting_of self.now h) (actions_so_far self.now h) task result }
+            IsClaim (setting_of self.now h) self.now.made.items task result }
     {
-        self.pass().claim_of(&self.board, task)
+        self.pass().claim_of(&self.board, self.made(), task)
     }
 
     /// How many cores are open and how many are lacking.

@@ -3,7 +3,7 @@
 ghost use Rattle.std.specs.Prelude.{◌≡◌, ◌<◌, length, option_to_list};
 ghost use Rattle.std.specs.Option.{IfSome};
 ghost use Rattle.cal_machine.specs.declared.task.Kind.TheVariants as kinds;
-ghost use Rattle.cal_policy.specs.Assured.Grants.{grant_in_place};
+ghost use Rattle.cal_policy.specs.Assured.Grants.{act_in_place};
 ghost use Rattle.cal_policy.specs.Assured.Pass.{bounded_of};
 ghost use Rattle.cal_policy.specs.Board.{NamesTable};
 ghost use Rattle.cal_policy.specs.Explain.AssuredTurns as assured;
@@ -85,28 +85,35 @@ impl Pass<'_> {
         }
     }
 
-    /// What the task in a place of the order gets.
-    fn placed_due(&self, board: &Board, order: &Order, place: usize) -> Option<Action>
+    /// What the task in a place of the order gets, by the actions of the pass so far.
+    fn placed_due(
+        &self,
+        board: &Board,
+        made: &[Action],
+        order: &Order,
+        place: usize,
+    ) -> Option<Action>
         requires at_hand { IsOfTable self.now.config.now board.now }
         requires place { place < length self.now.config.now.tasks }
         requires tasks { NamesTasks self.now.config.now order.now }
-        ensures due { Within self.now board.now (λ s acts. IsOrder s (bounded_of s) order.now →
-            option_to_list result ≡ grant_in_place s acts (placed_task s place)) }
+        ensures due { Within self.now board.now (λ s acts. made.now ≡ acts →
+            IsOrder s (bounded_of s) order.now →
+            option_to_list result ≡ act_in_place s acts (placed_task s place)) }
         ensures names { IfSome result (NamesTable self.now.config.now) }
     {
         self.config.limits();
         match order[place] {
-            Some(task) => self.turn_due(board, task as usize),
+            Some(task) => self.act_due(board, made, task as usize),
             None => None,
         }
     }
 
-    /// What a turn makes, in a pass of `Policy::Assured`.
-    fn assured_due_in(&self, board: &Board, order: &Order, turn: Turn) -> Coupled
+    /// What a turn makes, in a pass of `Policy::Assured`, by the actions of the pass so far.
+    fn assured_due_in(&self, board: &Board, made: &[Action], order: &Order, turn: Turn) -> Coupled
         requires at_hand { IsOfTable self.now.config.now board.now }
         requires turn { IsTurn self.now.config.now turn }
         requires tasks { NamesTasks self.now.config.now order.now }
-        ensures due { Within self.now board.now (λ s acts.
+        ensures due { Within self.now board.now (λ s acts. made.now ≡ acts →
             KeepsOrder Assured s turn order.now → both_of result ≡ assured.made_in s acts turn) }
         ensures names { BothName self.now.config.now result }
     {
@@ -115,24 +122,24 @@ impl Pass<'_> {
             Turn::Unban { core } => only(self.ban_end(board, core)),
             Turn::Ban { core } => self.ban_beside_unless_lacked(board, core),
             Turn::Bandwidth => self.bandwidth_due(board),
-            Turn::Placed { place } => only(self.placed_due(board, order, place as usize)),
+            Turn::Placed { place, .. } => only(self.placed_due(board, made, order, place as usize)),
             Turn::LatencyCritical { .. } | Turn::BestEffort { .. } | Turn::End => neither(),
         }
     }
 
-    /// What a turn makes, by the policy of the pass.
-    pub fn due_by(&self, board: &Board, order: &Order, turn: Turn) -> Coupled
+    /// What a turn makes, by the policy of the pass and its actions so far.
+    pub fn due_by(&self, board: &Board, made: &[Action], order: &Order, turn: Turn) -> Coupled
         requires at_hand { IsOfTable self.now.config.now board.now }
         requires turn { IsTurn self.now.config.now turn }
         requires tasks { NamesTasks self.now.config.now order.now }
-        ensures due { Within self.now board.now (λ s acts.
+        ensures due { Within self.now board.now (λ s acts. made.now ≡ acts →
             KeepsOrder self.now.terms.now.policy s turn order.now →
             both_of result ≡ made_in_by self.now.terms.now.policy s acts turn) }
         ensures names { BothName self.now.config.now result }
     {
         match self.terms.policy {
             Policy::Caladan => self.due_in(board, turn),
-            Policy::Assured => self.assured_due_in(board, order, turn),
+            Policy::Assured => self.assured_due_in(board, made, order, turn),
         }
     }
 }

@@ -13,8 +13,10 @@ ghost use Rattle.cal_policy.specs.State.{IsOfTable};
 
 use crate::board::Board;
 use crate::explain::walk::PassWalk;
+use crate::history::action::Action;
 use crate::history::core_class::CoreClass;
 use crate::pass::Pass;
+use crate::pass::assured::acted::has_acted;
 use crate::pass::choice::Candidate;
 
 /// Whether an open core is kept from a task, and why.
@@ -22,10 +24,8 @@ use crate::pass::choice::Candidate;
 pub enum Keeping {
     /// The task may take it.
     NotKept,
-    /// The task is not short, some short task waits, and no more cores are open than are lacking.
-    Lacked,
     /// The core is owed to another task, which waits; to a short task also only while fewer lower
-    /// cores are owed to that one, which is short too, than it lacks.
+    /// cores are owed to that one, which is short too, than it needs.
     OwedTo { task: u8 },
 }
 
@@ -39,13 +39,10 @@ impl Pass<'_> {
             IsKeeping s (so_far s acts) task core result) }
     {
         self.config.limits();
-        if self.is_lacked_by_others(board, task) {
-            return Keeping::Lacked;
-        }
         let Some(other) = board.debts.owed[core as usize] else {
             return Keeping::NotKept;
         };
-        if self.is_kept(board, task, core, false) {
+        if self.is_kept(board, task, core) {
             Keeping::OwedTo { task: other }
         } else {
             Keeping::NotKept
@@ -60,20 +57,26 @@ impl Pass<'_> {
         ensures { Within self.now board.now (λ s acts. result
             ≡ rules.open_class s (so_far s acts) task core) }
     {
-        let lacked = self.is_lacked_by_others(board, task);
-        self.open_class(board, task, core, lacked)
+        self.open_class(board, task, core)
     }
 
-    /// The core that a task takes, an open one or one that another holds.
-    fn core_taken(&self, board: &Board, task: usize) -> Option<Candidate<CoreClass>>
+    /// The core that a task takes, an open one or one that another holds, by the actions of the pass so
+    /// far.
+    fn core_taken(
+        &self,
+        board: &Board,
+        made: &[Action],
+        task: usize,
+    ) -> Option<Candidate<CoreClass>>
         requires at_hand { IsOfTable self.now.config.now board.now }
         requires task { task < length self.now.config.now.tasks }
-        ensures choice { Within self.now board.now (λ s acts. result
-            ≡ rules.choice_for s acts task) }
+        ensures choice { Within self.now board.now (λ s acts. made.now ≡ acts →
+            result ≡ rules.choice_for s acts task) }
         ensures below { IfSome result (λ best. best.number < self.now.config.now.cores) }
     {
         let unhelped = self.unhelped(board, task);
-        self.choose_for(board, task, unhelped)
+        let acted = has_acted(self.config, made, task);
+        self.choose_for(board, task, unhelped, acted)
     }
 }
 
@@ -134,6 +137,6 @@ impl PassWalk<'_> {
             result ≡ rules.choice_for (setting_of self.now h) self.now.made.items task }
         ensures below { IfSome result (λ best. best.number < self.now.config.now.cores) }
     {
-        self.pass().core_taken(&self.board, task)
+        self.pass().core_taken(&self.board, self.made(), task)
     }
 }

@@ -62,9 +62,10 @@ pub enum Turn {
     LatencyCritical { task: u8 },
     /// What the task gets, if it is best-effort.
     BestEffort { task: u8 },
-    /// What the task in this place of the order gets, in a pass of `Policy::Assured`. It has these
-    /// turns in place of those of the latency-critical and the best-effort tasks.
-    Placed { place: u8 },
+    /// What the task in this place of the order gets, in a pass of `Policy::Assured`, when it acts for
+    /// the first time, for the second and so on. Such a pass has these turns in place of those of the
+    /// latency-critical and the best-effort tasks, for each place as many as there are cores.
+    Placed { place: u8, act: u8 },
     /// The pass is made.
     End,
 }
@@ -106,10 +107,18 @@ fn assured_turn_after(config: &Config, turn: Turn) -> Turn
     ensures next { result ≡ assured.next_turn config.now turn }
     ensures turn { IsTurn config.now result }
 {
+    let cores = config.machine().cores();
     let tasks = config.tasks() as u8;
     match turn {
-        Turn::Bandwidth => Turn::Placed { place: 0 },
-        Turn::Placed { place } if place + 1 < tasks => Turn::Placed { place: place + 1 },
+        Turn::Bandwidth => Turn::Placed { place: 0, act: 0 },
+        Turn::Placed { place, act } if act + 1 < cores => Turn::Placed {
+            place,
+            act: act + 1,
+        },
+        Turn::Placed { place, .. } if place + 1 < tasks => Turn::Placed {
+            place: place + 1,
+            act: 0,
+        },
         Turn::Placed { .. } | Turn::LatencyCritical { .. } | Turn::BestEffort { .. } => Turn::End,
         Turn::Free { .. } | Turn::Unban { .. } | Turn::Ban { .. } | Turn::End => {
             turn_after(config, turn)

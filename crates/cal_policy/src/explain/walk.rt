@@ -1,6 +1,6 @@
 //! A pass made turn by turn, which can be asked at each turn how things stand.
 
-ghost use Rattle.std.specs.Prelude.{◌≡◌, ◌<◌, ◌++◌, [], IfOk, OnOk, length, option_to_list};
+ghost use Rattle.std.specs.Prelude.{◌≡◌, ℕ, ◌<◌, ◌++◌, [], IfOk, OnOk, length, option_to_list};
 ghost use Rattle.std.specs.Option.{IfSome};
 ghost use Rattle.cal_machine.specs.Table.{IsTable};
 ghost use Rattle.cal_policy.specs.Board.{NamesTable};
@@ -200,8 +200,8 @@ impl<'a> PassWalk<'a> {
         requires walk { IsWalk self.now }
         requires place { place < length self.now.config.now.tasks }
         ensures task { IfSome result (λ t. t < length self.now.config.now.tasks) }
-        ensures placed { self.now.terms.policy ≡ Assured → self.now.turn ≡ Placed place →
-            (h : Begun) → Walks self.now h → result ≡ placed_task (setting_of self.now h) place }
+        ensures placed { self.now.terms.policy ≡ Assured → (act : ℕ) →
+            self.now.turn ≡ Placed place act → (h : Begun) → Walks self.now h → result ≡ placed_task (setting_of self.now h) place }
     {
         self.config.limits();
         self.order[place as usize]
@@ -244,7 +244,9 @@ impl<'a> PassWalk<'a> {
         ensures goes_on { OnOk result ((h : Begun) → Walks self.old h → Walks self.new h) }
         ensures setting { (h : Begun) → setting_of self.new h ≡ setting_of self.old h }
     {
-        let both = self.pass().due_by(&self.board, &self.order, self.turn);
+        let both = self
+            .pass()
+            .due_by(&self.board, &self.made, &self.order, self.turn);
         make_both(self.config, &mut self.board, &mut self.made, both)?;
         let order = self.pass().order_after(&self.board, self.turn, self.order);
         self.order = order;

@@ -1,6 +1,6 @@
 //! Lists of actions: one that a pass was, and one with room for all that a pass can be.
 
-ghost use Rattle.std.specs.Prelude.{◌≡◌, ◌<◌, ◌++◌, ◌∷◌, [], length, IfOk};
+ghost use Rattle.std.specs.Prelude.{◌≡◌, ◌<◌, ◌≤◌, ◌++◌, ◌∷◌, [], length, true, false, IfOk};
 ghost use Rattle.cal_policy.specs.declared.history.action_list.TheConstants.{MOST_ACTIONS};
 
 use crate::history::action::Action;
@@ -9,7 +9,8 @@ use std::alloc::{AllocError, Global};
 use std::marker::Model;
 
 /// The most actions that a pass can have: a Free of each core, an Unban of each pair, a Ban of each
-/// pair and as many revocations for them, two for bandwidth, and one for each task.
+/// pair and as many revocations for them, two for bandwidth, and one for each task. A pass of
+/// `Policy::Assured`, in which a task can act more than once, has fewer.
 pub const MOST_ACTIONS: usize = MOST_CORES + MOST_PAIRS + 2 * MOST_PAIRS + 2 + MOST_TASKS;
 
 /// The actions of a pass that was made, in the order in which it made them.
@@ -49,6 +50,14 @@ impl Actions {
         ensures { self.new ≡ self.old ++ action ∷ [] }
     {
         self.items.push_reserved(action);
+    }
+
+    /// Whether it has as many actions as a pass can have.
+    pub fn is_full(&self) -> bool
+        ensures full { result ≡ true → MOST_ACTIONS ≤ length self.now }
+        ensures room { result ≡ false → length self.now < MOST_ACTIONS }
+    {
+        self.items.len() >= MOST_ACTIONS
     }
 
     /// Empties the list and keeps its room, for the next pass.

@@ -1,5 +1,6 @@
 //! The parts in which a pass of `Policy::Assured` differs, and what they ask of the state.
 
+pub mod acted;
 pub mod bans;
 pub mod flight;
 pub mod grants;

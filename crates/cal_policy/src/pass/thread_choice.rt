@@ -16,7 +16,7 @@ use crate::pass::choice::{Candidate, greater};
 impl Pass<'_> {
     /// The thread's delay, where it may be granted a core: it holds and leaves none, and its ring
     /// has room.
-    fn thread_rank(&self, board: &Board, thread: usize) -> Option<u128>
+    pub fn thread_rank(&self, board: &Board, thread: usize) -> Option<u128>
         requires at_hand { IsOfTable self.now.config.now board.now }
         requires thread { thread < threads_of_table self.now.config.now }
         ensures { Within self.now board.now (λ s acts. result ≡ grants.thread_rank s (so_far s acts) thread) }

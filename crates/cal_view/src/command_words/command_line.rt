@@ -4,8 +4,9 @@ use crate::command_words::arrival_words::{ArrivalWords, arrival_word, arrival_wo
 use crate::command_words::count_words::{CountWords, count_words, own_came_word, with_count_words};
 use crate::command_words::help_texts;
 use crate::command_words::move_words::{MoveWords, move_word, move_words};
-use crate::command_words::plan_words::{plan_asked, with_plan_words};
+use crate::command_words::plan_words::{plan_asked, with_explained_words, with_plan_words};
 use crate::command_words::policy_words::{policy_asked, policy_word};
+use crate::command_words::replay_words::REPLAY;
 use crate::edge::sources::STANDARD;
 use crate::jobs::explaining::Asked;
 use crate::jobs::naming::LabelWords;
@@ -48,6 +49,11 @@ pub enum InputJob {
         /// What goes in front.
         front: Front,
     },
+    /// Make a run on arrivals, and write its history, with the task table in front or without it.
+    Run {
+        /// What goes in front.
+        front: Front,
+    },
     /// Write facts of a history, or of the run that arrivals make, as CSV.
     Facts {
         /// Which facts.
@@ -76,6 +82,8 @@ pub struct Request<'a> {
     pub policy: Policy,
     /// The plan that its runs are to go by; without it they are in lockstep.
     pub plan: Option<Plan>,
+    /// The file of the history whose passes they have; without it a policy makes them.
+    pub replay: Option<&'a str>,
     /// From when their requests count, and which of them are ranked.
     pub counting: CountWords<'a>,
     /// What tasks and clock ticks are to be called.
@@ -105,6 +113,7 @@ pub fn help(alloc: Global) -> Result<String, AllocError> {
 /// stands to be dropped where memory is refused.
 fn program<'a>(alloc: Global) -> Result<Command<'a>, AllocError> {
     let program = bare_program(alloc)?;
+    let program = program.subcommand(run_word(alloc)?)?;
     let program = program.subcommand(history_word(alloc)?)?;
     let about = "Write which thread had which core when, and the bans, as CSV";
     let program = program.subcommand(facts_word(alloc, "spans", about, help_texts::SPANS)?)?;
@@ -162,6 +171,16 @@ fn history_word<'a>(alloc: Global) -> Result<Command<'a>, AllocError> {
         .arg(output_word(alloc))
 }
 
+fn run_word<'a>(alloc: Global) -> Result<Command<'a>, AllocError> {
+    let command = Command::new(alloc, "run")
+        .about("Make a run on arrivals, and write its history")
+        .after_long_help(help_texts::RUN)
+        .arg(input_word(alloc))?
+        .arg(table_word(alloc))?
+        .arg(policy_word(alloc))?;
+    with_plan_words(alloc, command)?.arg(output_word(alloc))
+}
+
 fn measure_word<'a>(alloc: Global) -> Result<Command<'a>, AllocError> {
     let command = Command::new(alloc, "measure")
         .about("Write the numbers of a run on arrivals, or of a history")
@@ -177,7 +196,7 @@ fn measure_word<'a>(alloc: Global) -> Result<Command<'a>, AllocError> {
 }
 
 fn explain_word<'a>(alloc: Global) -> Result<Command<'a>, AllocError> {
-    Command::new(alloc, "explain")
+    let command = Command::new(alloc, "explain")
         .about("Say why a pass does what it does")
         .after_long_help(help_texts::EXPLAIN)
         .arg(input_word(alloc))?
@@ -187,8 +206,8 @@ fn explain_word<'a>(alloc: Global) -> Result<Command<'a>, AllocError> {
         .arg(clock_word(alloc)?)?
         .arg(number_word(alloc, "task", "TASK", "Show this task only"))?
         .arg(number_word(alloc, "core", "CORE", "Show this core only"))?
-        .arg(names_word(alloc))?
-        .arg(output_word(alloc))
+        .arg(names_word(alloc))?;
+    with_explained_words(alloc, command)?.arg(output_word(alloc))
 }
 
 fn pass_word<'a>(alloc: Global) -> Arg<'a> {
@@ -276,6 +295,7 @@ fn request_of<'a>(alloc: Global, matches: &ArgMatches<'a>) -> Result<Request<'a>
         job: job_of(alloc, name, own)?,
         policy: policy_asked(own),
         plan: plan_asked(own),
+        replay: own.get_str(REPLAY),
         counting: count_words(name, own),
         labels: LabelWords {
             names: own.get_str("names"),
@@ -292,12 +312,19 @@ fn file_named(name: Option<&str>) -> Option<&str> {
 }
 
 impl<'a> Request<'a> {
+    /// Whether a run alone is asked for, and nothing of a history that was recorded: by a plan, to
+    /// count its requests, or to replay a history.
+    pub fn is_run_alone(&self) -> bool {
+        self.plan.is_some() || self.replay.is_some() || self.counting.are_given()
+    }
+
     /// What no words ask for.
     fn help() -> Request<'a> {
         Request {
             job: Job::Help,
             policy: Policy::Caladan,
             plan: None,
+            replay: None,
             counting: CountWords::NONE,
             labels: LabelWords {
                 names: None,
@@ -329,6 +356,9 @@ fn input_job(name: &str, own: &ArgMatches<'_>) -> InputJob {
     if name == "history" {
         let front = front_of(own.get_flag("table"));
         InputJob::History { front }
+    } else if name == "run" {
+        let front = front_of(own.get_flag("table"));
+        InputJob::Run { front }
     } else if let Some(facts) = Facts::named(name) {
         InputJob::Facts { facts }
     } else if name == "measure" {

@@ -41,6 +41,43 @@ grant,0,0,3
 end,1"
 );
 
+/// Of the subcommand `run`.
+pub const RUN: &str = help_with_a_run!(
+    "\
+Input: a task table (TOML), the line ---, and arrivals (CSV), as
+`caladan_sim lockstep` reads.
+Output: the history (CSV) of the run on these arrivals, in lockstep as
+`caladan_sim lockstep` writes it; with --table the table and the line --- stand
+in front, so that it is an input.
+With --pace, --beside, --memory or --figure the run is like a machine:
+docs/VIEWER.md, \"Runs like a machine\".
+With --replay the passes are those of HISTORY, the rows of a history alone: each
+action must be one that the guard permits, and each look what the threads of the
+run published. The run is then that of the history, whoever decided it.
+Exit status: 0 done, 2 rejected input or history, 3 memory or output was
+refused.",
+    "caladan_view run",
+    "\
+caladan-arrivals,1
+pass,100,0
+pass,120,0
+turn,105
+turn,125
+request,0,0,1,1,0
+end,5
+END
+
+It writes:
+
+caladan-history,2
+pass,100,0
+whole,0,1,0,0,0,0,0,0,0,0,0,0
+pass,120,0
+whole,0,1,1,0,0,1,105,0,0,105,0,0
+grant,0,0,3
+end,2"
+);
+
 /// Of the subcommand `spans`.
 pub const SPANS: &str = help_with_a_run!(
     "\
@@ -56,6 +93,8 @@ stretch goes on at the end. First come the spans that ended, in that order, then
 those that go on, by core; then the bans, in the same way.
 With --pace, --beside, --memory or --figure there must be arrivals, and their
 run is like a machine: docs/VIEWER.md, \"Runs like a machine\".
+With --replay there must be arrivals, and their run has the passes of HISTORY:
+`caladan_view run --help`.
 Exit status: 0 done, 2 rejected input, 3 memory or output was refused.",
     "caladan_view spans",
     "\
@@ -87,6 +126,8 @@ the pass the cores that it holds, that it is leaving, and both together, and the
 cap of a best-effort task; and its limit.
 With --pace, --beside, --memory or --figure there must be arrivals, and their
 run is like a machine: docs/VIEWER.md, \"Runs like a machine\".
+With --replay there must be arrivals, and their run has the passes of HISTORY:
+`caladan_view run --help`.
 Exit status: 0 done, 2 rejected input, 3 memory or output was refused.",
     "caladan_view series",
     "\
@@ -121,6 +162,8 @@ With --came FILE, which `arrivals --came` wrote, its clock of arrival is that of
 the turn to which it came.
 With --pace, --beside, --memory or --figure the run is like a machine:
 docs/VIEWER.md, \"Runs like a machine\".
+With --replay there must be arrivals, and their run has the passes of HISTORY:
+`caladan_view run --help`.
 Exit status: 0 done, 2 rejected input, 3 memory or output was refused.",
     "caladan_view requests",
     "\
@@ -155,6 +198,8 @@ thread's next turn or, after the last one, the run's last clock; and 1 if the
 turn did the last of the request's work, else 0.
 With --pace, --beside, --memory or --figure the run is like a machine:
 docs/VIEWER.md, \"Runs like a machine\".
+With --replay there must be arrivals, and their run has the passes of HISTORY:
+`caladan_view run --help`.
 Exit status: 0 done, 2 rejected input, 3 memory or output was refused.",
     "caladan_view turns",
     "\
@@ -216,6 +261,8 @@ turn from there, and `requests left out` found none. With --from and --to times
 are of requests that came within these turns. There must be arrivals then.
 With --pace, --beside, --memory or --figure there must be arrivals, and their
 run is like a machine: docs/VIEWER.md, \"Runs like a machine\".
+With --replay there must be arrivals, and their run has the passes of HISTORY:
+`caladan_view run --help`.
 Exit status: 0 done, 2 rejected input, 3 memory or output was refused.",
     "caladan_view measure",
     "\
@@ -306,6 +353,8 @@ task has which name come first.
 Without --pass and --at: `legal`; or `illegal pass P`, a line if the other
 policy made the history, what the policy does in that pass, what the file has,
 the first action that differs, and how things stand at that step.
+With --replay there must be arrivals, and the passes are those of HISTORY, made
+in a run on them: `caladan_view run --help`.
 Exit status: 0 done, 1 the history is not legal, 2 rejected input or no such
 pass, task or core, 3 memory or output was refused.",
     "caladan_view explain --pass 0",

@@ -1,6 +1,7 @@
 //! The options of a plan: what makes the runs on arrivals like a machine.
 
 use crate::command_words::command_line::{number_word, value_word};
+use crate::command_words::replay_words::{REPLAY, explained_word, replay_word};
 use cal_paced::{Figure, Plan, WHOLE};
 use clap::{Arg, ArgMatches, Command};
 use std::alloc::{AllocError, Global};
@@ -8,13 +9,27 @@ use std::alloc::{AllocError, Global};
 /// The names of where the bandwidth figures come from.
 const FIGURES: [&str; 2] = ["given", "shown"];
 
-/// The options of a plan.
+/// The options of a plan, and the one of a history that is replayed.
 pub fn with_plan_words<'a>(alloc: Global, command: Command<'a>) -> Result<Command<'a>, AllocError> {
     command
         .arg(pace_word(alloc))?
         .arg(beside_word(alloc))?
         .arg(memory_word(alloc))?
-        .arg(figure_word(alloc))
+        .arg(figure_word(alloc))?
+        .arg(replay_word(alloc)?)
+}
+
+/// The option of a history that is replayed to be explained, and those of a plan, which go with it.
+pub fn with_explained_words<'a>(
+    alloc: Global,
+    command: Command<'a>,
+) -> Result<Command<'a>, AllocError> {
+    command
+        .arg(explained_word(alloc))?
+        .arg(pace_word(alloc).requires_arg(REPLAY)?)?
+        .arg(beside_word(alloc).requires_arg(REPLAY)?)?
+        .arg(memory_word(alloc).requires_arg(REPLAY)?)?
+        .arg(figure_word(alloc).requires_arg(REPLAY)?)
 }
 
 fn pace_word<'a>(alloc: Global) -> Arg<'a> {

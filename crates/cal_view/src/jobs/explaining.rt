@@ -55,21 +55,31 @@ pub fn answer_explain<W: Write, E: Write>(
     output: &mut W,
     errors: &mut E,
 ) -> Result<u8, RunFault> {
-    let alloc = input.alloc;
-    let policy = input.policy;
-    let (config, history) = passes_of(alloc, policy, input.bytes())?;
-    let scope = match scope_of(&config, asked) {
+    let (config, history) = passes_of(input.alloc, input.policy, input.bytes())?;
+    explain_passes(input, &config, history.as_slice(), asked, output, errors)
+}
+
+/// Explains passes of this history for the table of an input, as `answer_explain` does.
+pub fn explain_passes<W: Write, E: Write>(
+    input: &JobInput<'_>,
+    config: &Config,
+    history: &[PassEntry],
+    asked: Asked,
+    output: &mut W,
+    errors: &mut E,
+) -> Result<u8, RunFault> {
+    let scope = match scope_of(config, asked) {
         Ok(scope) => scope,
         Err(reason) => return Ok(refuse(reason, errors)),
     };
     let explainer = Explainer {
-        alloc,
-        config: &config,
-        policy,
-        history: history.as_slice(),
+        alloc: input.alloc,
+        config,
+        policy: input.policy,
+        history,
         scope,
     };
-    let range = match range_of(history.as_slice(), asked) {
+    let range = match range_of(history, asked) {
         Ok(range) => range,
         Err(reason) => return Ok(refuse(reason, errors)),
     };

@@ -1,6 +1,7 @@
 //! What a job is done on.
 
 use crate::jobs::counting::CameText;
+use crate::jobs::replaying::HistoryText;
 use cal_came::CountAsked;
 use cal_paced::Plan;
 use cal_policy::Policy;
@@ -20,6 +21,8 @@ pub struct JobInput<'a> {
     pub policy: Policy,
     /// The plan of its run; without it that is in lockstep.
     pub plan: Option<Plan>,
+    /// The history whose passes its run has, where one is named.
+    pub replay: Option<HistoryText<'a>>,
     /// The file of when its requests came, where one is named.
     pub came: Option<CameText<'a>>,
     /// From when its requests count, and which of them are ranked.

@@ -2,13 +2,14 @@
 from __future__ import annotations
 
 from dataclasses import replace
-from typing import Optional, Sequence
+from typing import TYPE_CHECKING, Optional, Sequence
 
 from ..arrivals import is_some_within, turns_of
 from ..files import STANDARD, Output, Source, is_terminal, joined, read_named, separator
 from ..labels import Labels, names_of, table_names
 from ..moving import Given, NoTask, ProgramMover
 from ..plans import plan_of
+from ..players import Players, own_of
 from ..pool import each
 from ..programs import viewer
 from ..refusal import Refusal
@@ -22,6 +23,9 @@ from ..words.refusals import Mistake, with_usage
 from .given import Reading, parts_of
 from .runs import Runs, Terms
 from .sheet import CompareSheet
+
+if TYPE_CHECKING:
+    from ..policies.playing import Own
 
 VARY = "--vary <KEY=V1,V2,..>"
 ARRIVALS = "--arrivals <FILE>"
@@ -119,8 +123,11 @@ def tables_of(asked: Asked, reading: Reading, variations: Variations, labels: La
 
 
 def runs_of(asked: Asked, reading: Reading, variations: Variations, labels: Labels,
-            came: Optional[tuple[str, bytes]] = None) -> Runs:
-    """The runs of a comparison of an input, with the file of when its requests came, by its name."""
+            came: Optional[tuple[str, bytes]] = None, others: Sequence["Own"] = ()) -> Runs:
+    """The runs of a comparison of an input, with the file of when its requests came, by its name; by policies of which
+    these are the others than words name."""
+    terms = terms_of(asked)
+    players = Players(reading.view, own_of(terms.policies, asked.number("patience") or 0, others), True)
     machines, arrivals = tables_of(asked, reading, variations, labels)
     if came is not None:
         reading.check_comings(*came)
@@ -128,7 +135,7 @@ def runs_of(asked: Asked, reading: Reading, variations: Variations, labels: Labe
     refuse_empty_window(asked, arrivals)
     names = [table_name(variations, it) for it in range(len(machines))]
     mover = ProgramMover(reading.view, arrivals)
-    return Runs(reading.view, terms_of(asked), machines, mover, names, turns_of(arrivals.text))
+    return Runs(reading.view, terms, machines, mover, names, turns_of(arrivals.text), players)
 
 
 def sheet_of(runs: Runs, variations: Variations, labels: Labels, has_came: bool, is_csv: bool,

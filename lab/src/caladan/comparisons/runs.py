@@ -10,6 +10,7 @@ from ..figures import MaybeFigure
 from ..measured import CROWD, TIMES, Measured, measured_of
 from ..moving import Moved, Mover, NoTask
 from ..plans import Plan
+from ..players import Players
 from ..programs import Ran, Text, Viewer, Word, refused
 from ..progress import Progress
 from ..refusal import Refusal
@@ -64,15 +65,15 @@ class Runs:
     """What makes the runs."""
 
     def __init__(self, view: Viewer, terms: Terms, machines: Sequence[Machine], mover: Mover,
-                 names: Sequence[str], turns: Sequence[int]) -> None:
+                 names: Sequence[str], turns: Sequence[int], players: Players) -> None:
         self.view, self.terms, self.machines, self.mover, self.names = view, terms, machines, mover, names
         # The clocks of the turns, which all tables have in common.
-        self.turns = turns
+        self.turns, self.players = turns, players
 
     def of_whole(self) -> "Runs":
         """The same runs, counted whole."""
         return Runs(self.view, replace(self.terms, window=Window(WHOLE)), self.machines, self.mover, self.names,
-                    self.turns)
+                    self.turns, self.players)
 
     def moved(self, table: int) -> Moved:
         """What a table gets."""
@@ -92,21 +93,26 @@ class Runs:
         """What the program says of a run, on what, and whether a request came within the window."""
         moved, terms = self.moved(table), self.terms
         given = self.machines[table].text() + SEPARATOR + moved.arrivals
-        words = ["measure", "--csv", "--policy", policy, *self.plan_for(moved).words()]
+        words: list[Word] = ["measure", "--csv", *self.words_of(table, policy, moved)]
         came: list[Word] = [] if moved.came is None else ["--came", Text(moved.came)]
         ran = self.view.ask([*words, *came, *terms.window.words(len(self.turns))], given)
         if ran.status == 2 and NONE_CAME in ran.err:
             return self.view.ask([*words, *came], given), moved, False
         return ran, moved, True
 
+    def words_of(self, table: int, policy: str, moved: Moved) -> list[Word]:
+        """The words for how a run goes."""
+        return self.players.words(policy, self.machines[table], moved.arrivals, self.plan_for(moved))
+
     def run(self, unit: tuple[int, str]) -> ComparedRun:
         """The run of a table by a policy."""
         table, policy = unit
-        ran, moved, is_ranked = self.asked(table, policy)
-        if ran.status:
-            raise refused(ran)
-        measured, tasks = measured_of(ran.out), len(self.machines[table].tasks)
-        samples = self.samples(measured, table, policy, moved) if is_ranked else {}
+        with self.players.naming(policy, f"of {self.names[table]}"):
+            ran, moved, is_ranked = self.asked(table, policy)
+            if ran.status:
+                raise refused(ran)
+            measured, tasks = measured_of(ran.out), len(self.machines[table].tasks)
+            samples = self.samples(measured, table, policy, moved) if is_ranked else {}
         return ComparedRun(measured, moved.came is not None, is_ranked, tasks, samples)
 
     def samples(self, measured: Measured, table: int, policy: str, moved: Moved) -> dict[int, Sample]:
@@ -118,7 +124,7 @@ class Runs:
             return {}
         given = self.machines[table].text() + SEPARATOR + moved.arrivals
         came: list[Word] = [] if moved.came is None else ["--came", Text(moved.came)]
-        words = ["requests", "--policy", policy, *self.plan_for(moved).words()]
+        words: list[Word] = ["requests", *self.words_of(table, policy, moved)]
         return samples_of(self.view.told([*words, *came], given).out, tasks, *self.terms.window.clocks(self.turns))
 
     def all(self, is_shown: bool = False) -> list[ComparedRun]:
@@ -135,6 +141,7 @@ class Runs:
             progress.made()
             return run
         try:
-            return pool.all_of(made, units, pool.at_a_time(), places)
+            with self.players.at_work():
+                return pool.all_of(made, units, pool.at_a_time(), places)
         finally:
             progress.ended()

@@ -29,8 +29,9 @@ class Look:
 @dataclass(frozen=True)
 class PictureAsked:
     """A picture: the word for its kind, its file, its look, and the files that are read, where - is the standard input;
-    the program and the file of a task table. Of a run the first pass shown, how many are, which task alone, and
-    whether responses have lanes; of what makes runs their words, and the file of the arrivals."""
+    the program and the file of a task table. Of a run the first pass shown, how many are, which task alone, the policy
+    where one is named, for how many seconds its answers are waited for, and whether responses have lanes; of what makes
+    runs their words, and the file of the arrivals."""
 
     word: str
     output: str
@@ -41,6 +42,8 @@ class PictureAsked:
     first: int = 0
     passes: Optional[int] = None
     task: Optional[int] = None
+    policy: Optional[str] = None
+    patience: int = 0
     runs: Optional[Asked] = None
     has_responses: bool = False
 
@@ -90,7 +93,8 @@ def picture_of(asked: Asked) -> PictureAsked:
     program, table = asked.one("program") or "", asked.one("table")
     if word == "run":
         return PictureAsked(word, output, look_of(asked), files, program, table, asked.number("from") or 0,
-                            asked.number("passes"), asked.number("task"), has_responses=asked.has("responses"))
+                            asked.number("passes"), asked.number("task"), asked.one("policy"),
+                            asked.number("patience") or 0, has_responses=asked.has("responses"))
     return PictureAsked(word, output, look_of(asked), files, program, table, runs=asked if word != "seeds" else None)
 
 

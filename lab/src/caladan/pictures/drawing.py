@@ -78,7 +78,7 @@ def sweep_paper(sweep: Sweep, table: Optional[Table], swept: Optional[int], goal
 
 def of_run(asked: PictureAsked) -> Drawn:
     given = read_all(asked)
-    run = run_from(given, maybe(asked.table), asked.program, asked.has_responses)
+    run = run_from(given, maybe(asked.table), asked)
     return Drawn(run_paper(run, look_at(asked, given), asked.first, asked.passes, asked.task))
 
 

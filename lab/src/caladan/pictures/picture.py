@@ -2,17 +2,21 @@
 from __future__ import annotations
 
 import os
-from typing import Callable, Optional, Sequence, Union
+from typing import TYPE_CHECKING, Callable, Optional, Sequence, Union
 
 from ..comparisons.runs import Runs
 from ..tables import Machine
 from .asked import Look
-from .drawing import compare_paper, run_paper, sweep_paper
+from .drawing import compare_paper, palette_of, run_paper, sweep_paper
 from .numbers import read_comparison, read_sweep
 from .paper import Paper
 from .saving import as_svg, save
 from .sources import columns_compared, run_of_told
 from .tables import table_of
+from .trials_picture import Curve, TrialsScene, draw_trials
+
+if TYPE_CHECKING:
+    import pandas
 
 File = Union[str, "os.PathLike[str]", None]
 
@@ -53,3 +57,15 @@ def of_compare(csv: str, runs: Runs, look: Look, file: File) -> Picture:
 def of_sweep(csv: str, machine: Machine, swept: int, goals: Sequence[str], look: Look, file: File) -> Picture:
     """A sweep, of its CSV."""
     return Picture(sweep_paper(read_sweep(csv, "sweep --csv"), table_of(machine), swept, goals, look), file)
+
+
+def of_trials(frame: pandas.DataFrame, keys: Sequence[str], x: str, y: str, look: Look, file: File) -> Picture:
+    """The curves of runs by several policies, of a frame with a row for each run."""
+    curves = []
+    for name, rows in frame.groupby(frame[["policy", *keys]].astype(str).agg(" ".join, axis=1), sort=False):
+        medians = rows.groupby("load")[list(dict.fromkeys([x, y]))].median() if x != "load" else \
+            rows.groupby("load")[[y]].median().assign(load=lambda it: it.index)
+        curves.append(Curve(str(name), tuple(f"{it:g}" for it in medians.index),
+                            tuple(zip(medians[x], medians[y])), tuple(zip(rows[x], rows[y]))))
+    scene = TrialsScene(curves, x, y, look.tick or "ticks", frame["seed"].nunique(), palette_of(look), look.width)
+    return Picture(draw_trials(scene), file)

@@ -13,11 +13,13 @@ from ..comparisons.given import Reading, parts_of
 from ..comparisons.runs import Runs
 from ..files import is_terminal, read_named, separator, tables_joined
 from ..labels import Labels, table_names
+from ..plans import Plan
+from ..players import Players, naming, own_of
 from ..pool import each
 from ..programs import Text, Viewer, Word, refused, viewer
 from ..refusal import Refusal
 from ..sweeps.command import answer, asked_of
-from ..tables import SEPARATOR, names_in
+from ..tables import SEPARATOR, machine_of, names_in
 from ..varying import variations_of
 from .asked import PictureAsked, RunsRefused, runs_for
 from .facts import (Request, Run, Span, Standing, by_pass, kind_of, read_facts, request_of, run_of, span_of,
@@ -115,13 +117,15 @@ def told(view: Viewer, words: Sequence[Word], given: bytes) -> str:
     return view.told(words, given).out.decode()
 
 
-def run_from(given: Sequence[Given], table: Optional[Given], program: str, has_responses: bool = False) -> Run:
+def run_from(given: Sequence[Given], table: Optional[Given], asked: PictureAsked) -> Run:
     """A run, of its CSV or of an input, with its requests where responses are asked for. Signals are decided first."""
     known = read_table(table.text, table.name) if table else None
     inputs = as_input("run", given)
     if inputs:
-        return run_of_input(inputs, known, viewer(program), has_responses)
-    kinds = ("spans", "series", *(("requests",) if has_responses else ()))
+        return run_of_input(inputs, known, asked)
+    if asked.policy is not None:
+        raise Refusal(f"--policy {asked.policy}: the run of a CSV is made; an input is wanted")
+    kinds = ("spans", "series", *(("requests",) if asked.has_responses else ()))
     spans, series, *more = of_kind("run", given, *kinds)
     if len(spans) != 1 or len(series) != 1:
         raise Refusal(f"{len(spans)} files of spans and {len(series)} of series; wanted: {WANTED['run']}")
@@ -131,20 +135,35 @@ def run_from(given: Sequence[Given], table: Optional[Given], program: str, has_r
                   requests=[it for own in more for it in requests_in(own[0])])
 
 
-def run_of_input(inputs: Sequence[Given], known: Optional[Table], view: Viewer, has_responses: bool = False) -> Run:
+def words_by(view: Viewer, text: bytes, asked: PictureAsked) -> list[Word]:
+    """The words for the policy by which an input is drawn. One that the program has not plays the run of arrivals."""
+    if asked.policy is None:
+        return []
+    players, parts = Players(view, own_of([asked.policy], asked.patience)), parts_of(text, False)
+    if asked.policy in players.own and not parts.trace.text.startswith(ARRIVALS):
+        raise Refusal(f"--policy {asked.policy}: a policy of your own plays arrivals, and the input has none")
+    if asked.policy in players.own:
+        view.told(["requests"], text)
+    return players.words(asked.policy, machine_of(parts.tables[0].text), parts.trace.text, Plan())
+
+
+def run_of_input(inputs: Sequence[Given], known: Optional[Table], asked: PictureAsked) -> Run:
     """The run that one input makes or has."""
+    view = viewer(asked.program)
     if len(inputs) != 1:
         raise Refusal(f"{len(inputs)} inputs; wanted: one, or the CSV of its run")
     text = inputs[0].text.encode()
     trace = parts_of(text, False).trace.text
     with asking():
+        words = words_by(view, text, asked)
         if trace.startswith(SIGNALS):
-            text = view.told(["history", "--table"], text).out
-        if has_responses and not trace.startswith(ARRIVALS):
+            text = view.told(["history", "--table", *words], text).out
+        if asked.has_responses and not trace.startswith(ARRIVALS):
             raise Refusal(f"{RESPONSES}: signals and histories have no requests; give the arrivals of the run")
-        words = ["spans", "series", *(["requests"] if has_responses else [])]
-        spans, series, *more = each(lambda it: told(view, [words[it]], text), range(len(words)))
-        illegal = None if trace.startswith(ARRIVALS) else illegal_from(view, text)
+        facts = ["spans", "series", *(["requests"] if asked.has_responses else [])]
+        with naming(asked.policy or ""):
+            spans, series, *more = each(lambda it: told(view, [facts[it], *words], text), range(len(facts)))
+        illegal = None if trace.startswith(ARRIVALS) else illegal_from(view, text, words)
     return run_of_told(spans, series, known or read_table(text.decode(), inputs[0].name), illegal, "".join(more))
 
 
@@ -154,9 +173,9 @@ def run_of_told(spans: str, series: str, table: Table, illegal: Optional[int] = 
     return run_of(spans_in(Given("spans", spans)), series_in(Given("series", series)), table, "series", illegal, came)
 
 
-def illegal_from(view: Viewer, text: bytes) -> Optional[int]:
+def illegal_from(view: Viewer, text: bytes, words: Sequence[Word]) -> Optional[int]:
     """The first pass of a history that is not the policy's, if any."""
-    ran = view.ask(["explain"], text)
+    ran = view.ask(["explain", *words], text)
     if ran.status not in (0, 1):
         raise refused(ran)
     found = re.match(rb"illegal pass (\d+)", ran.out)
@@ -225,7 +244,7 @@ def column_told(runs: Runs, table: int, policy: str) -> tuple[str, str]:
     """The requests and the series of the run of a table by a policy."""
     moved = runs.moved(table)
     given = runs.machines[table].text() + SEPARATOR + moved.arrivals
-    words: list[Word] = ["--policy", policy, *runs.plan_for(moved).words()]
+    words = runs.words_of(table, policy, moved)
     came: list[Word] = [] if moved.came is None else ["--came", Text(moved.came)]
     return told(runs.view, ["requests", *words, *came], given), told(runs.view, ["series", *words], given)
 

@@ -25,7 +25,8 @@ OF_LOGS = ("unit", "turn", "columns", "separator", "batch", "scale", "block")
 class SweepAsked:
     """What comes to tasks; the objectives; the keys that are varied; the window, from its first turn up to the one
     after it; the seeds, the turns of a run and the ticks of a turn; the policies, the plan, what is written, how
-    many runs are made at a time, and whether each seed has its row."""
+    many runs are made at a time, without a word of how many are done, for how many seconds an answer of a policy is
+    waited for, whether each seed has its row, and whether verdicts are those of version 4."""
 
     loads: Loads
     objectives: tuple[Objective, ...]
@@ -42,6 +43,7 @@ class SweepAsked:
     is_cheapest: bool
     jobs: Optional[int]
     is_quiet: bool
+    patience: int
     is_by_seed: bool = False
     is_as_before: bool = False
 
@@ -128,4 +130,4 @@ def sweep_asked(asked: Asked, labels: Labels, log: Optional[Log] = None, known: 
         loads, objectives, variations, first, after, _seeds(asked.one("seeds"), asked.number("seed") or 0), turns,
         asked.number("ticks") or 0, tuple(asked.all("policy") or ["caladan"]), plan_of(asked), labels,
         asked.has("csv"), asked.has("cheapest"), asked.number("jobs"), asked.has("quiet"),
-        asked.has("by-seed"), asked.one("rules") == "4")
+        asked.number("patience") or 0, asked.has("by-seed"), asked.one("rules") == "4")

@@ -9,6 +9,7 @@ from ..figures import thousandths
 from ..files import Output, Source, is_terminal, say
 from ..labels import Labels, counted, names_of
 from ..numbers import number_of
+from ..players import Players, own_of
 from ..programs import Viewer, refused, viewer
 from ..progress import Progress
 from ..refusal import Refusal
@@ -23,6 +24,7 @@ from .verdict import Swept, Verdict
 
 if TYPE_CHECKING:
     from ..logs.log import Log
+    from ..policies.playing import Own
 
 # The words by which the program reads a table as a sweep does.
 READ = ["arrivals", "--task", "0", "--load", "1", "--turns", "1", "--summary"]
@@ -57,18 +59,19 @@ def held(asked: SweepAsked, machines: Sequence[Machine]) -> None:
                           f"{few}{these}")
 
 
-def swept_of(view: Viewer, asked: SweepAsked, machines: Sequence[Machine], is_shown: bool) -> Swept:
+def swept_of(view: Viewer, asked: SweepAsked, machines: Sequence[Machine], is_shown: bool, players: Players) -> Swept:
     """Makes the runs: of each load with each seed one of each table by each policy."""
     loads, seeds, policies = asked.loads.loads, asked.seeds, asked.policies
     progress = Progress(len(loads) * len(seeds) * len(policies), is_shown)
-    runs = Runs(view, asked, machines, progress)
+    runs = Runs(view, asked, machines, progress, players)
     points = [Point(load, seed, len(machines) * len(policies), dict.fromkeys(policies, len(machines)))
               for load in loads for seed in seeds]
     asked_runs = list(itertools.product(range(len(points)), range(len(machines)), range(len(policies))))
     units = [Unit(points[point], machines[table], policies[policy]) for point, table, policy in asked_runs]
     places = [(policy * len(points) + point) * len(machines) + table for point, table, policy in asked_runs]
     try:
-        made: list[SweptRun] = pool.all_of(runs.run, units, pool.at_a_time(asked.jobs), places)
+        with players.at_work(asked.jobs):
+            made: list[SweptRun] = pool.all_of(runs.run, units, pool.at_a_time(asked.jobs), places)
     finally:
         progress.ended()
     found = {(points[point].load, points[point].seed, table, policy): run
@@ -76,16 +79,28 @@ def swept_of(view: Viewer, asked: SweepAsked, machines: Sequence[Machine], is_sh
     return Swept(asked, found, len(machines))
 
 
-def answer(of_words: SweepAsked, given: bytes, view: Viewer, is_shown: bool = False) -> tuple[str, str]:
-    """What is written of the sweep of an input, and what is said of objectives that it does not keep."""
+def swept_input(of_words: SweepAsked, given: bytes, view: Viewer, is_shown: bool = False,
+                others: Sequence["Own"] = ()) -> Swept:
+    """The runs of the sweep of an input, by policies of which these are the others than words name."""
+    players = Players(view, own_of(of_words.policies, of_words.patience, others))
     machine = table_of(view, given)
     of_words = of_words.for_table(given)
     counted(of_words.labels.names, len(machine.tasks))
     known(of_words, machine)
     machines = varied(view, machine, of_words.variations, pool.each) if of_words.variations else [machine]
     held(of_words, machines)
-    verdict = Verdict(swept_of(view, of_words, machines, is_shown))
-    return SweepSheet(verdict.swept).written(verdict), verdict.lines()
+    return swept_of(view, of_words, machines, is_shown, players)
+
+
+def answer(of_words: SweepAsked, given: bytes, view: Viewer, is_shown: bool = False) -> tuple[str, str]:
+    """What is written of the sweep of an input, and what is said of objectives that it does not keep."""
+    return answer_of(swept_input(of_words, given, view, is_shown))
+
+
+def answer_of(swept: Swept) -> tuple[str, str]:
+    """The same of its runs."""
+    verdict = Verdict(swept)
+    return SweepSheet(swept).written(verdict), verdict.lines()
 
 
 def names_needed(asked: Asked) -> bool:

@@ -5,9 +5,10 @@ import threading
 from dataclasses import dataclass, field
 from typing import Iterable, Optional, Sequence
 
-from ..figures import MaybeFigure
+from ..figures import MaybeFigure, thousandths
 from ..logs.sweeping import LogLoads, LogMaker
 from ..measured import Measured, measured_of
+from ..players import Players
 from ..programs import Text, Viewer, Word, refused
 from ..progress import Progress
 from ..samples import P95, PER_MILLE, Sample, raised, samples_of
@@ -88,8 +89,9 @@ class Unit:
 class Runs:
     """What makes the runs of a sweep."""
 
-    def __init__(self, view: Viewer, asked: SweepAsked, machines: Sequence[Machine], progress: Progress) -> None:
-        self.view, self.asked, self.progress = view, asked, progress
+    def __init__(self, view: Viewer, asked: SweepAsked, machines: Sequence[Machine], progress: Progress,
+                 players: Players) -> None:
+        self.view, self.asked, self.progress, self.players = view, asked, progress, players
         self.maker: Making = Maker(view, asked, machines)
         if isinstance(asked.loads, LogLoads):
             self.maker = LogMaker(view, asked.loads)
@@ -97,18 +99,19 @@ class Runs:
     def run(self, unit: Unit) -> SweptRun:
         """Makes a run."""
         made = unit.point.made(self.maker, unit.machine)
-        run = self.measured(unit, made)
+        with self.players.naming(unit.policy, f"at load {thousandths(unit.point.load)} with seed {unit.point.seed}"):
+            run = self.measured(unit, made)
         if unit.point.ended(unit.policy):
             self.progress.made()
         return run
 
-    def words_of(self, unit: Unit, made: Made) -> list[str]:
+    def words_of(self, unit: Unit, made: Made) -> list[Word]:
         """The words for how the run goes. Where no request has misses, a plan has none to bear or to show."""
         asked = self.asked
         some = made.have_misses if made.have_misses is not None else any(
             it.has_misses and made.counts[it.task].came > made.counts[it.task].left_out for it in asked.loads.tasks)
         plan = asked.plan if some else asked.plan.without_misses()
-        return ["--policy", unit.policy, *plan.words()]
+        return self.players.words(unit.policy, unit.machine, made.arrivals, plan)
 
     def measured(self, unit: Unit, made: Made) -> SweptRun:
         asked = self.asked
@@ -136,7 +139,7 @@ class Runs:
         filled = asked.loads.filled(unit.point.load, unit.machine)
         return SweptRun(made.counts, left, numbers, is_ranked, share, samples, turns, filled)
 
-    def samples(self, numbers: Measured, words: Sequence[str], made: Made, given: bytes,
+    def samples(self, numbers: Measured, words: Sequence[Word], made: Made, given: bytes,
                 window: tuple[int, int]) -> dict[int, Sample]:
         """The samples of the tasks of objectives, and of those with a rank whose request is pending."""
         asked = self.asked

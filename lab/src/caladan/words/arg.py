@@ -5,6 +5,8 @@ from dataclasses import dataclass
 from typing import Optional
 
 WORD = 2 ** 64 - 1
+# The policies that the program has, and what stands before the command of one that is a program of its own.
+POLICIES, EXEC = ("caladan", "assured"), "exec:"
 
 
 @dataclass(frozen=True)
@@ -35,7 +37,8 @@ class Number:
 @dataclass(frozen=True)
 class Arg:
     """An option, a flag or a file. Without `value` it is a flag; without `long` it is a file. `many` may be given more
-    than once. `unless` names what may stand in its place. `hidden` is left out of the short help."""
+    than once. `unless` names what may stand in its place. `hidden` is left out of the short help. Where values have
+    names, others may begin with `prefix`."""
 
     name: str
     help: str
@@ -45,6 +48,7 @@ class Arg:
     many: bool = False
     default: str = ""
     names: tuple[str, ...] = ()
+    prefix: str = ""
     number: Optional[Number] = None
     delimiter: str = ""
     conflicts: str = ""
@@ -98,8 +102,8 @@ class Section:
 @dataclass(frozen=True)
 class Command:
     """A command: its name, the words before its own, what it is for, what the long help says at its end, what it takes
-    in the order of its help, and the commands below it; options of pictures, and sections of others; and whether it
-    answers in text whatever its file is called."""
+    in the order of its help, and the commands below it. `extra` is of pictures, `own` of policies of one's own, and
+    `sections` are of others; the long help has all by themselves. Of `is_text` no file's ending makes a picture."""
 
     name: str
     called: str
@@ -109,6 +113,7 @@ class Command:
     commands: tuple["Command", ...] = ()
     version: str = ""
     extra: tuple[Arg, ...] = ()
+    own: tuple[Arg, ...] = ()
     has_help: bool = True
     sections: tuple[Section, ...] = ()
     is_text: bool = False
@@ -116,7 +121,7 @@ class Command:
     @property
     def apart(self) -> tuple[Arg, ...]:
         """The options that stand in parts of the help of their own."""
-        return (*self.extra, *(it for section in self.sections for it in section.args))
+        return (*self.extra, *self.own, *(it for section in self.sections for it in section.args))
 
     @property
     def all_args(self) -> tuple[Arg, ...]:

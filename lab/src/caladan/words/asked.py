@@ -5,19 +5,18 @@ from dataclasses import replace
 
 from .. import __version__
 from . import texts
-from .arg import Arg, Command, Number, flag, number, option
-from .drawn import PICTURE, PROGRAM, RUN, SEEDS
+from .arg import EXEC, POLICIES, Arg, Command, Number, flag, number, option
+from .drawn import OWN, PICTURE, PROGRAM, RUN, SEEDS
 from .logged import LOG, SWEPT_LOG, UNITS
 from .reported import COMMANDS, EXPLAIN, REPORT_TEXT
 
 NAME = "caladan_lab"
-POLICIES = ("caladan", "assured")
 MOST_TURNS, MOST_TICKS = 174762, 1000000000
 
 INPUT = Arg("input", "The input [default: the standard input]", value="FILE")
 POLICY = option("policy", "NAME", "The policy: caladan, assured [default: caladan]", names=POLICIES)
 BY_EACH = option("policy", "NAME,..", "A run by each: caladan, assured [default: caladan]", names=POLICIES,
-                 delimiter=",")
+                 prefix=EXEC, delimiter=",")
 PLAN = (
     option("pace", "P", "Passes to a turn, 1 to 65535", number=Number(1, 65535)),
     option("beside", "N", "Thousandths of a turn done beside a sibling at work", number=Number(0, 1000)),
@@ -56,7 +55,7 @@ COMPARE = Command(
      option("window", "WINDOW", "Rank what came in the middle of the run, or all [default: middle]",
             names=("middle", "whole"), hidden=True), *PLAN, VARY, CSV, NAMES, TICK,
      number("write-input", "N", "Write the input of table N's run instead, from 0", conflicts="csv"), OUTPUT),
-    extra=PICTURE)
+    extra=PICTURE, own=OWN)
 
 SWEEP = Command(
     "sweep", f"{NAME} sweep", "Run a table at rising loads", texts.SWEEP,
@@ -77,7 +76,7 @@ SWEEP = Command(
             number=Number(1, 2 ** 63 - 1), hidden=True),
      flag("quiet", "Do not show on a terminal how many loads are done", short="q", hidden=True),
      CSV, NAMES, TICK, OUTPUT),
-    extra=PICTURE, sections=(SWEPT_LOG,))
+    extra=PICTURE, own=OWN, sections=(SWEPT_LOG,))
 
 TIMELINE = Command(
     "timeline", f"{NAME} timeline", "Write a history or a run as trace events, for Perfetto", texts.TIMELINE,

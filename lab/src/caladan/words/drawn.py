@@ -5,7 +5,7 @@ import os
 from typing import TYPE_CHECKING
 
 from ..refusal import Refusal
-from .arg import Arg, Command, Number, flag, number, option
+from .arg import EXEC, POLICIES, Arg, Command, Number, flag, number, option
 from .texts import TIMELINE
 
 if TYPE_CHECKING:
@@ -20,9 +20,8 @@ Input: a task table (TOML), the line ---, and arrivals, a history or signals
 (CSV), as the programs read; or two files, the CSV of `caladan_view spans` and
 that of `caladan_view series`.
 Output: a picture, whose ending says its format. An SVG is light or dark as its
-reader has it. Runs go by the policy caladan, and the heading says of a history
-of assured that it is not the policy's: draw that from the CSV of `spans` and
-`series` with --policy assured. Of CSV, --table names the task table, for free
+reader has it. Runs go by --policy, and the heading says of a history from which
+pass on it is not that policy's. Of CSV, --table names the task table, for free
 cores, guarantees and threads.
 All passes are shown if they are no more than 80, else 64; where there is room
 for fewer, a column is several passes. With --responses each task has a lane in
@@ -69,6 +68,11 @@ LOOKS = (
 PICTURE = (*LOOKS, DRAWN_TABLE, PROGRAM)
 # Of each word that writes text too, what has no place in a picture.
 TEXT_ALONE = {"compare": ("csv", "write-input", "from", "to", "window"), "sweep": ("csv", "cheapest")}
+# Of a policy that is a program of its own.
+OWN = (option("patience", "N", "Seconds for an answer of exec:COMMAND", default="10",
+              number=Number(1, 86400)),)
+BY = option("policy", "NAME", "caladan, assured or exec:COMMAND [default: caladan]", names=POLICIES,
+            prefix=EXEC)
 # A file is asked for: without it the words are refused.
 PICTURE_FILE = option("output", "PICTURE", "The picture: .svg, .png or .pdf", short="o", unless="output")
 CALLED = (option("names", "NAME,..", "The names of the tasks, in order"),
@@ -80,7 +84,7 @@ RUN = Command(
      number("from", "PASS", "The first pass that is shown", default="0"),
      option("passes", "N", "How many are shown", number=Number(1)), number("task", "T", "This task alone"),
      flag("responses", "With a lane of responses for each task, of arrivals"),
-     *CALLED, *LOOKS, PROGRAM, PICTURE_FILE))
+     BY, *OWN, *CALLED, *LOOKS, PROGRAM, PICTURE_FILE))
 
 SEEDS = Command(
     "seeds", "caladan_lab seeds", "Draw what several seeds measured: median, least, greatest", SEEDS_TEXT,

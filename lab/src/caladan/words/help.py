@@ -60,6 +60,8 @@ def help_of(command: Command, is_long: bool) -> str:
         parts += [f"{it.title}:\n{told(command, list(it.args))}\n\n{it.says.strip()}" for it in command.sections]
     if command.extra and is_long:
         parts.append("Pictures:\n" + told(command, list(command.extra)))
+    if command.own and is_long:
+        parts.append("Policies of your own:\n" + told(command, list(command.own)))
     if is_long and command.after:
         parts.append(command.after)
     return "\n\n".join(parts) + "\n"

@@ -187,7 +187,8 @@ class Reader:
 
 def judge(arg: Arg, value: str) -> None:
     """Refuses a value that an option may not have."""
-    if arg.names and value not in arg.names:
+    is_other = bool(arg.prefix) and value.startswith(arg.prefix) and value != arg.prefix
+    if arg.names and value not in arg.names and not is_other:
         raise refusals.bad_value(arg, value)
     if arg.number and (why := arg.number.fault(value)):
         raise refusals.bad_value(arg, value, why)

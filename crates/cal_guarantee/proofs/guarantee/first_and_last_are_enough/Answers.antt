@@ -1,4 +1,4 @@
-use Rattle.cal_guarantee.proofs.Whole.{enough_given}
+use Rattle.cal_guarantee.proofs.Given.{enough_given}
 use Rattle.cal_guarantee.proofs.guarantee.first_and_last_are_enough.Goals as goal
 
 pub returns : goal.returns

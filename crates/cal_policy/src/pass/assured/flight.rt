@@ -175,6 +175,52 @@ impl Pass<'_> {
         helpers
     }
 
+    /// Whether a thread is in flight since this pass: the core that it holds by an untaken Run was
+    /// granted in this pass. Only the cores that were are gone over.
+    fn is_new_in_flight(&self, board: &Board, thread: usize) -> bool
+        requires at_hand { IsOfTable self.now.config.now board.now }
+        requires thread { thread < threads_of_table self.now.config.now }
+        ensures { Within self.now board.now (λ s acts. result
+            ≡ rules.is_new_in_flight s (so_far s acts) thread) }
+    {
+        self.config.limits();
+        let mut first = 0;
+        while let Some(core) = next_core(self.config, &board.fresh, first) {
+            if self.is_untaken_on(board, thread, core) {
+                return true;
+            }
+            first = core + 1;
+        }
+        false
+    }
+
+    /// Whether a thread is in flight since this pass and not late.
+    fn helps_newly(&self, board: &Board, thread: usize) -> bool
+        requires at_hand { IsOfTable self.now.config.now board.now }
+        requires thread { thread < threads_of_table self.now.config.now }
+        ensures { Within self.now board.now (λ s acts. result
+            ≡ rules.helps_newly s (so_far s acts) thread) }
+    {
+        self.config.limits();
+        self.is_new_in_flight(board, thread) && !self.is_late(board, thread)
+    }
+
+    /// How many helpers of a task were granted their cores in this pass.
+    pub fn new_helpers(&self, board: &Board, task: usize) -> usize
+        requires at_hand { IsOfTable self.now.config.now board.now }
+        requires task { task < length self.now.config.now.tasks }
+        ensures count { Within self.now board.now (λ s acts. result
+            ≡ rules.new_helpers s (so_far s acts) task) }
+        ensures few { result ≤ MOST_THREADS }
+    {
+        let (first, count) = self.config.threads_of(task);
+        let mut helpers = 0;
+        for j in 0..count {
+            helpers = count_if(helpers, self.helps_newly(board, first + j));
+        }
+        helpers
+    }
+
     /// How many cores are being left for a task.
     pub fn coming(&self, board: &Board, task: usize) -> usize
         requires at_hand { IsOfTable self.now.config.now board.now }

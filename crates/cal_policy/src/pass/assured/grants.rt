@@ -1,8 +1,9 @@
 //! The last part of a pass of `Policy::Assured`: each task that waits gets a core, or has one
-//! revoked for it, in the order that is fixed where the part begins.
+//! revoked for it, in the order that is fixed where the part begins. A short task acts until it has
+//! all that it lacks.
 
 ghost use Rattle.std.specs.Prelude.{◌≡◌, ℕ, ◌+◌, ◌<◌, ◌≤◌, ◌++◌, true, false, length};
-ghost use Rattle.std.specs.Prelude.{option_to_list};
+ghost use Rattle.std.specs.Prelude.{option_to_list, Some};
 ghost use Rattle.std.specs.Option.{IfSome};
 ghost use Rattle.cal_machine.specs.TableTasks.{threads_of_table};
 ghost use Rattle.cal_machine.specs.ThreadSet.{has_thread};
@@ -18,19 +19,33 @@ use crate::board::Board;
 use crate::history::action::Action;
 use crate::history::action_list::Actions;
 use crate::pass::Pass;
+use crate::pass::assured::acted::has_acted;
 use crate::pass::assured::turns::{NO_TURN, next_turn};
 
 impl Pass<'_> {
-    /// What a task that waits gets. What is asked of it is asked once, and no core is looked for
-    /// where it does not wait.
-    pub fn turn_due(&self, board: &Board, task: usize) -> Option<Action>
+    /// Whether a task may act, by the actions of the pass so far: it is short, or has not acted.
+    fn may_act(&self, board: &Board, acts: &[Action], task: usize) -> bool
         requires at_hand { IsOfTable self.now.config.now board.now }
         requires task { task < length self.now.config.now.tasks }
-        ensures due { Within self.now board.now (λ s acts. option_to_list result
-            ≡ rules.grant_at s acts task) }
+        ensures { Within self.now board.now (λ s made. acts.now ≡ made →
+            result ≡ rules.may_act s made task) }
+    {
+        self.is_short(board, task) || !has_acted(self.config, acts, task)
+    }
+
+    /// What a task that waits and may act gets, by the actions of the pass so far. What is asked of it
+    /// is asked once, and no core is looked for where it does not wait.
+    pub fn act_due(&self, board: &Board, acts: &[Action], task: usize) -> Option<Action>
+        requires at_hand { IsOfTable self.now.config.now board.now }
+        requires task { task < length self.now.config.now.tasks }
+        ensures due { Within self.now board.now (λ s made. acts.now ≡ made →
+            option_to_list result ≡ rules.act_of s made task) }
         ensures names { IfSome result (NamesTable self.now.config.now) }
     {
         if !self.may_book(board, task) {
+            return None;
+        }
+        if !self.may_act(board, acts, task) {
             return None;
         }
         let unhelped = self.unhelped(board, task);
@@ -40,8 +55,31 @@ impl Pass<'_> {
         let Some(thread) = self.choose_thread(board, task) else {
             return None;
         };
-        let core = self.choose_for(board, task, unhelped);
+        let acted = has_acted(self.config, acts, task);
+        let core = self.choose_for(board, task, unhelped, acted);
         self.chosen(task, thread, core)
+    }
+
+    /// The turn of a task: it acts until it finds nothing to do. The list is not full before that,
+    /// since no pass has as many actions.
+    fn take_turn(&self, board: &mut Board, out: &mut Actions, task: usize)
+        requires of_table { IsOfTable self.now.config.now board.old }
+        requires task { task < length self.now.config.now.tasks }
+        ensures acts { (h : Begun) → let s = setting_in self.now h in
+            length (out.old ++ rules.turn_in_place s out.old (Some task)) ≤ MOST_ACTIONS →
+            Stands board.old s out.old →
+            (out.new ≡ out.old ++ rules.turn_in_place s out.old (Some task)) × Stands board.new s out.new }
+        ensures ready { IsReady self.now.config.now board.new }
+    {
+        for _ in 0..self.config.machine().cores() {
+            if out.is_full() {
+                return;
+            }
+            let Some(action) = self.act_due(board, out.as_slice(), task) else {
+                return;
+            };
+            self.make(board, out, Some(action));
+        }
     }
 
     /// Whether no thread shows a request that waits: then no task waits.
@@ -58,11 +96,11 @@ impl Pass<'_> {
         }
     }
 
-    /// Gives each task what it gets, in the order that is fixed before the first.
+    /// Gives each task its turn, in the order that is fixed before the first.
     pub fn grant_in_turn(&self, board: &mut Board, out: &mut Actions)
         requires of_table { IsOfTable self.now.config.now board.old }
-        requires room { length out.old + length self.now.config.now.tasks ≤ MOST_ACTIONS }
-        ensures acts { (h : Begun) → let s = setting_in self.now h in Stands board.old s out.old →
+        ensures acts { (h : Begun) → let s = setting_in self.now h in
+            length (out.old ++ rules.grants s out.old) ≤ MOST_ACTIONS → Stands board.old s out.old →
             (out.new ≡ out.old ++ rules.grants s out.old) × Stands board.new s out.new }
         ensures ready { IsReady self.now.config.now board.new }
     {
@@ -81,8 +119,7 @@ impl Pass<'_> {
                 return;
             }
             turns[task] = NO_TURN;
-            let action = self.turn_due(board, task);
-            self.make(board, out, action);
+            self.take_turn(board, out, task);
         }
     }
 }

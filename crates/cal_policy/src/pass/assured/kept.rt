@@ -5,7 +5,6 @@ ghost use Rattle.std.specs.Prelude.{slice_index_or};
 ghost use Rattle.std.specs.Option.{is_some};
 ghost use Rattle.cal_machine.specs.declared.machine.TheConstants.{MOST_CORES};
 ghost use Rattle.cal_policy.specs.declared.history.action.Action.{Action};
-ghost use Rattle.cal_policy.specs.Assured.AtTurn.{is_lacked_by_others};
 ghost use Rattle.cal_policy.specs.Assured.Owed as owed;
 ghost use Rattle.cal_policy.specs.Assured.Short as short;
 ghost use Rattle.cal_policy.specs.Assured.Taking as rules;
@@ -76,7 +75,7 @@ impl Pass<'_> {
     }
 
     /// Whether core `core`, which is owed to `other`, is kept from a task that is short: `other` is
-    /// another, is short too and waits, and fewer lower cores are owed to it than it lacks.
+    /// another, is short too and waits, and fewer lower cores are owed to it than it needs.
     fn is_kept_for_short(&self, board: &Board, task: usize, core: u8, other: usize) -> bool
         requires at_hand { IsOfTable self.now.config.now board.now }
         requires core { core < self.now.config.now.cores }
@@ -88,33 +87,18 @@ impl Pass<'_> {
             return false;
         }
         let is_for_other = other != task && self.waits_short(board, other);
-        is_for_other && owed_below(board, other, core) < self.lacks(board, other)
+        is_for_other && owed_below(board, other, core) < self.needs(board, other)
     }
 
-    /// Whether every open core is lacked by others: the task is not short, and some short task
-    /// waits that lacks them.
-    pub fn is_lacked_by_others(&self, board: &Board, task: usize) -> bool
-        requires at_hand { IsOfTable self.now.config.now board.now }
-        requires task { task < length self.now.config.now.tasks }
-        ensures { Within self.now board.now (λ s acts. result
-            ≡ is_lacked_by_others s (so_far s acts) task) }
-    {
-        !self.is_short(board, task) && self.are_lacked(board)
-    }
-
-    /// Whether an open core is kept from the task; `lacked` says whether each is lacked by others.
-    pub fn is_kept(&self, board: &Board, task: usize, core: u8, lacked: bool) -> bool
+    /// Whether an open core is kept from the task.
+    pub fn is_kept(&self, board: &Board, task: usize, core: u8) -> bool
         requires at_hand { IsOfTable self.now.config.now board.now }
         requires task { task < length self.now.config.now.tasks }
         requires core { core < self.now.config.now.cores }
-        ensures { Within self.now board.now (λ s acts.
-            lacked ≡ is_lacked_by_others s (so_far s acts) task →
-            result ≡ rules.is_kept s (so_far s acts) task core) }
+        ensures { Within self.now board.now (λ s acts. result
+            ≡ rules.is_kept s (so_far s acts) task core) }
     {
         self.config.limits();
-        if lacked {
-            return true;
-        }
         let Some(other) = board.debts.owed[core as usize] else {
             return false;
         };
@@ -136,14 +120,13 @@ impl Pass<'_> {
     }
 
     /// Whether the task may take a core: it is open, and not kept from the task.
-    pub fn may_take(&self, board: &Board, task: usize, core: u8, lacked: bool) -> bool
+    pub fn may_take(&self, board: &Board, task: usize, core: u8) -> bool
         requires at_hand { IsOfTable self.now.config.now board.now }
         requires task { task < length self.now.config.now.tasks }
         requires core { core < self.now.config.now.cores }
-        ensures { Within self.now board.now (λ s acts.
-            lacked ≡ is_lacked_by_others s (so_far s acts) task →
-            result ≡ rules.may_take s (so_far s acts) task core) }
+        ensures { Within self.now board.now (λ s acts. result
+            ≡ rules.may_take s (so_far s acts) task core) }
     {
-        self.is_open(board, core) && !self.is_kept(board, task, core, lacked)
+        self.is_open(board, core) && !self.is_kept(board, task, core)
     }
 }

@@ -12,6 +12,7 @@ ghost use Rattle.cal_policy.specs.State.{IsOfTable, Agrees};
 use crate::board::Board;
 use crate::board::counts::booked_by;
 use crate::pass::Pass;
+use crate::pass::assured::flight::count_if;
 
 impl Pass<'_> {
     /// Whether a task is short: a latency-critical one that books less than it is guaranteed.
@@ -42,17 +43,61 @@ impl Pass<'_> {
         }
     }
 
-    /// How many cores all short tasks lack, whether they wait or not.
+    /// How many cores a task lacks, where it is short and waits; another lacks none.
+    fn lacks_waiting(&self, board: &Board, task: usize) -> usize
+        requires at_hand { IsOfTable self.now.config.now board.now }
+        requires task { task < length self.now.config.now.tasks }
+        ensures lacks { Within self.now board.now (λ s acts. result
+            ≡ rules.lacks_waiting s (so_far s acts) task) }
+        ensures few { result ≤ 255 }
+    {
+        let lacks = self.lacks(board, task);
+        if lacks == 0 {
+            return 0;
+        }
+        if self.waits(board, task) { lacks } else { 0 }
+    }
+
+    /// How many cores all short tasks lack that wait.
     pub fn lacking(&self, board: &Board) -> usize
         requires at_hand { IsOfTable self.now.config.now board.now }
-        ensures { (x : List Action) → Agrees board.now x →
-            result ≡ rules.lacking self.now.config.now x }
+        ensures { Within self.now board.now (λ s acts. result ≡ rules.lacking s (so_far s acts)) }
     {
         let mut lacking = 0;
         for task in 0..self.config.tasks() {
-            lacking += self.lacks(board, task);
+            lacking += self.lacks_waiting(board, task);
         }
         lacking
+    }
+
+    /// How many threads of a task may be granted a core.
+    fn spare(&self, board: &Board, task: usize) -> usize
+        requires at_hand { IsOfTable self.now.config.now board.now }
+        requires task { task < length self.now.config.now.tasks }
+        ensures { Within self.now board.now (λ s acts. result
+            ≡ rules.spare s (so_far s acts) task) }
+    {
+        let (first, count) = self.config.threads_of(task);
+        let mut spare = 0;
+        for j in 0..count {
+            let rank = self.thread_rank(board, first + j);
+            spare = count_if(spare, rank.is_some());
+        }
+        spare
+    }
+
+    /// How many cores a short task could be granted in this pass: it lacks so many, has so many late
+    /// threads for them, and so many threads that may be granted one.
+    pub fn needs(&self, board: &Board, task: usize) -> usize
+        requires at_hand { IsOfTable self.now.config.now board.now }
+        requires task { task < length self.now.config.now.tasks }
+        ensures { Within self.now board.now (λ s acts. result
+            ≡ rules.needs s (so_far s acts) task) }
+    {
+        let lacks = self.lacks(board, task);
+        let pressing = self.pressing(board, task);
+        let spare = self.spare(board, task);
+        lacks.min(pressing.min(spare))
     }
 
     /// How many cores are free and not banned.
@@ -65,7 +110,8 @@ impl Pass<'_> {
         board.open_cores.idle.count_below(cores)
     }
 
-    /// How many late threads of a task have a helper on its way; of a short task none counts.
+    /// How many late threads of a task have a helper on its way; of a short task only the helpers of
+    /// this pass count.
     pub fn surplus(&self, board: &Board, task: usize) -> usize
         requires at_hand { IsOfTable self.now.config.now board.now }
         requires task { task < length self.now.config.now.tasks }
@@ -74,7 +120,7 @@ impl Pass<'_> {
         ensures few { result ≤ MOST_THREADS }
     {
         if self.is_short(board, task) {
-            0
+            self.new_helpers(board, task)
         } else {
             self.helpers(board, task)
         }

@@ -1,11 +1,11 @@
 //! Which core a task takes: an open one that is not kept from it, else one that another holds.
 
 ghost use Rattle.std.specs.Prelude.{◌≡◌, ℕ, ◌-◌, ◌<◌, ◌&&◌, true, false, not, length};
-ghost use Rattle.std.specs.Prelude.{None, slice_index_or};
+ghost use Rattle.std.specs.Prelude.{None, slice_index_or, if◌then◌else◌};
 ghost use Rattle.std.specs.Option.{IfSome};
 ghost use Rattle.cal_machine.specs.CoreSet.{has};
-ghost use Rattle.cal_machine.specs.TableTasks.{threads_of_table};
-ghost use Rattle.cal_policy.specs.Assured.AtTurn.{is_lacked_by_others};
+ghost use Rattle.cal_machine.specs.TableTasks.{threads_of_table, owner_of};
+ghost use Rattle.cal_policy.specs.Assured.Acted.{has_acted};
 ghost use Rattle.cal_policy.specs.Assured.InFlight.{pressing};
 ghost use Rattle.cal_policy.specs.Assured.Short.{surplus};
 ghost use Rattle.cal_policy.specs.Assured.Taking as rules;
@@ -14,7 +14,7 @@ ghost use Rattle.cal_policy.specs.History.CoreClasses.{comes_before};
 ghost use Rattle.cal_policy.specs.History.{holder_of};
 ghost use Rattle.cal_policy.specs.Pass.AtHand.{Within};
 ghost use Rattle.cal_policy.specs.Pass.Choice.{best_below};
-ghost use Rattle.cal_policy.specs.Pass.Grants.{is_granted_in};
+ghost use Rattle.cal_policy.specs.Pass.Grants.{is_granted_in, preempt_class};
 ghost use Rattle.cal_policy.specs.Setting.{so_far, has_room};
 ghost use Rattle.cal_policy.specs.State.{IsOfTable};
 
@@ -28,23 +28,15 @@ use crate::pass::assured::kept::{is_owed, is_owed_to};
 use crate::pass::choice::{Candidate, first_class};
 
 impl Pass<'_> {
-    /// The class of a core that the task may take; `lacked` says whether each open core is lacked
-    /// by others.
-    pub fn open_class(
-        &self,
-        board: &Board,
-        task: usize,
-        core: u8,
-        lacked: bool,
-    ) -> Option<CoreClass>
+    /// The class of a core that the task may take.
+    pub fn open_class(&self, board: &Board, task: usize, core: u8) -> Option<CoreClass>
         requires at_hand { IsOfTable self.now.config.now board.now }
         requires task { task < length self.now.config.now.tasks }
         requires core { core < self.now.config.now.cores }
-        ensures { Within self.now board.now (λ s acts.
-            lacked ≡ is_lacked_by_others s (so_far s acts) task →
-            result ≡ rules.open_class s (so_far s acts) task core) }
+        ensures { Within self.now board.now (λ s acts. result
+            ≡ rules.open_class s (so_far s acts) task core) }
     {
-        if self.may_take(board, task, core, lacked) {
+        if self.may_take(board, task, core) {
             Some(self.class_if_idle(board, task, core))
         } else {
             None
@@ -52,17 +44,16 @@ impl Pass<'_> {
     }
 
     /// The same, of a core that is owed to the task.
-    fn owed_class(&self, board: &Board, task: usize, core: u8, lacked: bool) -> Option<CoreClass>
+    fn owed_class(&self, board: &Board, task: usize, core: u8) -> Option<CoreClass>
         requires at_hand { IsOfTable self.now.config.now board.now }
         requires task { task < length self.now.config.now.tasks }
         requires core { core < self.now.config.now.cores }
-        ensures { Within self.now board.now (λ s acts.
-            lacked ≡ is_lacked_by_others s (so_far s acts) task →
-            result ≡ rules.owed_class s (so_far s acts) task core) }
+        ensures { Within self.now board.now (λ s acts. result
+            ≡ rules.owed_class s (so_far s acts) task core) }
     {
         self.config.limits();
         if is_owed_to(board, task, core) {
-            self.open_class(board, task, core, lacked)
+            self.open_class(board, task, core)
         } else {
             None
         }
@@ -70,19 +61,18 @@ impl Pass<'_> {
 
     /// Of the cores that are owed to the task and that it may take the one of the least class, the
     /// lowest of those.
-    fn choose_owed(&self, board: &Board, task: usize, lacked: bool) -> Option<Candidate<CoreClass>>
+    fn choose_owed(&self, board: &Board, task: usize) -> Option<Candidate<CoreClass>>
         requires at_hand { IsOfTable self.now.config.now board.now }
         requires task { task < length self.now.config.now.tasks }
-        ensures choice { Within self.now board.now (λ s acts.
-            lacked ≡ is_lacked_by_others s (so_far s acts) task →
-            result ≡ best_below comes_before (rules.owed_class s (so_far s acts) task)
+        ensures choice { Within self.now board.now (λ s acts. result
+            ≡ best_below comes_before (rules.owed_class s (so_far s acts) task)
             self.now.config.now.cores) }
         ensures below { IfSome result (λ best. best.number < self.now.config.now.cores) }
     {
         let mut best: Option<Candidate<CoreClass>> = None;
         let mut first = 0;
         while let Some(core) = next_core(self.config, &board.open_cores.idle, first) {
-            let class = self.owed_class(board, task, core, lacked);
+            let class = self.owed_class(board, task, core);
             best = first_class(best, class, core);
             first = core + 1;
         }
@@ -90,19 +80,18 @@ impl Pass<'_> {
     }
 
     /// Of all that the task may take the one of the least class, the lowest of those.
-    fn choose_any(&self, board: &Board, task: usize, lacked: bool) -> Option<Candidate<CoreClass>>
+    fn choose_any(&self, board: &Board, task: usize) -> Option<Candidate<CoreClass>>
         requires at_hand { IsOfTable self.now.config.now board.now }
         requires task { task < length self.now.config.now.tasks }
-        ensures choice { Within self.now board.now (λ s acts.
-            lacked ≡ is_lacked_by_others s (so_far s acts) task →
-            result ≡ best_below comes_before (rules.open_class s (so_far s acts) task)
+        ensures choice { Within self.now board.now (λ s acts. result
+            ≡ best_below comes_before (rules.open_class s (so_far s acts) task)
             self.now.config.now.cores) }
         ensures below { IfSome result (λ best. best.number < self.now.config.now.cores) }
     {
         let mut best: Option<Candidate<CoreClass>> = None;
         let mut first = 0;
         while let Some(core) = next_core(self.config, &board.open_cores.idle, first) {
-            let class = self.open_class(board, task, core, lacked);
+            let class = self.open_class(board, task, core);
             best = first_class(best, class, core);
             first = core + 1;
         }
@@ -160,16 +149,12 @@ impl Pass<'_> {
         if self.none_is_open(board) {
             return None;
         }
-        let lacked = self.is_lacked_by_others(board, task);
-        if lacked {
-            return None;
-        }
         if !self.some_is_owed(board) {
             return self.choose_idle(board, task);
         }
-        match self.choose_owed(board, task, lacked) {
+        match self.choose_owed(board, task) {
             Some(owed) => Some(owed),
-            None => self.choose_any(board, task, lacked),
+            None => self.choose_any(board, task),
         }
     }
 
@@ -183,6 +168,50 @@ impl Pass<'_> {
             ≡ (has_room s thread && not (is_granted_in acts core))) }
     {
         self.has_room(thread as usize) && !board.fresh.has(core)
+    }
+
+    /// Whether fewer cores are coming to the task than it lacks.
+    fn fewer_come(&self, board: &Board, task: usize) -> bool
+        requires at_hand { IsOfTable self.now.config.now board.now }
+        requires task { task < length self.now.config.now.tasks }
+        ensures { Within self.now board.now (λ s acts. result
+            ≡ rules.fewer_come s (so_far s acts) task) }
+    {
+        self.coming(board, task) < self.lacks(board, task)
+    }
+
+    /// Whether the task may take a core that the other holds: from a latency-critical one only where
+    /// fewer are coming than it lacks.
+    fn may_take_from(&self, board: &Board, task: usize, other: usize) -> bool
+        requires at_hand { IsOfTable self.now.config.now board.now }
+        requires task { task < length self.now.config.now.tasks }
+        requires other { other < length self.now.config.now.tasks }
+        ensures { Within self.now board.now (λ s acts. result
+            ≡ rules.may_take_from s (so_far s acts) task other) }
+    {
+        !self.config.is_latency_critical(other) || self.fewer_come(board, task)
+    }
+
+    /// The class of a core that `thread` holds, which may be taken from it.
+    fn class_from(&self, board: &Board, task: usize, core: u8, thread: u8) -> Option<CoreClass>
+        requires at_hand { IsOfTable self.now.config.now board.now }
+        requires task { task < length self.now.config.now.tasks }
+        requires core { core < self.now.config.now.cores }
+        requires thread { thread < threads_of_table self.now.config.now }
+        ensures { Within self.now board.now (λ s acts. result ≡ (if has_room s thread
+            && not (is_granted_in acts core)
+            && rules.may_take_from s (so_far s acts) task (owner_of s.table thread)
+            then preempt_class s.table (so_far s acts) task (owner_of s.table thread) else None)) }
+    {
+        let other = self.config.task_of(thread as usize);
+        if !self.may_be_taken(board, core, thread) {
+            return None;
+        }
+        if self.may_take_from(board, task, other) {
+            self.preempt_class(board, task, other)
+        } else {
+            None
+        }
     }
 
     /// The class of a core by its holder, where a thread holds it that may lose it.
@@ -202,13 +231,7 @@ impl Pass<'_> {
             ≡ rules.held_class s acts task core holder) }
     {
         match holder {
-            Holder::Held(placement) => {
-                if self.may_be_taken(board, core, placement.thread) {
-                    self.preempt_class(board, task, self.config.task_of(placement.thread as usize))
-                } else {
-                    None
-                }
-            }
+            Holder::Held(placement) => self.class_from(board, task, core, placement.thread),
             Holder::Free => None,
             Holder::Leaving(..) => None,
         }
@@ -244,39 +267,57 @@ impl Pass<'_> {
         best
     }
 
-    /// Whether a core may be revoked for the task: it is latency-critical, and more of its threads
-    /// press than cores are coming to it and helpers on their way; `unhelped` says how many press
-    /// beyond those that have a helper.
-    pub fn may_revoke_for(&self, board: &Board, task: usize, unhelped: usize) -> bool
+    /// Whether more threads of the task press than cores are coming to it and helpers on their way;
+    /// `unhelped` says how many press beyond those that have a helper.
+    fn more_press(&self, board: &Board, task: usize, unhelped: usize) -> bool
         requires at_hand { IsOfTable self.now.config.now board.now }
         requires task { task < length self.now.config.now.tasks }
         ensures { Within self.now board.now (λ s acts.
             unhelped ≡ pressing s (so_far s acts) task - surplus s (so_far s acts) task →
-            result ≡ rules.may_preempt s (so_far s acts) task) }
+            result ≡ rules.more_press s (so_far s acts) task) }
     {
-        self.config.is_latency_critical(task) && self.coming(board, task) < unhelped
+        self.coming(board, task) < unhelped
+    }
+
+    /// Whether a core may be revoked for the task: it is latency-critical, more of its threads press
+    /// than cores are coming to it and helpers on their way, and it has not acted in this pass, or
+    /// fewer are coming than it lacks. `unhelped` says how many press beyond those that have a helper,
+    /// `acted` whether it has acted.
+    pub fn may_revoke_for(&self, board: &Board, task: usize, unhelped: usize, acted: bool) -> bool
+        requires at_hand { IsOfTable self.now.config.now board.now }
+        requires task { task < length self.now.config.now.tasks }
+        ensures { Within self.now board.now (λ s acts.
+            unhelped ≡ pressing s (so_far s acts) task - surplus s (so_far s acts) task →
+            acted ≡ has_acted s.table acts task →
+            result ≡ rules.may_preempt s acts task) }
+    {
+        let is_critical = self.config.is_latency_critical(task);
+        let presses_on = is_critical && self.more_press(board, task, unhelped);
+        presses_on && (!acted || self.fewer_come(board, task))
     }
 
     /// The core that the task takes: an open one; where there is none, and one may be revoked for
     /// it, one that another holds. `unhelped` says how many of its threads press beyond those that
-    /// have a helper.
+    /// have a helper, `acted` whether it has acted in this pass.
     pub fn choose_for(
         &self,
         board: &Board,
         task: usize,
         unhelped: usize,
+        acted: bool,
     ) -> Option<Candidate<CoreClass>>
         requires at_hand { IsOfTable self.now.config.now board.now }
         requires task { task < length self.now.config.now.tasks }
         ensures choice { Within self.now board.now (λ s acts.
             unhelped ≡ pressing s (so_far s acts) task - surplus s (so_far s acts) task →
+            acted ≡ has_acted s.table acts task →
             result ≡ rules.choice_for s acts task) }
         ensures below { IfSome result (λ best. best.number < self.now.config.now.cores) }
     {
         if let Some(open) = self.choose_open(board, task) {
             return Some(open);
         }
-        if !self.may_revoke_for(board, task, unhelped) {
+        if !self.may_revoke_for(board, task, unhelped, acted) {
             return None;
         }
         if self.some_may_be_preempted(board, task) {

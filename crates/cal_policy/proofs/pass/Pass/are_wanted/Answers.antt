@@ -16,14 +16,14 @@ pub returns-then-none_waits : goal.returns-then-none_waits
 returns-then-none_waits c = λ h acts st.
     let s = setting_in c.args.self.now h in
     let x = so_far s acts in
-    sym (ap (λ w. w && nat_lt (open_cores s.table x) (lacking s.table x)) (none_short s x (c.if-none_waits.ensures.waits refl h acts st)))
+    sym (ap (λ w. w && nat_lt (open_cores s.table x) (lacking s x)) (none_short s x (c.if-none_waits.ensures.waits refl h acts st)))
 
 pub returns-then-lacking-open_now : goal.returns-then-lacking-open_now
 returns-then-lacking-open_now c = λ h acts st.
     let s = setting_in c.args.self.now h in
     let x = so_far s acts in
-    let none : nat_lt (open_cores s.table x) (lacking s.table x) ≡ false =
-    enough (open_cores s.table x) (lacking s.table x) (omega (arith, c.if-lacking-open_now.true, c.lacking-lacking.ensures x st.agrees, c.open_cores-open_now.ensures x st.agrees)) in
+    let none : nat_lt (open_cores s.table x) (lacking s x) ≡ false =
+    enough (open_cores s.table x) (lacking s x) (omega (arith, c.if-lacking-open_now.true, c.lacking-lacking.ensures h acts st, c.open_cores-open_now.ensures x st.agrees)) in
     sym (ap (λ w. some_waits_short s x && w) none ∙ and-false (some_waits_short s x))
 
 pub returns : goal.returns
@@ -31,5 +31,5 @@ returns c = λ h acts st.
     let s = setting_in c.args.self.now h in
     let x = so_far s acts in
     c.some_waits_short.ensures h acts st
-    ∙ with_true (some_waits_short s x) (nat_lt (open_cores s.table x) (lacking s.table x))
-    (too_few (open_cores s.table x) (lacking s.table x) (omega (arith, c.if-lacking-open_now.false, c.lacking-lacking.ensures x st.agrees, c.open_cores-open_now.ensures x st.agrees)))
+    ∙ with_true (some_waits_short s x) (nat_lt (open_cores s.table x) (lacking s x))
+    (too_few (open_cores s.table x) (lacking s x) (omega (arith, c.if-lacking-open_now.false, c.lacking-lacking.ensures h acts st, c.open_cores-open_now.ensures x st.agrees)))

@@ -1,10 +1,9 @@
-use Rattle.cal_policy.proofs.Common.{◌≡◌, ◌<◌, ◌≤◌, ◌-◌, List, IfSome, Action, is_lacked_by_others, open_class, comes_before, setting_in, best_below, Begun, so_far, Stands}
+use Rattle.cal_policy.proofs.Common.{◌≡◌, ◌<◌, ◌≤◌, ◌-◌, List, IfSome, Action, open_class, comes_before, setting_in, best_below, Begun, so_far, Stands}
 use Rattle.cal_policy.proofs.pass.Pass.choose_any.Given as goal
 
 abbrev pub invariant-loop-core : goal.invariant-loop-core
 invariant-loop-core l = record {
-  choice : (h : Begun) (acts : List Action) → let s = setting_in l.self h in Stands l.board s acts → l.lacked ≡ is_lacked_by_others s (so_far s acts) l.task →
-      l.best ≡ best_below comes_before (open_class s (so_far s acts) l.task) l.first;
+  choice : (h : Begun) (acts : List Action) → let s = setting_in l.self h in Stands l.board s acts → l.best ≡ best_below comes_before (open_class s (so_far s acts) l.task) l.first;
   below : IfSome l.best (λ best. best.number < l.first);
   first : l.first ≤ l.self.config.now.cores;
 }

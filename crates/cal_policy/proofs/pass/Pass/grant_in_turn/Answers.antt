@@ -1,5 +1,5 @@
--- Each place gives what is due to its task.
-use Rattle.cal_policy.proofs.Common.{◌++◌, length, refl, sym, ap, ◌∙◌, arith, append-nil, length-set, NO_TURN, task_in_place, setting_in, so_far}
+-- Each place has the turn of its task.
+use Rattle.cal_policy.proofs.Common.{length, refl, sym, ◌∙◌, arith, append-nil, length-set, NO_TURN, task_in_place, setting_in, so_far}
 use Rattle.cal_policy.proofs.AssuredLemmas.NextTurn.{by_place, come_first, come_last, come_idle, come_next}
 use Rattle.cal_policy.proofs.AssuredLemmas.NoneToTake.{none_in_place}
 use Rattle.cal_policy.proofs.AssuredLemmas.Waiting.{nothing_in_place}
@@ -8,7 +8,7 @@ use Rattle.cal_policy.proofs.pass.Pass.grant_in_turn.Goals as goal
 
 -- where no task waits none is given anything
 pub returns-then-none_waits-clause-acts : goal.returns-then-none_waits-clause-acts
-returns-then-none_waits-clause-acts c = λ h st.
+returns-then-none_waits-clause-acts c = λ h room st.
     let s = setting_in c.args.self.now h in
     let out = c.args.out.now in
     Reached_skip (by_place s out) s out out c.args.board.now 0 (length s.table.tasks) (omega arith)
@@ -17,7 +17,7 @@ returns-then-none_waits-clause-acts c = λ h st.
 
 -- where none may take a core none is given one
 pub returns-then-none_may_take-clause-acts : goal.returns-then-none_may_take-clause-acts
-returns-then-none_may_take-clause-acts c = λ h st.
+returns-then-none_may_take-clause-acts c = λ h room st.
     let s = setting_in c.args.self.now h in
     let out = c.args.out.now in
     Reached_skip (by_place s out) s out out c.args.board.now 0 (length s.table.tasks) (omega arith)
@@ -26,26 +26,25 @@ returns-then-none_may_take-clause-acts c = λ h st.
 
 pub loop-init : goal.loop-init
 loop-init c = record {
-  acts = λ h st.
+  acts = λ h room st.
       let s = setting_in c.args.self.now h in
       let out = c.args.out.now in
       come_first s out c.args.board.now NO_TURN c.turns-turns.result (sym (append-nil out), st) (c.turns-turns.ensures h out st);
   ready = c.requires.of_table.ready;
   all = c.turns-turns.type_inv.1.0.1;
-  length = omega arith;
 }
 
 -- where no task has a turn left none is given anything more
 pub returns-in_default-clause-acts : goal.returns-in_default-clause-acts
-returns-in_default-clause-acts c = λ h st.
+returns-in_default-clause-acts c = λ h room st.
     let s = setting_in c.args.self.now h in
-    come_last s c.args.out.now c.loop.out c.loop.board NO_TURN c.loop.turns c.loop.counter (c.loop.invariant.acts h st)
+    come_last s c.args.out.now c.loop.out c.loop.board NO_TURN c.loop.turns c.loop.counter (c.loop.invariant.acts h room st)
     (λ t lt. c.in_default.ensures.none t (omega (arith, lt, c.tasks.ensures.count)))
 
 pub returns-then-none_may_take-2-clause-acts : goal.returns-then-none_may_take-2-clause-acts
-returns-then-none_may_take-2-clause-acts c = λ h st.
+returns-then-none_may_take-2-clause-acts c = λ h room st.
     let s = setting_in c.args.self.now h in
-    let come = c.loop.invariant.acts h st in
+    let come = c.loop.invariant.acts h room st in
     come_idle s c.args.out.now c.loop.out c.loop.board NO_TURN c.loop.turns c.loop.counter come
     (λ place. none_in_place s c.loop.out (task_in_place s (so_far s c.args.out.now) place) (c.if-none_may_take-2.ensures refl h c.loop.out come.made.1))
 
@@ -53,13 +52,13 @@ pub loop-preserved : goal.loop-preserved
 loop-preserved c =
     let i = c.loop.invariant in
     let few = c.requires.of_table.accepted.tasks in record {
-      acts = λ h st.
+      acts = λ h room st.
           let s = setting_in c.args.self.now h in
-          come_next s c.args.out.now c.loop.out c.make.new.out c.loop.board c.make.new.board NO_TURN c.loop.turns c.loop.counter c.in-Some.task few i.all (i.acts h st)
+          come_next s c.args.out.now c.loop.out c.take_turn.new.out c.loop.board c.take_turn.new.board NO_TURN c.loop.turns c.loop.counter c.in-Some.task few i.all (i.acts h room st)
           (omega (arith, c.in-Some.ensures.next, c.tasks.ensures.count)) c.in-Some.ensures.has
           (λ u lt. c.in-Some.ensures.least u (omega (arith, lt, c.tasks.ensures.count)))
-          (λ now. (c.make.ensures.out ∙ ap (λ l. c.loop.out ++ l) (c.turn_due-action.ensures.due h c.loop.out now), c.make.ensures.stands s now));
-      ready = c.make.ensures.ready;
+          room
+          (λ fits now. c.take_turn.ensures.acts h fits now);
+      ready = c.take_turn.ensures.ready;
       all = length-set c.loop.turns c.in-Some.task 885443715538058477568 ∙ i.all;
-      length = omega (arith, c.make.ensures.length, i.length);
     }

@@ -7,7 +7,7 @@ returns c = λ h acts st.
     record {
       some_waits = c.some_waits_short.ensures h acts st;
       open_cores = c.open_cores.ensures x st.agrees;
-      lacking = c.lacking.ensures x st.agrees;
+      lacking = c.lacking.ensures h acts st;
       are_lacked = c.are_lacked.ensures h acts st;
       are_wanted = c.are_wanted.ensures h acts st;
     }

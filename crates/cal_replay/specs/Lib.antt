@@ -1,0 +1,6 @@
+pub mod Unlike
+pub mod Passes
+pub mod Faults
+pub mod Parts
+pub mod Replays
+pub mod Paced
