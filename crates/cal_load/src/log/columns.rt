@@ -47,11 +47,29 @@ fn place_of(header: &ByteRecord, name: &'static str) -> Result<Option<usize>, Lo
     Ok(found)
 }
 
+/// What seems to separate the fields of a header in place of commas, by which it is one field.
+fn other_separator(header: &ByteRecord) -> Option<&'static str> {
+    if header.len() != 1 {
+        return None;
+    }
+    let field = header.get(0)?;
+    if field.contains(&b';') {
+        Some("semicolons")
+    } else if field.contains(&b'\t') {
+        Some("tabs")
+    } else {
+        None
+    }
+}
+
 /// The place of the column of this name, which one has.
 fn needed_place(header: &ByteRecord, name: &'static str) -> Result<usize, LogFault> {
     match place_of(header, name)? {
         Some(place) => Ok(place),
-        None => Err(row_fault(1, 0, LogWhy::NoColumn(name))),
+        None => match other_separator(header) {
+            Some(by) => Err(row_fault(1, 0, LogWhy::Separated(by))),
+            None => Err(row_fault(1, 0, LogWhy::NoColumn(name))),
+        },
     }
 }
 

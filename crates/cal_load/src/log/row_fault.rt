@@ -8,6 +8,8 @@ use std::fmt;
 pub enum LogWhy {
     /// The header has no column of this name.
     NoColumn(&'static str),
+    /// The header's fields are separated by this, and not by commas.
+    Separated(&'static str),
     /// The header has two columns of this name.
     TwoColumns(&'static str),
     /// The header has a column of tasks, and the task is said by a word too.
@@ -37,6 +39,10 @@ impl fmt::Display for LogWhy {
     fn fmt<W: fmt::Write>(&self, f: &mut fmt::Formatter<W>) -> fmt::Result {
         match self {
             LogWhy::NoColumn(name) => write!(f, "the header has no column `{name}`"),
+            LogWhy::Separated(by) => write!(
+                f,
+                "fields are separated by {by}; commas are wanted, and `caladan_lab log` takes either"
+            ),
             LogWhy::TwoColumns(name) => write!(f, "the header has two columns `{name}`"),
             LogWhy::TwoTasks => f.write_str("the header has a column `task`, and --task is given"),
             LogWhy::NoRequest => f.write_str("no row is below the header"),
@@ -47,7 +53,9 @@ impl fmt::Display for LogWhy {
                 f,
                 "`{name}` is no number: digits, and up to nine more after a point"
             ),
-            LogWhy::Backwards => f.write_str("`time` is before that of the row before"),
+            LogWhy::Backwards => f.write_str(
+                "`time` is before that of the row before: sort the rows by it, as `caladan_lab log` does",
+            ),
             LogWhy::NotATask(tasks) => write!(
                 f,
                 "`task` is neither a name of --names nor a number below {tasks}"
