@@ -31,5 +31,6 @@ pub mod Looser
 pub mod PlacesKeep
 pub mod LeftOpen
 pub mod WaitsLast
-pub mod FourPasses
+pub mod RunPasses
+pub mod LongRuns
 pub mod HonestWaits

@@ -1,6 +1,7 @@
--- A small run in which a task waits as the guarantee asks, and is granted its cores no earlier than the
--- guarantee says.
-use Rattle.std.specs.Prelude.{◌≡◌, ◌≢◌, ℕ, ◌+◌, ◌<◌, ◌≤◌, true, List, [], ◌∷◌, Some, slice_get}
+-- Small runs, one for each number of passes that threads take to leave. In each of them a task waits as
+-- the guarantee asks, and is granted its cores no earlier than the guarantee says.
+use Rattle.std.specs.Prelude.{◌≡◌, ◌≢◌, ℕ, ◌+◌, ◌-◌, ◌<◌, ◌≤◌, true, List, [], ◌∷◌, ◌++◌, Some, slice_get}
+use Rattle.std.specs.Prelude.{replicate}
 use Rattle.cal_signal.specs.declared.record.Record.{Record}
 use Rattle.cal_machine.specs.declared.task.Task.{Task}
 use Rattle.cal_machine.specs.declared.task.Kind.TheVariants as kinds
@@ -73,14 +74,22 @@ third_pass =
     entry_of (Whole 1 (shown 0 1)) (Whole 1 (shown 0 1)) (Whole 2 (shown 0 1)) (Whole 2 (shown 0 1))
     (Revoke 0 (causes.Preempt 1) ∷ Revoke 1 (causes.Preempt 1) ∷ [])
 
+-- the threads have not left them yet: nothing is done
+abbrev pub waiting_pass : PassEntry
+waiting_pass =
+    entry_of (Whole 1 (shown 0 1)) (Whole 1 (shown 0 1)) (Whole 2 (shown 0 1)) (Whole 2 (shown 0 1))
+    []
+
 -- the threads have left them, and the task is granted both
-abbrev pub fourth_pass : PassEntry
-fourth_pass =
+abbrev pub last_pass : PassEntry
+last_pass =
     entry_of (Whole 2 (shown 2 0)) (Whole 2 (shown 2 0)) (Whole 2 (shown 0 1)) (Whole 2 (shown 0 1))
     (Free 0 ∷ Free 1 ∷ Grant 0 2 3 ∷ Grant 1 3 1 ∷ [])
 
-abbrev pub four_passes : List PassEntry
-four_passes = first_pass ∷ second_pass ∷ third_pass ∷ fourth_pass ∷ []
+-- the run whose threads leave their cores d passes after these were revoked, d at least 1
+abbrev pub run_of : ℕ → List PassEntry
+run_of d =
+    first_pass ∷ second_pass ∷ third_pass ∷ replicate (d - 1) waiting_pass ++ last_pass ∷ []
 
 -- task t waits through the passes p to p + d, and none before the last grants it a core
 pub record WaitsToTheLast (table : Table) (history : List PassEntry) (t d p : ℕ) : Type 0 where
@@ -89,11 +98,27 @@ pub record WaitsToTheLast (table : Table) (history : List PassEntry) (t d p : �
       (place core thread class : ℕ) → slice_get entry.actions place ≡ Some (Grant core thread class) →
       owner_of table thread ≢ t
 
--- so the guarantee's premises can be met, and its bound is exact
+-- so the guarantee's premises can be met for each d, and its bound is reached: the second task waits from
+-- the revocations on, and the pass d passes later is the first that grants it a core
 abbrev pub TheBoundIsReached : Type 0
-TheBoundIsReached = WaitsToTheLast two_tasks four_passes 1 1 2
+TheBoundIsReached = (d : ℕ) → 1 ≤ d → WaitsToTheLast two_tasks (run_of d) 1 d 2
 
--- and so for two cores: the task needs both through the last two passes, and is granted both by the last
+-- the task needs n cores through the passes p to p + d, and is granted none of them before the last
+pub record NeedsToTheLast (table : Table) (history : List PassEntry) (t d n p : ℕ) : Type 0 where
+  pub needs : NeedsFromTo table history t d n p
+  pub late : granted_before table history t (p + d) ≡ granted_before table history t p
+
+-- and so for two cores: the task needs both through these passes, and is granted both by the last
 abbrev pub TheWholeBoundIsReached : Type 0
-TheWholeBoundIsReached = NeedsFromTo two_tasks four_passes 1 1 2 2
-    × (granted_before two_tasks four_passes 1 3 ≡ granted_before two_tasks four_passes 1 2)
+TheWholeBoundIsReached = (d : ℕ) → 1 ≤ d → NeedsToTheLast two_tasks (run_of d) 1 d 2 2
+
+-- a task that needs n cores through the passes p to p + d is granted n in the passes p to p + e
+abbrev pub AreGivenWithin : ℕ → ℕ → ℕ → Type 0
+AreGivenWithin d n e = (table : Table) (history : List PassEntry) (t p : ℕ) →
+    NeedsFromTo table history t d n p →
+    granted_before table history t p + n ≤ granted_before table history t (p + e + 1)
+
+-- so the bound is exact for each d: with e of d it is so, which is the guarantee, but with no smaller e,
+-- be it one core or two
+abbrev pub TheBoundIsExact : Type 0
+TheBoundIsExact = (d n e : ℕ) → 1 ≤ d → 1 ≤ n → n ≤ 2 → e < d → ¬ AreGivenWithin d n e

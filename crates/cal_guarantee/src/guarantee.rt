@@ -2,7 +2,8 @@
 
 ghost use Rattle.cal_assured.specs.Guarantee.{GuaranteesAreGiven};
 ghost use Rattle.cal_guarantee.specs.Enough.{FirstAndLastAreEnough};
-ghost use Rattle.cal_guarantee.specs.Example.{TheBoundIsReached, TheWholeBoundIsReached};
+ghost use Rattle.cal_guarantee.specs.Example.{TheBoundIsExact, TheBoundIsReached};
+ghost use Rattle.cal_guarantee.specs.Example.{TheWholeBoundIsReached};
 ghost use Rattle.cal_guarantee.specs.Honest.{HonestWaitsStay};
 ghost use Rattle.cal_guarantee.specs.WholeGuarantee.{GuaranteesAreGivenWhole};
 
@@ -39,15 +40,21 @@ pub fn honest_waits_stay()
     ensures { HonestWaitsStay }
 {}
 
-/// The guarantee's premises can be met, and its bound is exact. In a run of four passes on two cores
-/// a task waits through the last two, with `d` of 1: the first of them revokes both cores for it, and
-/// the second grants it them.
+/// The guarantee's premises can be met for each `d`, and its bound is reached. In a run on two cores a
+/// pass revokes both cores for a task; in that pass and in each of the `d` after it the task waits, and
+/// the last of them, in which threads leave the cores, is the first that grants it one.
 pub fn the_bound_is_reached()
     ensures { TheBoundIsReached }
 {}
 
-/// The same of the whole guarantee: in this run the task needs two cores, and is granted both by the
-/// last pass, and none before it.
+/// The same of the whole guarantee: in this run the task needs two cores in each of these passes, and is
+/// granted both by the last, and none before it.
 pub fn the_whole_bound_is_reached()
     ensures { TheWholeBoundIsReached }
+{}
+
+/// So the bound is exact for each `d`: it is not so that a task that needs `n` cores through the passes
+/// `p` to `p + d` is granted `n` in the passes `p` to `p + e`, for any `e` less than `d`, be `n` 1 or 2.
+pub fn the_bound_is_exact()
+    ensures { TheBoundIsExact }
 {}

@@ -15,7 +15,7 @@ mod one_pass;
 
 pub use guarantee::{
     first_and_last_are_enough, guarantees_are_given, guarantees_are_given_whole, honest_waits_stay,
-    the_bound_is_reached, the_whole_bound_is_reached,
+    the_bound_is_exact, the_bound_is_reached, the_whole_bound_is_reached,
 };
 pub use one_pass::{
     few_cores_are_kept, nothing_is_kept_from_everybody, open_cores_come, owed_cores_come,

@@ -25,7 +25,7 @@ use Rattle.cal_policy.specs.Assured.Hyperthreads.{unban_for, unban_at, unbans, d
 use Rattle.cal_policy.specs.Assured.InFlight.{is_untaken, is_in_flight, is_late, pressing, helpers, is_new_in_flight, new_helpers, coming}
 use Rattle.cal_policy.specs.Assured.Order.{group_of, is_later, is_rather, goes_before, place_of, task_in_place}
 use Rattle.cal_policy.specs.Assured.Owed.{owed_to, is_task, owed_below}
-use Rattle.cal_policy.specs.Assured.Pass.{pass_of}
+use Rattle.cal_policy.specs.Assured.Pass.{bounded_of, pass_of}
 use Rattle.cal_policy.specs.Assured.Short.{is_short, lacks, lacking, needs, is_open, open_cores, surplus, waits, waits_short, some_waits_short, are_lacked, are_wanted}
 use Rattle.cal_policy.specs.Assured.Taking.{is_kept_for, is_kept_for_short, is_kept, open_class, open_choice, held_class, held_choice, fewer_come, may_take_from, more_press, may_preempt, choice_for}
 use Rattle.cal_idle.proofs.Pair.{Pair, first, second, so_far_same, kept_same, part_same}
@@ -200,13 +200,27 @@ grants_same w acts = λ i. in_turn (λ made place. one made place i) acts (lengt
 
 -- ---- the pass ----
 
-pass_same : (w : Pair) → pass_of (first w) ≡ pass_of (second w)
-pass_same w =
+-- up to where its grants begin
+bounded_same : (w : Pair) → bounded_of (first w) ≡ bounded_of (second w)
+bounded_same w =
     let freed = part_same (frees (first w)) (frees (second w)) (frees_same w) [] [] refl in
     let unbanned = part_same (unbans (first w)) (unbans (second w)) (unbans_same w) _ _ freed in
     let banned = part_same (bans (first w)) (bans (second w)) (bans_same w) _ _ unbanned in
-    let bounded = part_same (bandwidth_part (first w)) (bandwidth_part (second w)) (bandwidth_same w) _ _ banned in
-    part_same (grants (first w)) (grants (second w)) (grants_same w) _ _ bounded
+    part_same (bandwidth_part (first w)) (bandwidth_part (second w)) (bandwidth_same w) _ _ banned
+
+-- all actions so far there, who is short and waits there, and how many cores it needs
+bounded_so_far : (w : Pair) → so_far (first w) (bounded_of (first w)) ≡ so_far (second w) (bounded_of (second w))
+bounded_so_far w = so_far_same w (bounded_of (first w)) ∙ ap (so_far (second w)) (bounded_same w)
+
+pub waits_there_same : (w : Pair) (t : ℕ) → waits_short (first w) (so_far (first w) (bounded_of (first w))) t ≡ waits_short (second w) (so_far (second w) (bounded_of (second w))) t
+waits_there_same w t = waits_short_same w (so_far (first w) (bounded_of (first w))) t ∙ ap (λ x. waits_short (second w) x t) (bounded_so_far w)
+
+pub needs_there_same : (w : Pair) (t : ℕ) → needs (first w) (so_far (first w) (bounded_of (first w))) t ≡ needs (second w) (so_far (second w) (bounded_of (second w))) t
+needs_there_same w t = needs_same w (so_far (first w) (bounded_of (first w))) t ∙ ap (λ x. needs (second w) x t) (bounded_so_far w)
+
+-- to its end
+pass_same : (w : Pair) → pass_of (first w) ≡ pass_of (second w)
+pass_same w = part_same (grants (first w)) (grants (second w)) (grants_same w) _ _ (bounded_same w)
 
 pub by_what_is_left : GoesByWhatIsLeft Assured
 by_what_is_left table one other input same = pass_same (record { table = table; input = input; one = one; other = other; same = same })
