@@ -2,9 +2,9 @@
 //!
 //! A latency-critical task that goes on waiting below its guarantee is granted a core for each of its
 //! threads that stays late without one, up to its guarantee, at the latest `d` passes after the first
-//! in which it waits, if threads leave within `d` passes and no ring is full. Beside it stand laws of
-//! one pass: those by which that is so, and that nothing is kept from everybody. All of it is
-//! Doranjei's own.
+//! in which it waits, if threads leave within `d` passes and no ring is full. No fewer passes would
+//! do, for any `d`. Beside it stand laws of one pass: those by which it is given, and that nothing is
+//! kept from everybody. All of it is Doranjei's own.
 //!
 //! Each law is the contract of a function that does nothing, its statement a definition in specs/
 //! or, of the guarantee, in cal_assured; to cite a law, call its function.
