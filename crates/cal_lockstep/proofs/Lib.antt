@@ -4,3 +4,4 @@ pub mod Taken
 pub mod Freeing
 pub mod Passes
 pub mod Given
+pub mod Helped

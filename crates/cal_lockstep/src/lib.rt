@@ -9,5 +9,6 @@
 mod laws;
 
 pub use laws::{
-    guarantees_are_given_in_lockstep, left_cores_are_freed_in_lockstep, rings_have_room_in_lockstep,
+    guarantees_are_given_in_lockstep, late_requests_are_helped_in_lockstep,
+    left_cores_are_freed_in_lockstep, rings_have_room_in_lockstep,
 };
