@@ -1,0 +1,7 @@
+mod Common
+pub mod Journals
+pub mod Taken
+pub mod Freeing
+pub mod Passes
+pub mod Given
+pub mod Helped
