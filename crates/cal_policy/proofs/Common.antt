@@ -23,7 +23,7 @@ pub use Rattle.cal_policy.specs.Assured.Order.{goes_before, group_of, is_later, 
 pub use Rattle.cal_policy.specs.Assured.Owed.{is_task, left_for, owed_made, owed_to}
 pub use Rattle.cal_policy.specs.Assured.Pass.{ComesTo, bounded_of, unbanned_of}
 pub use Rattle.cal_policy.specs.Assured.Short.{are_lacked, are_wanted, is_open, is_short, lacking, lacks, lacks_waiting, open_cores, some_waits_short, surplus, waits, waits_short}
-pub use Rattle.cal_policy.specs.Assured.Taking.{choice_for, held_choice, held_class, is_kept, is_kept_for, is_kept_for_short, may_preempt, may_take, may_take_from, more_press, open_choice, open_class, owed_class}
+pub use Rattle.cal_policy.specs.Assured.Taking.{choice_for, class_to_take, held_choice, held_class, is_kept, is_kept_for, is_kept_for_short, may_preempt, may_take, may_take_from, more_press, open_choice, open_class, owed_class}
 pub use Rattle.cal_policy.specs.Auditor.{KeepsUp}
 pub use Rattle.cal_policy.specs.Board.{BansAgree, CapsAgree, HasGranted, HoldersAgree, HoldingSound, KeepsBefore, NamesCores, NamesTable, core_changed, granted_in, holder_at, holder_in, kept_holder, kept_number, kept_placement, placement_of}
 pub use Rattle.cal_policy.specs.Board.CoreSets.{IsSetOfBanned, IsSorted, Sorts}
