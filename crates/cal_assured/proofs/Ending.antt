@@ -4,7 +4,7 @@ use Rattle.std.proofs.lemmas.List.{append-nil}
 use Rattle.cal_policy.specs.declared.board.bans.BannedFor.{BannedFor}
 use Rattle.cal_policy.specs.Pass.Frees.{frees}
 use Rattle.cal_policy.specs.Laws.{ActionIsOneMore}
-use Rattle.cal_policy.proofs.AssuredLemmas.Pairs.{unbanned_at}
+use Rattle.cal_policy.proofs.PassLemmas.Pairs.{unbanned_at}
 use Rattle.cal_policy.proofs.PassLemmas.Best.{cases_eq_lt}
 use Rattle.cal_laws.proofs.CapLemmas.Held.{cap_same}
 use Rattle.cal_policy.specs.Assured.Hyperthreads.{unban_for, unban_at}

@@ -6,7 +6,6 @@ pub mod Counting
 pub mod Done
 pub mod Fits
 pub mod FreesFirst
-pub mod FromParts
 pub mod Keeping
 pub mod LastHeld
 pub mod LegalOrderly
@@ -15,7 +14,6 @@ pub mod Lengths
 pub mod NextTurn
 pub mod NoneToTake
 pub mod Numbering
-pub mod Pairs
 pub mod Ranks
 pub mod Room
 pub mod Sent

@@ -23,7 +23,7 @@ pub use Rattle.cal_policy.specs.Assured.Order.{goes_before, group_of, is_later, 
 pub use Rattle.cal_policy.specs.Assured.Owed.{is_task, left_for, owed_made, owed_to}
 pub use Rattle.cal_policy.specs.Assured.Pass.{ComesTo, bounded_of, unbanned_of}
 pub use Rattle.cal_policy.specs.Assured.Short.{are_lacked, are_wanted, is_open, is_short, lacking, lacks, lacks_waiting, open_cores, some_waits_short, surplus, waits, waits_short}
-pub use Rattle.cal_policy.specs.Assured.Taking.{choice_for, held_choice, held_class, is_kept, is_kept_for, is_kept_for_short, may_preempt, may_take, may_take_from, more_press, open_choice, open_class, owed_class}
+pub use Rattle.cal_policy.specs.Assured.Taking.{choice_for, class_to_take, held_choice, held_class, is_kept, is_kept_for, is_kept_for_short, may_preempt, may_take, may_take_from, more_press, open_choice, open_class, owed_class}
 pub use Rattle.cal_policy.specs.Auditor.{KeepsUp}
 pub use Rattle.cal_policy.specs.Board.{BansAgree, CapsAgree, HasGranted, HoldersAgree, HoldingSound, KeepsBefore, NamesCores, NamesTable, core_changed, granted_in, holder_at, holder_in, kept_holder, kept_number, kept_placement, placement_of}
 pub use Rattle.cal_policy.specs.Board.CoreSets.{IsSetOfBanned, IsSorted, Sorts}
@@ -53,6 +53,7 @@ pub use Rattle.cal_policy.specs.Pass.Among.{class_among, is_beside_own, was_own_
 pub use Rattle.cal_policy.specs.Pass.AtHand.{setting_in}
 pub use Rattle.cal_policy.specs.Pass.Bandwidth.{bandwidth_after, bandwidth_part, can_lose, core_to_lose, cut_at, cut_of, is_capped, is_number, new_misses, rise_of, task_misses, victim_of, victim_rank}
 pub use Rattle.cal_policy.specs.Pass.Bans.{NoPairBanned, ban_due, ban_for, bans, bans_at, may_ban_beside, may_be_emptied, still_shows, too_long_on, unban_at, unban_for, unbans}
+pub use Rattle.cal_policy.specs.Pass.BansBy.{ban_due_by, bans_at_by, bans_by, give_way, stays_open, unban_at_by, unban_for_by, unbans_by}
 pub use Rattle.cal_policy.specs.Pass.Choice.{IsBest, best_below, better, count_below, first_or, greatest_below, highest_below, lowest_below, sum_below}
 pub use Rattle.cal_policy.specs.Pass.Frees.{free_at, frees, has_left, shows_left}
 pub use Rattle.cal_policy.specs.Pass.Grants.{choice_of, class_by, class_of, grant_at, grant_of, grant_of_kind_at, grants_of_kind, idle_class, is_congested, is_granted_in, is_of_kind, is_thread_for, leaves_for, may_book, none_leaves_for, preempt_class, record_delay, task_delay, tasks_of_kind, thread_choice, thread_delay, thread_rank, waited}
@@ -87,7 +88,7 @@ pub use Rattle.cal_signal.specs.declared.look.Look.{Look}
 pub use Rattle.cal_signal.specs.declared.record.Record.{Record}
 pub use Rattle.cal_signal.specs.declared.shown.Shown.{Shown}
 pub use Rattle.std.proofs.Common.{Bool, IsTrue, List, None, Option, Some, [], add-one, ap, append_assoc, arith, cond, drop, drop_at, eqb, false, get_or, if◌then◌else◌, inl, inr, leb, length, length-append, length-take, ltb, map, max, min, nat_le, nat_lt, not, refl, replicate, rules, set, slice_get, slice_index, slice_index_or, subst, suc, suc-mul, sym, take, take-append-drop, true, zero, ℕ, ⊎_elim, ◌&&◌, ◌*◌, ◌++◌, ◌+◌, ◌-◌, ◌/◌, ◌<◌, ◌==◌, ◌^◌, ◌||◌, ◌↔◌, ◌∙◌, ◌∷◌, ◌≡◌, ◌≢◌, ◌≤◌, ◌⊎◌}
-pub use Rattle.std.proofs.Math.Bool.{and-false}
+pub use Rattle.std.proofs.Math.Bool.{and-false, and-true}
 pub use Rattle.std.proofs.Math.Seq.{take-append_seam}
 pub use Rattle.std.proofs.lemmas.Bool.{and_from, and_parts, and_right, both_ways, cases_Bool, cases_eq, cases_lt, cases_order, eq-eqb, eqb-true, false_from_ne_true, le-leb, le-ltb, leb-true, lt-ltb, ltb-false, ltb-true, ne_eqb, not-true, not_from_false}
 pub use Rattle.std.proofs.lemmas.Bool.Decides.{Decides-eqb, nat_tests}

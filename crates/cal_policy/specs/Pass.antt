@@ -3,6 +3,7 @@ pub mod Among
 pub mod AtHand
 pub mod Bandwidth
 pub mod Bans
+pub mod BansBy
 pub mod Choice
 pub mod Coupled
 pub mod Frees

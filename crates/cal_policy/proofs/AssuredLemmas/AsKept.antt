@@ -1,5 +1,5 @@
 -- What is asked of a core under the second policy, as the board keeps it.
-use Rattle.cal_policy.proofs.Common.{◌≡◌, ℕ, ◌<◌, Bool, true, false, not, cond, ◌&&◌, eqb, nat_lt, List, Option, None, refl, ap, sym, ◌∙◌, arith, and_parts, eqb-true, has, Table, Record, Action, Cause, Board, Holder, Held, Leaving, is_untaken, is_open, CoreClass, is_task, owed_to, held_class, open_class, owed_class, kept_holder, kept_number, kept_placement, holder_in, is_free, is_with, Sorts, holder_of, count_below, Setting, so_far, Agrees, IsReady, Stands}
+use Rattle.cal_policy.proofs.Common.{◌≡◌, ℕ, ◌<◌, Bool, true, false, not, cond, ◌&&◌, eqb, nat_lt, List, Option, None, refl, ap, sym, ◌∙◌, arith, and_parts, eqb-true, has, Table, Record, Action, Cause, Board, Holder, Held, Leaving, is_untaken, is_open, CoreClass, is_task, owed_to, held_class, open_class, owed_class, class_to_take, kept_holder, kept_number, kept_placement, holder_in, is_free, is_with, Sorts, holder_of, count_below, Setting, so_far, Agrees, IsReady, Stands}
 use Rattle.cal_policy.specs.declared.board.holders.Placement as placements
 use Rattle.cal_policy.specs.declared.board.holders.Holder.TheVariants.{Free}
 use Rattle.cal_policy.proofs.BoardLemmas.StateKept.{free_kept}
@@ -58,6 +58,10 @@ closed_owed_class s x t c e = either_none (is_task t (owed_to x c)) (closed_open
     either_none : (b : Bool) {o : Option CoreClass} → o ≡ None → cond b o None ≡ None
     either_none true e = e
     either_none false e = refl
+
+pub closed_class : (owed : Bool) (s : Setting) (x : List Action) (t c : ℕ) → is_open x c ≡ false → class_to_take owed s x t c ≡ None
+closed_class true s x t c e = closed_owed_class s x t c e
+closed_class false s x t c e = closed_open_class s x t c e
 
 untaken_with : (rec : Record) (k : ℕ) (h : Holder) → is_untaken rec k h ≡ true → is_with k h ≡ true
 untaken_with rec k Free e = cc

@@ -4,14 +4,13 @@ use Rattle.std.proofs.Common.{append-nil}
 use Rattle.cal_policy.proofs.PassLemmas.Apart.{orderly_apart, frees_apart}
 use Rattle.cal_policy.proofs.PassLemmas.Fits.{so_far_push}
 use Rattle.cal_policy.proofs.PassLemmas.Length.{bandwidth_most}
-use Rattle.cal_policy.proofs.PassLemmas.Pairs.{beside_lower}
+use Rattle.cal_policy.proofs.PassLemmas.Pairs.{beside_lower, unbanned_at}
 use Rattle.cal_policy.proofs.ListLemmas.Counted.{count_less, count_le}
 use Rattle.cal_policy.specs.Assured.Hyperthreads.{unbans, bans}
 use Rattle.cal_policy.specs.Assured.Pass.{pass_of, IsLegal}
 use Rattle.cal_policy.proofs.AssuredLemmas.Done.{IsUnbanned, IsUnbanning, frees_made, unbans_made, grants_made}
 use Rattle.cal_policy.proofs.AssuredLemmas.LegalOrderly.{legal_orderly}
 use Rattle.cal_policy.proofs.AssuredLemmas.Legality.{legal_upto}
-use Rattle.cal_policy.proofs.AssuredLemmas.Pairs.{unbanned_at}
 use Rattle.cal_policy.proofs.AssuredLemmas.Room.{frees_few, unbans_take, bans_take, bans_room, bandwidth_takes, serves_few, unused_few, takes_free, takes_held, count_others, count_apart}
 
 -- how many cores are banned

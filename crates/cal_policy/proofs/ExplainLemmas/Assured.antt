@@ -1,5 +1,5 @@
 -- The turns of a pass of the second policy follow one another, and its order stays.
-use Rattle.cal_policy.proofs.Common.{◌≡◌, ℕ, ◌+◌, ◌<◌, ◌≤◌, ◌++◌, List, [], length, true, false, nat_lt, Option, ap, sym, refl, ◌∙◌, arith, subst, ⊎_elim, cases_lt, nat_tests, append-nil, Table, Action, Policy, Caladan, Assured, act_in_place, turn_in_place, grants_of_first, unbanned_of, bounded_of, IsOrder, first_act, next_turn, made_before, placed_task, IsTurn, first_turn, next_in_part, freed_of, in_turn, free_at, pass_by, Setting}
+use Rattle.cal_policy.proofs.Common.{◌≡◌, ℕ, ◌+◌, ◌<◌, ◌≤◌, ◌++◌, List, [], length, true, false, nat_lt, Option, ap, sym, refl, ◌∙◌, arith, subst, ⊎_elim, cases_lt, nat_tests, append-nil, Table, Action, Policy, Caladan, Assured, act_in_place, turn_in_place, grants_of_first, unbanned_of, bounded_of, IsOrder, first_act, next_turn, made_before, placed_task, IsTurn, first_turn, next_in_part, freed_of, in_turn, free_at, unban_at_by, bans_at_by, bandwidth_part, pass_by, Setting}
 use Rattle.cal_policy.specs.declared.explain.turn.Turn.{Turn}
 use Rattle.cal_policy.specs.declared.explain.turn.Turn.TheVariants.{Free, Unban, Ban, Bandwidth, LatencyCritical, BestEffort, Placed, End}
 use Rattle.cal_policy.specs.Assured.Hyperthreads.{unban_at, bans_at}
@@ -50,6 +50,17 @@ pub taken_by : (policy : Policy) (s : Setting) (turn : Turn) (made made2 both : 
     both ≡ made_in_by policy s made turn → made2 ≡ made ++ both → made2 ≡ made_after_by policy s turn
 taken_by policy s turn made made2 both e f g =
     g ∙ ap (λ l. made ++ l) f ∙ ap (λ l. l ++ made_in_by policy s l turn) e
+
+-- the turns before those of the grants make the same parts of each policy
+pub record SharedTurns (policy : Policy) (s : Setting) (acts : List Action) (core : ℕ) : Type 0 where
+  pub free : free_at s acts core ≡ made_in_by policy s acts (Free core)
+  pub unban : unban_at_by policy s acts core ≡ made_in_by policy s acts (Unban core)
+  pub ban : bans_at_by policy s acts core ≡ made_in_by policy s acts (Ban core)
+  pub bandwidth : bandwidth_part s acts ≡ made_in_by policy s acts Bandwidth
+
+pub shared_turns : (policy : Policy) (s : Setting) (acts : List Action) (core : ℕ) → SharedTurns policy s acts core
+shared_turns Caladan s acts core = record { free = refl; unban = refl; ban = refl; bandwidth = refl }
+shared_turns Assured s acts core = record { free = refl; unban = refl; ban = refl; bandwidth = refl }
 
 -- at the end all of the pass is made
 pub made_at_end : (policy : Policy) (s : Setting) → made_before_by policy s End ≡ pass_by policy s

@@ -1,5 +1,5 @@
 -- A pass from its parts, and where it begins and ends.
-use Rattle.cal_policy.proofs.Common.{◌≡◌, List, [], ◌∷◌, ◌++◌, sym, ap, ◌∙◌, subst, append-nil, Action, PassEntry, Seen, Board, actions_of, looks_of, Setting, so_far, frees, unbans, bans, NoPairBanned, bandwidth_part, grants_of_kind, pass_of, followed, pass_by, Policy, HasGranted, KeepsBefore, IsStateAfter, Stands, Agrees, KeepingAgrees}
+use Rattle.cal_policy.proofs.Common.{◌≡◌, List, [], ◌∷◌, ◌++◌, sym, ap, ◌∙◌, subst, append-nil, Action, PassEntry, Seen, Board, actions_of, looks_of, Setting, so_far, frees, unbans_by, bans_by, grants, NoPairBanned, bandwidth_part, grants_of_kind, followed, pass_by, Policy, Caladan, Assured, HasGranted, KeepsBefore, IsStateAfter, Stands, Agrees, KeepingAgrees}
 use Rattle.cal_machine.specs.declared.task.Kind.TheVariants as kinds
 use Rattle.cal_policy.proofs.PassLemmas.Apart.{frees_apart}
 use Rattle.cal_policy.proofs.PassLemmas.Pairs.{so_far_more}
@@ -8,12 +8,24 @@ use Rattle.cal_policy.proofs.BoardLemmas.Replayed.{actions_push, looks_push}
 pub follows : (part : List Action → List Action) (acts now next : List Action) → now ≡ acts → next ≡ now ++ part now → next ≡ followed acts part
 follows part acts now next e f = f ∙ ap (λ o. o ++ part o) e
 
--- the parts, end to end, are the pass
-pub parts_pass : (s : Setting) (o0 o1 o2 o3 o4 o5 o6 : List Action) → o0 ≡ [] → o1 ≡ o0 ++ frees s o0 → o2 ≡ o1 ++ unbans s o1 → o3 ≡ o2 ++ bans s o2 →
-    o4 ≡ o3 ++ bandwidth_part s o3 → o5 ≡ o4 ++ grants_of_kind kinds.LatencyCritical s o4 → o6 ≡ o5 ++ grants_of_kind kinds.BestEffort s o5 → o6 ≡ pass_of s
-parts_pass s o0 o1 o2 o3 o4 o5 o6 e0 e1 e2 e3 e4 e5 e6 =
-    follows (grants_of_kind kinds.BestEffort s) _ o5 o6 (follows (grants_of_kind kinds.LatencyCritical s) _ o4 o5 (follows (bandwidth_part s) _ o3 o4 (follows (bans s) _ o2 o3
-    (follows (unbans s) _ o1 o2 (follows (frees s) [] o0 o1 e0 e1) e2) e3) e4) e5) e6
+-- the pass up to where its grants begin
+abbrev pub bounded_by : Policy → Setting → List Action
+bounded_by p s = followed (followed (followed (followed [] (frees s)) (unbans_by p s)) (bans_by p s)) (bandwidth_part s)
+
+pub parts_bounded : (p : Policy) (s : Setting) (o0 o1 o2 o3 o4 : List Action) → o0 ≡ [] → o1 ≡ o0 ++ frees s o0 → o2 ≡ o1 ++ unbans_by p s o1 → o3 ≡ o2 ++ bans_by p s o2 →
+    o4 ≡ o3 ++ bandwidth_part s o3 → o4 ≡ bounded_by p s
+parts_bounded p s o0 o1 o2 o3 o4 e0 e1 e2 e3 e4 =
+    follows (bandwidth_part s) _ o3 o4 (follows (bans_by p s) _ o2 o3 (follows (unbans_by p s) _ o1 o2 (follows (frees s) [] o0 o1 e0 e1) e2) e3) e4
+
+-- with each policy's grants it is the pass
+pub caladan_pass : (p : Policy) (s : Setting) (bounded acts : List Action) → p ≡ Caladan → bounded ≡ bounded_by p s →
+    acts ≡ followed (followed bounded (grants_of_kind kinds.LatencyCritical s)) (grants_of_kind kinds.BestEffort s) → acts ≡ pass_by p s
+caladan_pass Caladan s bounded acts is e f = f ∙ ap (λ o. followed (followed o (grants_of_kind kinds.LatencyCritical s)) (grants_of_kind kinds.BestEffort s)) e
+caladan_pass Assured s bounded acts is e f = cc
+
+pub assured_pass : (p : Policy) (s : Setting) (bounded : List Action) → p ≡ Assured → bounded ≡ bounded_by p s → bounded ++ grants s bounded ≡ pass_by p s
+assured_pass Caladan s bounded is e = cc
+assured_pass Assured s bounded is e = ap (λ o. o ++ grants s o) e
 
 -- no pair is banned after the frees
 pub freed_apart : (s : Setting) (o0 o1 : List Action) → o0 ≡ [] → o1 ≡ o0 ++ frees s o0 → NoPairBanned (actions_of s.history) → NoPairBanned (so_far s o1)

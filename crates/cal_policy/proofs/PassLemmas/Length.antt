@@ -1,5 +1,5 @@
 -- How many actions a pass of a legal history has at most.
-use Rattle.cal_policy.proofs.Common.{◌≡◌, ℕ, zero, suc, ◌+◌, ◌*◌, ◌/◌, ◌≤◌, ◌&&◌, nat_lt, Bool, true, false, List, [], ◌∷◌, ◌++◌, length, take, Option, Some, None, slice_get, if◌then◌else◌, refl, sym, subst, arith, append_assoc, length-append, suc-mul, slice_get_within, sibling_of, Table, IsTable, BannedFor, Candidate, CoreClass, class_number, is_idle, Action, Free, Unban, Ban, Revoke, Grant, PassEntry, bandwidth_part, core_to_lose, victim_of, is_capped, cut_at, cut_of, rise_of, NoPairBanned, still_shows, unban_for, unban_at, unbans, ban_due, ban_for, bans_at, bans, lowest_below, is_held, shows_left, free_at, frees, is_congested, may_book, thread_choice, choice_of, grant_of, grant_at, grant_of_kind_at, grants_of_kind, actions_of, holder_of, ban_of, in_turn, in_pair, pass_of, IsLegal, Setting, setting_of, so_far, kept_now, is_latency_critical, thread_of}
+use Rattle.cal_policy.proofs.Common.{◌≡◌, ℕ, zero, suc, ◌+◌, ◌*◌, ◌/◌, ◌≤◌, ◌&&◌, nat_lt, Bool, true, false, List, [], ◌∷◌, ◌++◌, length, take, Option, Some, None, slice_get, if◌then◌else◌, refl, sym, subst, arith, append_assoc, length-append, suc-mul, slice_get_within, sibling_of, Table, IsTable, BannedFor, Candidate, CoreClass, class_number, is_idle, Action, Free, Unban, Ban, Revoke, Grant, PassEntry, bandwidth_part, core_to_lose, victim_of, is_capped, cut_at, cut_of, rise_of, NoPairBanned, still_shows, unban_for, unban_at, unbans, ban_due, ban_for, bans_at, bans, lowest_below, is_held, shows_left, free_at, frees, is_congested, may_book, thread_choice, choice_of, grant_of, grant_at, grant_of_kind_at, grants_of_kind, actions_of, holder_of, ban_of, in_turn, in_pair, pass_of, IsLegal, Setting, setting_of, so_far, kept_now, Caladan, is_latency_critical, thread_of}
 use Rattle.std.proofs.Common.{append-nil}
 use Rattle.cal_policy.specs.declared.history.action.Cause.TheVariants as causes
 use Rattle.cal_machine.specs.declared.task.Kind.TheVariants as kinds
@@ -41,12 +41,12 @@ unban_one s c (Some ban) = one_unless (still_shows (kept_now s ban.thread) (sibl
 unban_pair : (s : Setting) (acts : List Action) (n : ℕ) (lower : List Action) → unban_at s acts (2 * n) ≡ lower → length lower ≤ 1 → NoPairBanned (so_far s acts)
     → length (in_pair (unban_at s) acts n) ≤ 1
 unban_pair s acts n [] e le h = subst (λ (l : List Action). length l ≤ 1) (pair_upper (unban_at s) acts n (sym e)) (unban_one s (2 * n + 1) (ban_of (so_far s acts) (2 * n + 1)))
-unban_pair s acts n (a ∷ []) e le h = subst (λ (l : List Action). length l ≤ 1) (unban_lower s acts n a h (sym e)) le
+unban_pair s acts n (a ∷ []) e le h = subst (λ (l : List Action). length l ≤ 1) (unban_lower Caladan s acts n a h (sym e)) le
 unban_pair s acts n (a ∷ b ∷ lower) e le h = absurd (omega arith)
 
 unbans_most : (s : Setting) (acts : List Action) (half : ℕ) → s.table.cores ≡ 2 * half → NoPairBanned (so_far s acts) → length (unbans s acts) ≤ half
 unbans_most s acts half even h =
-    let r = turns_most (λ x. NoPairBanned (so_far s x)) (in_pair (unban_at s)) 1 acts half h (λ x n p. (unban_pair s x n (unban_at s x (2 * n)) refl (unban_one s (2 * n) (ban_of (so_far s x) (2 * n))) p, unban_pair_keeps s x n p)) in
+    let r = turns_most (λ x. NoPairBanned (so_far s x)) (in_pair (unban_at s)) 1 acts half h (λ x n p. (unban_pair s x n (unban_at s x (2 * n)) refl (unban_one s (2 * n) (ban_of (so_far s x) (2 * n))) p, unban_pair_keeps Caladan s x n p)) in
     let few : length (in_turn (in_pair (unban_at s)) acts half) ≤ half = let m = r.0 in omega arith in
     let same : in_turn (in_pair (unban_at s)) acts half ≡ unbans s acts = subst (λ (n : ℕ). in_turn (in_pair (unban_at s)) acts half ≡ in_turn (unban_at s) acts n) (sym even) (in_turn_pairs (unban_at s) acts half) in
     subst (λ (l : List Action). length l ≤ half) same few
@@ -62,7 +62,7 @@ ban_two s x c (Some thread) = two_with (Ban (sibling_of c) thread (kept_now s th
 
 ban_pair : (s : Setting) (acts : List Action) (n : ℕ) (lower : List Action) → bans_at s acts (2 * n) ≡ lower → length lower ≤ 2 → length (in_pair (bans_at s) acts n) ≤ 2
 ban_pair s acts n [] e le = subst (λ (l : List Action). length l ≤ 2) (pair_upper (bans_at s) acts n (sym e)) (ban_two s (so_far s acts) (2 * n + 1) (ban_due s (so_far s acts) (2 * n + 1)))
-ban_pair s acts n (a ∷ rest) e le = subst (λ (l : List Action). length l ≤ 2) (ban_lower s acts n a rest (sym e)) le
+ban_pair s acts n (a ∷ rest) e le = subst (λ (l : List Action). length l ≤ 2) (ban_lower Caladan s acts n a rest (sym e)) le
 
 bans_most : (s : Setting) (acts : List Action) (half : ℕ) → s.table.cores ≡ 2 * half → length (bans s acts) ≤ 2 * half
 bans_most s acts half even =

@@ -1,8 +1,8 @@
 -- Cores that a part of a pass goes past, since nothing is due for them.
-use Rattle.cal_policy.proofs.Common.{◌≡◌, ℕ, zero, suc, ◌+◌, ◌-◌, ◌*◌, ◌<◌, ◌≤◌, Bool, true, false, not, ◌&&◌, ◌||◌, nat_lt, nat_le, max, cond, eqb, List, length, [], ◌∷◌, ◌++◌, Option, Some, None, refl, ap, sym, subst, ◌∙◌, arith, ⊎_elim, cases_lt, nat_tests, Table, append-nil, IfSome, is_some, task_in, first_next, Kind, Task, owner_of, threads_of_table, thread_of, limit_of, delay_of, is_latency_critical, has_room, Setting, so_far, kept_now, Record, has, Action, BannedFor, Holder, Held, Leaving, Board, in_pair, holder_of, ban_of, is_free, is_held, is_over, sibling_of, free_at, has_left, shows_left, unban_at, unban_for, bans_at, ban_for, ban_due, may_ban_beside, may_be_emptied, too_long_on, holder_in, kept_holder, placement_of, IsReady, Stands, is_alone_by, NoneOver, cores_to_ban, Sorts, KeepsSets, kept_in, shows_waiting, has_thread, IsShownOn, record_delay, thread_delay, waited, task_delay, is_congested, grant_at, grant_of_kind_at, first_thread, task_at, greatest_below, and-false}
+use Rattle.cal_policy.proofs.Common.{◌≡◌, ℕ, zero, suc, ◌+◌, ◌-◌, ◌*◌, ◌<◌, ◌≤◌, Bool, true, false, not, ◌&&◌, ◌||◌, nat_lt, nat_le, max, cond, eqb, List, length, [], ◌∷◌, ◌++◌, Option, Some, None, refl, ap, sym, subst, ◌∙◌, arith, ⊎_elim, cases_lt, nat_tests, Table, append-nil, IfSome, is_some, task_in, first_next, Kind, Task, owner_of, threads_of_table, thread_of, limit_of, delay_of, is_latency_critical, has_room, Setting, so_far, kept_now, Record, has, Action, BannedFor, Holder, Held, Leaving, Board, in_pair, holder_of, ban_of, is_free, is_held, is_over, sibling_of, free_at, has_left, shows_left, Policy, unban_at_by, unban_for_by, bans_at_by, ban_due, may_ban_beside, may_be_emptied, too_long_on, holder_in, kept_holder, placement_of, IsReady, Stands, is_alone_by, NoneOver, cores_to_ban, Sorts, KeepsSets, kept_in, shows_waiting, has_thread, IsShownOn, record_delay, thread_delay, waited, task_delay, is_congested, grant_at, grant_of_kind_at, first_thread, task_at, greatest_below, and-false}
 use Rattle.cal_machine.specs.declared.task.Kind.TheVariants as kinds
 use Rattle.cal_policy.proofs.BoardLemmas.StateKept.{held_kept}
-use Rattle.cal_policy.proofs.PassLemmas.Pairs.{beside_lower, beside_upper}
+use Rattle.cal_policy.proofs.PassLemmas.Pairs.{beside_lower, beside_upper, none_ends, none_due}
 use Rattle.cal_policy.specs.declared.history.action.Action.TheVariants as actions
 use Rattle.cal_policy.specs.declared.board.holders.Holder.TheVariants.{Free}
 use Rattle.cal_policy.proofs.BoardLemmas.TwoSets.{in_taken}
@@ -31,22 +31,22 @@ free_not_unshown table b s acts st ready c lt e =
     ap (λ w. cond w (actions.Free c ∷ []) [])
     (none_left (kept_in b.keeping) (kept_now s) c h st.looks.kept (subst Low is (ready.sound.holding.holders c)) (subst On is (ready.shows.shown c lt e)))
 
-none_banned : (s : Setting) (c : ℕ) (o : Option BannedFor) → is_some o ≡ false → unban_for s c o ≡ []
-none_banned s c None e = refl
-none_banned s c (Some ban) e = cc
+none_banned : (p : Policy) (s : Setting) (x : List Action) (c : ℕ) (o : Option BannedFor) → is_some o ≡ false → unban_for_by p s x c o ≡ []
+none_banned p s x c None e = none_ends p s x c
+none_banned p s x c (Some ban) e = cc
 
 -- no ban ends on a core that is not banned
-unban_not_banned : (b : Board) (s : Setting) (acts : List Action) → Stands b s acts → (c : ℕ) → c < 128 → has b.sets.banned c ≡ false → unban_at s acts c ≡ []
-unban_not_banned b s acts st c lt e = none_banned s c (ban_of (so_far s acts) c) (sym (st.agrees.banned.banned c lt) ∙ e)
+unban_not_banned : (p : Policy) (b : Board) (s : Setting) (acts : List Action) → Stands b s acts → (c : ℕ) → c < 128 → has b.sets.banned c ≡ false → unban_at_by p s acts c ≡ []
+unban_not_banned p b s acts st c lt e = none_banned p s (so_far s acts) c (ban_of (so_far s acts) c) (sym (st.agrees.banned.banned c lt) ∙ e)
 
 pub two_empty : (f : List Action → ℕ → List Action) (acts : List Action) (n m : ℕ) → f acts n ≡ [] → f acts m ≡ [] → f acts n ++ f (acts ++ f acts n) m ≡ []
 two_empty f acts n m e g = rw (e, append-nil acts) g
 
 -- nor on a pair of them
-pub unban_pair_not_banned : (b : Board) (s : Setting) (acts : List Action) → Stands b s acts → (pair : ℕ) → 2 * pair + 1 < 128 →
-    has b.sets.banned (2 * pair) ≡ false → has b.sets.banned (2 * pair + 1) ≡ false → in_pair (unban_at s) acts pair ≡ []
-unban_pair_not_banned b s acts st pair lt e g =
-    two_empty (unban_at s) acts (2 * pair) (2 * pair + 1) (unban_not_banned b s acts st (2 * pair) (omega (arith, lt)) e) (unban_not_banned b s acts st (2 * pair + 1) lt g)
+pub unban_pair_not_banned : (p : Policy) (b : Board) (s : Setting) (acts : List Action) → Stands b s acts → (pair : ℕ) → 2 * pair + 1 < 128 →
+    has b.sets.banned (2 * pair) ≡ false → has b.sets.banned (2 * pair + 1) ≡ false → in_pair (unban_at_by p s) acts pair ≡ []
+unban_pair_not_banned p b s acts st pair lt e g =
+    two_empty (unban_at_by p s) acts (2 * pair) (2 * pair + 1) (unban_not_banned p b s acts st (2 * pair) (omega (arith, lt)) e) (unban_not_banned p b s acts st (2 * pair + 1) lt g)
 
 -- no request runs too long on a free core
 none_too_long : (s : Setting) (c : ℕ) (h : Holder) → not (is_free h) ≡ false → too_long_on s c h ≡ None
@@ -58,21 +58,11 @@ either_none : {X : Type 0} (b : Bool) (o : Option X) → o ≡ None → cond b o
 either_none true o e = e
 either_none false o e = refl
 
--- so of a core that is not taken no ban is due, and it bans nothing
+-- so of a core that is not taken no ban is due
 due_not_taken : (b : Board) (s : Setting) (acts : List Action) → Stands b s acts → Sorts (holder_in b.holding) b.sets →
     (c : ℕ) → c < 128 → has b.sets.taken c ≡ false → ban_due s (so_far s acts) c ≡ None
 due_not_taken b s acts st sorts c lt e =
     either_none (may_ban_beside s (so_far s acts) c) _ (none_too_long s c (holder_of (so_far s acts) c) (sym (in_taken b s acts st sorts c lt) ∙ e))
-
-ban_not_taken : (b : Board) (s : Setting) (acts : List Action) → Stands b s acts → Sorts (holder_in b.holding) b.sets →
-    (c : ℕ) → c < 128 → has b.sets.taken c ≡ false → bans_at s acts c ≡ []
-ban_not_taken b s acts st sorts c lt e = ap (ban_for s (so_far s acts) c) (due_not_taken b s acts st sorts c lt e)
-
--- nor does a pair of them
-ban_pair_not_taken : (b : Board) (s : Setting) (acts : List Action) → Stands b s acts → Sorts (holder_in b.holding) b.sets →
-    (pair : ℕ) → 2 * pair + 1 < 128 → has b.sets.taken (2 * pair) ≡ false → has b.sets.taken (2 * pair + 1) ≡ false → in_pair (bans_at s) acts pair ≡ []
-ban_pair_not_taken b s acts st sorts pair lt e g =
-    two_empty (bans_at s) acts (2 * pair) (2 * pair + 1) (ban_not_taken b s acts st sorts (2 * pair) (omega (arith, lt)) e) (ban_not_taken b s acts st sorts (2 * pair + 1) lt g)
 
 -- a test fails where two of its parts do, or the last
 both_fail : (a b m : Bool) → (a && b) ≡ false → (a && b && m) ≡ false
@@ -125,30 +115,21 @@ due_not_alone b s acts st ready none c lt beside e =
     none_alone s x c (holder_of x c) h (is_some (ban_of x c)) (is_some (ban_of x (sibling_of c)))
     (sym (alone_there b s acts st c lt beside) ∙ sym (ready.opens.alone c lt) ∙ e) (owner_not_over s x h there (none x st.agrees))
 
-ban_not_alone : (b : Board) (s : Setting) (acts : List Action) → Stands b s acts → IsReady s.table b → NoneOver s.table b →
-    (c : ℕ) → c < 128 → sibling_of c < 128 → has b.open_cores.alone c ≡ false → bans_at s acts c ≡ []
-ban_not_alone b s acts st ready none c lt beside e = ap (ban_for s (so_far s acts) c) (due_not_alone b s acts st ready none c lt beside e)
-
 -- no ban is due for a core that may not give rise to one
-pub due_past : (over : Bool) (b : Board) (s : Setting) (acts : List Action) → Stands b s acts → IsReady s.table b → (over ≡ false → NoneOver s.table b) →
+due_past : (over : Bool) (b : Board) (s : Setting) (acts : List Action) → Stands b s acts → IsReady s.table b → (over ≡ false → NoneOver s.table b) →
     (c : ℕ) → c < 128 → sibling_of c < 128 → has (cores_to_ban b over) c ≡ false → ban_due s (so_far s acts) c ≡ None
 due_past true b s acts st ready none c lt beside e = due_not_taken b s acts st ready.sets c lt e
 due_past false b s acts st ready none c lt beside e = due_not_alone b s acts st ready (none refl) c lt beside e
 
--- nor does a pair of them
-ban_pair_not_alone : (b : Board) (s : Setting) (acts : List Action) → Stands b s acts → IsReady s.table b → NoneOver s.table b →
-    (pair : ℕ) → 2 * pair + 1 < 128 → has b.open_cores.alone (2 * pair) ≡ false → has b.open_cores.alone (2 * pair + 1) ≡ false → in_pair (bans_at s) acts pair ≡ []
-ban_pair_not_alone b s acts st ready none pair lt e g =
+-- a pair of cores that may not give rise to a ban gives none
+pub ban_pair_past : (p : Policy) (over : Bool) (b : Board) (s : Setting) (acts : List Action) → Stands b s acts → IsReady s.table b → (over ≡ false → NoneOver s.table b) →
+    (pair : ℕ) → 2 * pair + 1 < 128 → has (cores_to_ban b over) (2 * pair) ≡ false → has (cores_to_ban b over) (2 * pair + 1) ≡ false → in_pair (bans_at_by p s) acts pair ≡ []
+ban_pair_past p over b s acts st ready none pair lt e g =
     let lower : sibling_of (2 * pair) < 128 = rw (beside_lower pair) lt in
     let upper : sibling_of (2 * pair + 1) < 128 = rw (beside_upper pair) (omega (arith, lt)) in
-    two_empty (bans_at s) acts (2 * pair) (2 * pair + 1) (ban_not_alone b s acts st ready none (2 * pair) (omega (arith, lt)) lower e)
-    (ban_not_alone b s acts st ready none (2 * pair + 1) lt upper g)
-
--- a pair of cores that may not give rise to a ban gives none
-pub ban_pair_past : (over : Bool) (b : Board) (s : Setting) (acts : List Action) → Stands b s acts → IsReady s.table b → (over ≡ false → NoneOver s.table b) →
-    (pair : ℕ) → 2 * pair + 1 < 128 → has (cores_to_ban b over) (2 * pair) ≡ false → has (cores_to_ban b over) (2 * pair + 1) ≡ false → in_pair (bans_at s) acts pair ≡ []
-ban_pair_past true b s acts st ready none pair lt e g = ban_pair_not_taken b s acts st ready.sets pair lt e g
-ban_pair_past false b s acts st ready none pair lt e g = ban_pair_not_alone b s acts st ready (none refl) pair lt e g
+    two_empty (bans_at_by p s) acts (2 * pair) (2 * pair + 1)
+    (none_due p s acts (2 * pair) (due_past over b s acts st ready none (2 * pair) (omega (arith, lt)) lower e))
+    (none_due p s acts (2 * pair + 1) (due_past over b s acts st ready none (2 * pair + 1) lt upper g))
 
 -- a record that shows no request that waits shows no delay
 neither_waits : (now : ℕ) (a b : Bool) (x y : ℕ) → (a || b) ≡ false → max (waited now a x) (waited now b y) ≡ 0

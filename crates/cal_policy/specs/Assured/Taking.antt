@@ -52,6 +52,10 @@ open_class s x t c = if may_take s x t c
 abbrev pub owed_class : Setting → List Action → ℕ → ℕ → Option CoreClass
 owed_class s x t c = if is_task t (owed_to x c) then open_class s x t c else None
 
+-- the one or the other
+abbrev pub class_to_take : Bool → Setting → List Action → ℕ → ℕ → Option CoreClass
+class_to_take owed s x t c = if owed then owed_class s x t c else open_class s x t c
+
 -- of the cores that task t may take the one of the least class, the lowest of those; the ones owed
 -- to it come first
 abbrev pub open_choice : Setting → List Action → ℕ → Option (Candidate CoreClass)

@@ -6,16 +6,14 @@ ghost use Rattle.cal_machine.specs.declared.task.Kind.TheVariants as kinds;
 ghost use Rattle.cal_policy.specs.Assured.Grants.{act_in_place};
 ghost use Rattle.cal_policy.specs.Assured.Pass.{bounded_of};
 ghost use Rattle.cal_policy.specs.Board.{NamesTable};
-ghost use Rattle.cal_policy.specs.Explain.AssuredTurns as assured;
 ghost use Rattle.cal_policy.specs.Explain.AssuredTurns.{IsOrder, placed_task};
 ghost use Rattle.cal_policy.specs.Explain.PolicyTurns.{KeepsOrder, NamesTasks, made_in_by};
-ghost use Rattle.cal_policy.specs.Explain.Turns.{IsTurn, made_in};
+ghost use Rattle.cal_policy.specs.Explain.Turns.{IsTurn};
 ghost use Rattle.cal_policy.specs.Pass.AtHand.{Within};
 ghost use Rattle.cal_policy.specs.Pass.Coupled.{both_of, BothName};
 ghost use Rattle.cal_policy.specs.Pass.Grants.{grant_of_kind_at};
 ghost use Rattle.cal_policy.specs.State.{IsOfTable};
 ghost use Rattle.cal_machine.specs.Table.{Table};
-ghost use Rattle.cal_policy.specs.declared.policy.Policy.TheVariants.{Assured};
 
 use crate::board::Board;
 use crate::explain::order::Order;
@@ -67,24 +65,6 @@ impl Pass<'_> {
         }
     }
 
-    /// What a turn makes, in a pass of `Policy::Caladan`.
-    fn due_in(&self, board: &Board, turn: Turn) -> Coupled
-        requires at_hand { IsOfTable self.now.config.now board.now }
-        requires turn { IsTurn self.now.config.now turn }
-        ensures due { Within self.now board.now (λ s acts. both_of result ≡ made_in s acts turn) }
-        ensures names { BothName self.now.config.now result }
-    {
-        match turn {
-            Turn::Free { core } => only(self.free_due(board, core)),
-            Turn::Unban { core } => only(self.unban_due(board, core)),
-            Turn::Ban { core } => self.ban_beside(board, core),
-            Turn::Bandwidth => self.bandwidth_due(board),
-            Turn::LatencyCritical { task } => only(self.critical_due(board, task as usize)),
-            Turn::BestEffort { task } => only(self.best_effort_due(board, task as usize)),
-            Turn::Placed { .. } | Turn::End => neither(),
-        }
-    }
-
     /// What the task in a place of the order gets, by the actions of the pass so far.
     fn placed_due(
         &self,
@@ -108,25 +88,6 @@ impl Pass<'_> {
         }
     }
 
-    /// What a turn makes, in a pass of `Policy::Assured`, by the actions of the pass so far.
-    fn assured_due_in(&self, board: &Board, made: &[Action], order: &Order, turn: Turn) -> Coupled
-        requires at_hand { IsOfTable self.now.config.now board.now }
-        requires turn { IsTurn self.now.config.now turn }
-        requires tasks { NamesTasks self.now.config.now order.now }
-        ensures due { Within self.now board.now (λ s acts. made.now ≡ acts →
-            KeepsOrder Assured s turn order.now → both_of result ≡ assured.made_in s acts turn) }
-        ensures names { BothName self.now.config.now result }
-    {
-        match turn {
-            Turn::Free { core } => only(self.free_due(board, core)),
-            Turn::Unban { core } => only(self.ban_end(board, core)),
-            Turn::Ban { core } => self.ban_beside_unless_lacked(board, core),
-            Turn::Bandwidth => self.bandwidth_due(board),
-            Turn::Placed { place, .. } => only(self.placed_due(board, made, order, place as usize)),
-            Turn::LatencyCritical { .. } | Turn::BestEffort { .. } | Turn::End => neither(),
-        }
-    }
-
     /// What a turn makes, by the policy of the pass and its actions so far.
     pub fn due_by(&self, board: &Board, made: &[Action], order: &Order, turn: Turn) -> Coupled
         requires at_hand { IsOfTable self.now.config.now board.now }
@@ -137,9 +98,24 @@ impl Pass<'_> {
             both_of result ≡ made_in_by self.now.terms.now.policy s acts turn) }
         ensures names { BothName self.now.config.now result }
     {
-        match self.terms.policy {
-            Policy::Caladan => self.due_in(board, turn),
-            Policy::Assured => self.assured_due_in(board, made, order, turn),
+        match turn {
+            Turn::Free { core } => only(self.free_due(board, core)),
+            Turn::Unban { core } => only(self.unban_due(board, core)),
+            Turn::Ban { core } => self.ban_beside(board, core),
+            Turn::Bandwidth => self.bandwidth_due(board),
+            Turn::LatencyCritical { task } => match self.terms.policy {
+                Policy::Caladan => only(self.critical_due(board, task as usize)),
+                Policy::Assured => neither(),
+            },
+            Turn::BestEffort { task } => match self.terms.policy {
+                Policy::Caladan => only(self.best_effort_due(board, task as usize)),
+                Policy::Assured => neither(),
+            },
+            Turn::Placed { place, .. } => match self.terms.policy {
+                Policy::Caladan => neither(),
+                Policy::Assured => only(self.placed_due(board, made, order, place as usize)),
+            },
+            Turn::End => neither(),
         }
     }
 }

@@ -1,6 +1,7 @@
-//! The third part of a pass: a core is emptied while a request on its sibling runs too long.
+//! The third part of a pass: a core is emptied while a request on its sibling runs too long, but
+//! under `Policy::Assured` none that is free where open cores are lacked.
 
-ghost use Rattle.std.specs.Prelude.{◌≡◌, ◌*◌, ◌+◌, ◌<◌, ◌≤◌, ◌++◌, ◌∷◌, [], ℕ, false};
+ghost use Rattle.std.specs.Prelude.{◌≡◌, ◌*◌, ◌+◌, ◌<◌, ◌≤◌, ◌++◌, ◌∷◌, ◌&&◌, [], ℕ, false};
 ghost use Rattle.std.specs.Prelude.{length, option_to_list, if◌then◌else◌};
 ghost use Rattle.std.specs.Option.{IfSome, IfNone};
 ghost use Rattle.cal_machine.specs.Table.{IsTable};
@@ -12,9 +13,13 @@ ghost use Rattle.cal_policy.specs.declared.history.action.Action.TheVariants.{Re
 ghost use Rattle.cal_policy.specs.declared.history.action.Cause.TheVariants as causes;
 ghost use Rattle.cal_policy.specs.History.Lists.{in_pair};
 ghost use Rattle.cal_policy.specs.History.{holder_of};
+ghost use Rattle.cal_policy.specs.Board.Counts as counts;
 ghost use Rattle.cal_policy.specs.Board.Counts.{is_held};
+ghost use Rattle.cal_machine.specs.Machine.{sibling_of};
 ghost use Rattle.cal_policy.specs.Setting.{Begun, so_far};
+ghost use Rattle.cal_policy.specs.Assured.Short.{are_lacked};
 ghost use Rattle.cal_policy.specs.Pass.Bans as rules;
+ghost use Rattle.cal_policy.specs.Pass.BansBy as by;
 ghost use Rattle.cal_policy.specs.Board.{NamesTable};
 ghost use Rattle.cal_policy.specs.State.{IsReady, IsOfTable, Stands};
 ghost use Rattle.cal_policy.specs.Pass.AtHand.{setting_in, Within};
@@ -23,12 +28,14 @@ ghost use Rattle.cal_policy.specs.Pass.ToBan.{NoneOver, cores_to_ban};
 
 use crate::board::Board;
 use crate::board::core_sets::next_core;
+use crate::board::cores::is_free;
 use crate::board::counts::{is_over, some_is_over};
 use crate::board::holders::Holder;
 use crate::history::action::{Action, Cause};
 use crate::history::action_list::Actions;
 use crate::pass::Pass;
 use crate::pass::coupled::{Coupled, neither};
+use crate::policy::Policy;
 use cal_machine::Config;
 use cal_signal::Record;
 
@@ -94,7 +101,7 @@ impl Pass<'_> {
             && self.may_be_emptied(board, beside)
     }
 
-    /// The thread for whose request on the core the sibling is to be banned, where a ban is due.
+    /// The thread for whose request on the core the sibling may be banned.
     pub fn ban_due(&self, board: &Board, core: u8) -> Option<u8>
         requires at_hand { IsOfTable self.now.config.now board.now }
         requires core { core < self.now.config.now.cores }
@@ -107,6 +114,50 @@ impl Pass<'_> {
             Some(thread)
         } else {
             None
+        }
+    }
+
+    /// Whether the sibling of a core is free, and open cores are lacked.
+    pub fn is_free_and_lacked_beside(&self, board: &Board, core: u8) -> bool
+        requires at_hand { IsOfTable self.now.config.now board.now }
+        requires core { core < self.now.config.now.cores }
+        ensures { Within self.now board.now (λ s acts. result
+            ≡ (counts.is_free (holder_of (so_far s acts) (sibling_of core))
+            && are_lacked s (so_far s acts))) }
+    {
+        self.config.limits();
+        let beside = self.config.machine().sibling(core);
+        is_free(board, beside) && self.are_lacked(board)
+    }
+
+    /// Whether the sibling of a core stays open though a ban is due: under `Policy::Assured`, where
+    /// it is free and open cores are lacked.
+    fn stays_open(&self, board: &Board, core: u8) -> bool
+        requires at_hand { IsOfTable self.now.config.now board.now }
+        requires core { core < self.now.config.now.cores }
+        ensures { Within self.now board.now (λ s acts. result
+            ≡ by.stays_open self.now.terms.now.policy s (so_far s acts) core) }
+    {
+        match self.terms.policy {
+            Policy::Caladan => false,
+            Policy::Assured => self.is_free_and_lacked_beside(board, core),
+        }
+    }
+
+    /// The thread for whose request on the core the sibling is to be banned, where a ban is due.
+    fn ban_due_by(&self, board: &Board, core: u8) -> Option<u8>
+        requires at_hand { IsOfTable self.now.config.now board.now }
+        requires core { core < self.now.config.now.cores }
+        ensures due { Within self.now board.now (λ s acts. result
+            ≡ by.ban_due_by self.now.terms.now.policy s (so_far s acts) core) }
+        ensures thread { IfSome result (λ thread.
+            thread < threads_of_table self.now.config.now) }
+    {
+        let thread = self.ban_due(board, core)?;
+        if self.stays_open(board, core) {
+            None
+        } else {
+            Some(thread)
         }
     }
 
@@ -134,12 +185,13 @@ impl Pass<'_> {
     pub fn ban_beside(&self, board: &Board, core: u8) -> Coupled
         requires at_hand { IsOfTable self.now.config.now board.now }
         requires core { core < self.now.config.now.cores }
-        ensures due { Within self.now board.now (λ s acts. both_of result ≡ rules.bans_at s acts core) }
+        ensures due { Within self.now board.now (λ s acts. both_of result
+            ≡ by.bans_at_by self.now.terms.now.policy s acts core) }
         ensures names { BothName self.now.config.now result }
         ensures alone { result.first ≡ None → result.second ≡ None }
     {
         let beside = self.config.machine().sibling(core);
-        let Some(thread) = self.ban_due(board, core) else {
+        let Some(thread) = self.ban_due_by(board, core) else {
             return neither();
         };
         let ban = Action::Ban {
@@ -158,7 +210,8 @@ impl Pass<'_> {
     fn ban_in_pair(&self, board: &Board, pair: u8) -> Coupled
         requires at_hand { IsOfTable self.now.config.now board.now }
         requires pair { 2 * pair + 1 < self.now.config.now.cores }
-        ensures due { Within self.now board.now (λ s acts. both_of result ≡ in_pair (rules.bans_at s) acts pair) }
+        ensures due { Within self.now board.now (λ s acts. both_of result
+            ≡ in_pair (by.bans_at_by self.now.terms.now.policy s) acts pair) }
         ensures names { BothName self.now.config.now result }
         ensures alone { result.first ≡ None → result.second ≡ None }
     {
@@ -210,7 +263,8 @@ impl Pass<'_> {
         requires of_table { IsOfTable self.now.config.now board.old }
         requires room { length out.old + MOST_CORES ≤ MOST_ACTIONS }
         ensures acts { (h : Begun) → let s = setting_in self.now h in Stands board.old s out.old →
-            (out.new ≡ out.old ++ rules.bans s out.old) × Stands board.new s out.new }
+            (out.new ≡ out.old ++ by.bans_by self.now.terms.now.policy s out.old)
+            × Stands board.new s out.new }
         ensures ready { IsReady self.now.config.now board.new }
         ensures length { length out.new ≤ length out.old + MOST_CORES }
     {

@@ -1,6 +1,8 @@
 //! A pass, from its parts in their order.
 
-ghost use Rattle.std.specs.Prelude.{◌≡◌, ◌++◌, ◌∷◌, [], List};
+ghost use Rattle.std.specs.Prelude.{◌≡◌, ◌+◌, ◌≤◌, ◌++◌, ◌∷◌, [], List, length};
+ghost use Rattle.cal_machine.specs.declared.task.Kind.TheVariants as kinds;
+ghost use Rattle.cal_policy.specs.declared.history.action_list.TheConstants.{MOST_ACTIONS};
 ghost use Rattle.cal_policy.specs.declared.history.entry.PassEntry.{PassEntry};
 ghost use Rattle.cal_policy.specs.declared.judgement.open_input.FoundLook.{FoundLook};
 ghost use Rattle.cal_machine.specs.TableTasks.{threads_of_table};
@@ -10,7 +12,8 @@ ghost use Rattle.cal_policy.specs.History.{actions_of, looks_of};
 ghost use Rattle.cal_policy.specs.Judgement.OpenInput.{judged_input};
 ghost use Rattle.cal_policy.specs.Judgement.OpenPass.{IsOpenAt};
 ghost use Rattle.cal_policy.specs.Pass.Bans.{NoPairBanned};
-ghost use Rattle.cal_policy.specs.Pass.{pass_of};
+ghost use Rattle.cal_policy.specs.Pass.Grants.{grants_of_kind};
+ghost use Rattle.cal_policy.specs.Pass.{followed};
 ghost use Rattle.cal_policy.specs.Policies.{pass_by};
 ghost use Rattle.cal_policy.specs.State.{IsReady, IsOfTable, IsStateAfter};
 ghost use Rattle.cal_policy.specs.State.{Stands, Agrees, KeepingAgrees};
@@ -27,19 +30,16 @@ use crate::policy::Policy;
 use cal_machine::{Config, Kind};
 
 impl Pass<'_> {
-    /// Makes the parts of a pass, each after the one before.
-    fn make_parts(&self, board: &mut Board, out: &mut Actions)
+    /// Makes the grants of a pass of `Policy::Caladan`: to its latency-critical tasks, then to its
+    /// best-effort ones.
+    fn grant_by_kind(&self, board: &mut Board, out: &mut Actions)
         requires of_table { IsOfTable self.now.config.now board.old }
-        requires empty { out.old ≡ [] }
-        ensures acts { (h : Begun) → let s = setting_in self.now h in
-            NoPairBanned (actions_of h.history) → Stands board.old s [] →
-            (out.new ≡ pass_of s) × Stands board.new s out.new }
+        requires room { length out.old + length self.now.config.now.tasks ≤ MOST_ACTIONS }
+        ensures acts { (h : Begun) → let s = setting_in self.now h in Stands board.old s out.old →
+            (out.new ≡ followed (followed out.old (grants_of_kind kinds.LatencyCritical s))
+            (grants_of_kind kinds.BestEffort s)) × Stands board.new s out.new }
         ensures ready { IsReady self.now.config.now board.new }
     {
-        self.free_left(board, out);
-        self.end_bans(board, out);
-        self.ban_siblings(board, out);
-        self.keep_bandwidth(board, out);
         if self.none_waits(board) {
             return;
         }
@@ -47,7 +47,7 @@ impl Pass<'_> {
         self.grants_of_kind(board, out, Kind::BestEffort);
     }
 
-    /// Makes the pass of the policy that the terms name.
+    /// Makes the parts of a pass of the policy that the terms name, each after the one before.
     fn make_by(&self, board: &mut Board, out: &mut Actions)
         requires of_table { IsOfTable self.now.config.now board.old }
         requires empty { out.old ≡ [] }
@@ -56,9 +56,13 @@ impl Pass<'_> {
             (out.new ≡ pass_by self.now.terms.now.policy s) × Stands board.new s out.new }
         ensures ready { IsReady self.now.config.now board.new }
     {
+        self.free_left(board, out);
+        self.end_bans(board, out);
+        self.ban_siblings(board, out);
+        self.keep_bandwidth(board, out);
         match self.terms.policy {
-            Policy::Caladan => self.make_parts(board, out),
-            Policy::Assured => self.make_assured_parts(board, out),
+            Policy::Caladan => self.grant_by_kind(board, out),
+            Policy::Assured => self.grant_in_turn(board, out),
         }
     }
 }

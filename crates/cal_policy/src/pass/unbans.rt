@@ -7,7 +7,9 @@ ghost use Rattle.cal_policy.specs.declared.history.action_list.TheConstants.{MOS
 ghost use Rattle.cal_policy.specs.declared.history.action.Action.{Action};
 ghost use Rattle.cal_policy.specs.History.Lists.{in_pair};
 ghost use Rattle.cal_policy.specs.Setting.{Begun, so_far};
-ghost use Rattle.cal_policy.specs.Pass.Bans.{NoPairBanned, still_shows, unban_at, unbans};
+ghost use Rattle.cal_policy.specs.Pass.Bans.{NoPairBanned, still_shows};
+ghost use Rattle.cal_policy.specs.Pass.BansBy as rules;
+ghost use Rattle.cal_policy.specs.Pass.BansBy.{unban_at_by, unbans_by};
 ghost use Rattle.cal_policy.specs.Board.{NamesTable};
 ghost use Rattle.cal_policy.specs.State.{IsReady, IsOfTable, Stands};
 ghost use Rattle.cal_policy.specs.Pass.AtHand.{setting_in, Within};
@@ -17,6 +19,7 @@ use crate::board::core_sets::next_core;
 use crate::history::action::Action;
 use crate::history::action_list::Actions;
 use crate::pass::Pass;
+use crate::policy::Policy;
 use cal_signal::Record;
 
 /// Whether a record still shows its thread on the core, at the request begun at `started`.
@@ -27,17 +30,31 @@ pub fn shows_still(rec: &Record, core: u8, started: u64) -> bool
 }
 
 impl Pass<'_> {
+    /// Whether bans give way to short tasks: those of `Policy::Assured` do, while open cores are
+    /// wanted.
+    fn give_way(&self, board: &Board) -> bool
+        requires at_hand { IsOfTable self.now.config.now board.now }
+        ensures { Within self.now board.now (λ s acts. result
+            ≡ rules.give_way self.now.terms.now.policy s (so_far s acts)) }
+    {
+        match self.terms.policy {
+            Policy::Caladan => false,
+            Policy::Assured => self.are_wanted(board),
+        }
+    }
+
     /// The end of the core's ban, where it has one that ends.
     pub fn unban_due(&self, board: &Board, core: u8) -> Option<Action>
         requires at_hand { IsOfTable self.now.config.now board.now }
         requires core { core < self.now.config.now.cores }
-        ensures due { Within self.now board.now (λ s acts. option_to_list result ≡ unban_at s acts core) }
+        ensures due { Within self.now board.now (λ s acts. option_to_list result
+            ≡ unban_at_by self.now.terms.now.policy s acts core) }
         ensures names { IfSome result (NamesTable self.now.config.now) }
     {
         let beside = self.config.machine().sibling(core);
         let ban = board.bans.bans[core as usize]?;
         let rec = &board.keeping.kept[ban.thread as usize];
-        if shows_still(rec, beside, ban.started) {
+        if shows_still(rec, beside, ban.started) && !self.give_way(board) {
             None
         } else {
             Some(Action::Unban { core })
@@ -51,7 +68,7 @@ impl Pass<'_> {
         ensures due { (h : Begun) (acts : List Action) →
             let s = setting_in self.now h in
             NoPairBanned (so_far s acts) → Stands board.now (setting_in self.now h) acts →
-            option_to_list result ≡ in_pair (unban_at s) acts pair }
+            option_to_list result ≡ in_pair (unban_at_by self.now.terms.now.policy s) acts pair }
         ensures names { IfSome result (NamesTable self.now.config.now) }
     {
         match self.unban_due(board, 2 * pair) {
@@ -60,14 +77,16 @@ impl Pass<'_> {
         }
     }
 
-    /// Ends each ban whose thread no longer shows the core beside and the request that it was for.
-    /// The banned cores are visited upwards, pair by pair, and a pair gives at most one action.
+    /// Ends each ban whose thread no longer shows the core beside and the request that it was for,
+    /// and each while bans give way. The banned cores are visited upwards, pair by pair, and a pair
+    /// gives at most one action.
     pub fn end_bans(&self, board: &mut Board, out: &mut Actions)
         requires of_table { IsOfTable self.now.config.now board.old }
         requires room { length out.old + MOST_PAIRS ≤ MOST_ACTIONS }
         ensures acts { (h : Begun) → let s = setting_in self.now h in
             NoPairBanned (so_far s out.old) → Stands board.old s out.old →
-            (out.new ≡ out.old ++ unbans s out.old) × Stands board.new s out.new }
+            (out.new ≡ out.old ++ unbans_by self.now.terms.now.policy s out.old)
+            × Stands board.new s out.new }
         ensures ready { IsReady self.now.config.now board.new }
         ensures length { length out.new ≤ length out.old + MOST_PAIRS }
     {

@@ -43,55 +43,36 @@ impl Pass<'_> {
         }
     }
 
-    /// The same, of a core that is owed to the task.
-    fn owed_class(&self, board: &Board, task: usize, core: u8) -> Option<CoreClass>
+    /// The same; where `owed`, only of a core that is owed to the task.
+    fn class_to_take(&self, board: &Board, task: usize, core: u8, owed: bool) -> Option<CoreClass>
         requires at_hand { IsOfTable self.now.config.now board.now }
         requires task { task < length self.now.config.now.tasks }
         requires core { core < self.now.config.now.cores }
         ensures { Within self.now board.now (λ s acts. result
-            ≡ rules.owed_class s (so_far s acts) task core) }
+            ≡ rules.class_to_take owed s (so_far s acts) task core) }
     {
         self.config.limits();
-        if is_owed_to(board, task, core) {
-            self.open_class(board, task, core)
-        } else {
+        if owed && !is_owed_to(board, task, core) {
             None
+        } else {
+            self.open_class(board, task, core)
         }
     }
 
-    /// Of the cores that are owed to the task and that it may take the one of the least class, the
-    /// lowest of those.
-    fn choose_owed(&self, board: &Board, task: usize) -> Option<Candidate<CoreClass>>
+    /// Of the cores that the task may take, where `owed` of those owed to it, the one of the least
+    /// class, the lowest of those.
+    fn choose_to_take(&self, board: &Board, task: usize, owed: bool) -> Option<Candidate<CoreClass>>
         requires at_hand { IsOfTable self.now.config.now board.now }
         requires task { task < length self.now.config.now.tasks }
         ensures choice { Within self.now board.now (λ s acts. result
-            ≡ best_below comes_before (rules.owed_class s (so_far s acts) task)
+            ≡ best_below comes_before (rules.class_to_take owed s (so_far s acts) task)
             self.now.config.now.cores) }
         ensures below { IfSome result (λ best. best.number < self.now.config.now.cores) }
     {
         let mut best: Option<Candidate<CoreClass>> = None;
         let mut first = 0;
         while let Some(core) = next_core(self.config, &board.open_cores.idle, first) {
-            let class = self.owed_class(board, task, core);
-            best = first_class(best, class, core);
-            first = core + 1;
-        }
-        best
-    }
-
-    /// Of all that the task may take the one of the least class, the lowest of those.
-    fn choose_any(&self, board: &Board, task: usize) -> Option<Candidate<CoreClass>>
-        requires at_hand { IsOfTable self.now.config.now board.now }
-        requires task { task < length self.now.config.now.tasks }
-        ensures choice { Within self.now board.now (λ s acts. result
-            ≡ best_below comes_before (rules.open_class s (so_far s acts) task)
-            self.now.config.now.cores) }
-        ensures below { IfSome result (λ best. best.number < self.now.config.now.cores) }
-    {
-        let mut best: Option<Candidate<CoreClass>> = None;
-        let mut first = 0;
-        while let Some(core) = next_core(self.config, &board.open_cores.idle, first) {
-            let class = self.open_class(board, task, core);
+            let class = self.class_to_take(board, task, core, owed);
             best = first_class(best, class, core);
             first = core + 1;
         }
@@ -152,9 +133,9 @@ impl Pass<'_> {
         if !self.some_is_owed(board) {
             return self.choose_idle(board, task);
         }
-        match self.choose_owed(board, task) {
+        match self.choose_to_take(board, task, true) {
             Some(owed) => Some(owed),
-            None => self.choose_any(board, task),
+            None => self.choose_to_take(board, task, false),
         }
     }
 

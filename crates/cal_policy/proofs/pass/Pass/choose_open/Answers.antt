@@ -22,5 +22,5 @@ returns-in-Some-clause-choice c = λ h acts st.
 pub returns-in-None-clause-choice : goal.returns-in-None-clause-choice
 returns-in-None-clause-choice c = λ h acts st.
     let s = setting_in c.args.self.now h in
-    c.choose_any.ensures.choice h acts st
+    c.choose_to_take-in-None.ensures.choice h acts st
     ∙ ap (λ o. option_or o (best_below comes_before (open_class s (so_far s acts) c.args.task) s.table.cores)) (c.in-None.ensures.choice h acts st)
