@@ -185,6 +185,13 @@ def test_what_is_no_policy(tmp_path: Path, policies: list[object], said: str) ->
     assert said in it.value.line
 
 
+@pytest.mark.parametrize("policies", ["assured", LongestWait()])
+def test_one_policy_is_no_list(tmp_path: Path, policies: object) -> None:
+    with pytest.raises(Refusal) as it:
+        caladan.sweep(table_of(tmp_path), loads=[0.3], policies=policies)  # type: ignore[call-overload]
+    assert it.value.line == f"policies: {policies!r} is no list: policies=[{policies!r}] has one"
+
+
 @pytest.mark.parametrize("more, said", [
     ({"rate": [1000, 2000]}, "a rate is swept by the program's policies: leave `policies` out, and give policy=.."),
     ({"log": "requests.csv"}, "a log is swept by the program's policies: leave `policies` out, and give policy=.."),

@@ -14,7 +14,7 @@ from hypothesis import strategies as some
 
 from caladan.arrivals import arrivals_of
 from caladan.plans import Plan, plan_words
-from caladan.policies import ActionRefused, Machine, Policy
+from caladan.policies import ActionRefused, Core, Machine, Policy, Task, Thread
 from caladan.policies.playing import Workers, history_by, named
 from caladan.refusal import Refusal
 from caladan.tables import machine_of
@@ -171,8 +171,55 @@ def test_what_is_no_action_is_a_type_error() -> None:
             return None
     with pytest.raises(TypeError, match="Answers.decide gave None; wanted: that it yields an action"):
         history_of(Answers(), 11)
+
+    class AnswersOne(Policy):
+        def decide(self, machine: Machine) -> Action:  # type: ignore[override]
+            return machine.cores[0].free()
+    with pytest.raises(TypeError, match=r"AnswersOne.decide gave Free\(core=0\); wanted: .*, or gives a list of them$"):
+        history_of(AnswersOne(), 11)
     with pytest.raises(NotImplementedError, match="Policy has no decide"):
         history_of(Policy(), 11)
+
+
+def test_one_part_of_the_machine_does_not_stand_for_another() -> None:
+    """A thread, a task and a core have numbers; the number of one is not taken for that of another."""
+    wrong = "core.grant got <Task 0>; wanted: a thread of machine.threads"
+
+    def asks(machine: Machine) -> Iterator[Action]:
+        core, thread, task = machine.cores[0], machine.threads[0], machine.tasks[0]
+        for asked, said in ((lambda: core.grant(task), wrong),
+                            (lambda: core.grant(1), "core.grant got 1; wanted: a thread of machine.threads"),
+                            (lambda: core.ban(core), "core.ban got <Core 0>; wanted: a thread of machine.threads"),
+                            (lambda: core.revoke(for_task=thread), "core.revoke got <Thread 0>; wanted: a task of "
+                                                                   "machine.tasks"),
+                            (lambda: core.revoke(for_ban=thread), "core.revoke got <Thread 0>; wanted: a core of "
+                                                                  "machine.cores"),
+                            (lambda: core.class_for(task), "core.class_for got <Task 0>; wanted: a thread of "
+                                                           "machine.threads"),
+                            (lambda: machine.open_core(near=task), "machine.open_core got <Task 0>; wanted: a thread "
+                                                                   "of machine.threads")):
+            with pytest.raises(TypeError) as it:
+                asked()
+            assert str(it.value) == said
+        for ask in (machine.granted, machine.oldest_grant):
+            with pytest.raises(ValueError, match="^machine.granted got 'batch'; wanted: lc, be, or no kind$"):
+                ask("batch")
+        yield from ()
+    history_of(Says(0, asks), 11)
+
+
+# What has a clock or a time: its docstring says the unit.
+IN_TICKS = {Task: {"threshold", "request", "delay"}, Thread: {"delay", "oldest", "started", "runs_for"},
+            Core: {"granted_at"}, Machine: {"clock"}}
+
+
+@pytest.mark.parametrize("part", IN_TICKS)
+def test_each_part_of_the_machine_says_what_it_is(part: type) -> None:
+    """And a time says that it is in ticks; nothing else does."""
+    public = {name: it for name, it in vars(part).items() if not name.startswith("_")
+              and (isinstance(it, property) or callable(it))}
+    assert public and all(it.__doc__ for it in public.values()) and part.__doc__
+    assert {name for name, it in public.items() if "ticks" in str(it.__doc__)} == IN_TICKS[part]
 
 
 def test_a_list_of_actions_will_do() -> None:

@@ -100,6 +100,8 @@ def called(policy: By) -> str:
 
 def own_in(policies: Sequence[By]) -> tuple["Policy", ...]:
     """Those that are written in Python. Refusal of what is no policy."""
+    if isinstance(policies, str) or not isinstance(policies, Iterable):
+        raise Refusal(f"policies: {policies!r} is no list: policies=[{policies!r}] has one")
     found: list[Policy] = []
     for each in policies:
         if isinstance(each, str):

@@ -11,6 +11,15 @@ from ..world.guard import MOST_ACTIONS, left_undone, wrong_with
 from ..world.parts import held_class, misses_since, open_class
 
 OTHER_IDLE = 3
+KINDS = (None, "lc", "be")
+
+
+def number_of(part: object, wanted: type["ReadOnly"], asked: str) -> int:
+    """The number of a part of the machine that a policy hands in; TypeError of anything else."""
+    if not isinstance(part, wanted):
+        name = wanted.__name__.lower()
+        raise TypeError(f"{asked} got {part!r}; wanted: a {name} of machine.{name}s")
+    return part.number
 
 
 class ReadOnly:
@@ -123,7 +132,7 @@ class Task(ReadOnly):
 
     def set_cap(self, cap: int) -> Cap:
         """The action that lets it have so many cores, up to its limit. While it holds more, each action has to revoke
-        one of them."""
+        one of them. Nothing comes of the cap of a latency-critical task."""
         return Cap(self.number, cap)
 
 
@@ -135,6 +144,7 @@ class Thread(ReadOnly):
 
     @property
     def task(self) -> Task:
+        """The task whose thread it is."""
         return self._machine.tasks[self._board.owner[self.number]]
 
     @property
@@ -175,7 +185,7 @@ class Thread(ReadOnly):
 
     @property
     def started(self) -> Optional[int]:
-        """The clock at which it began or resumed the request that it is at; none where it is at none."""
+        """The clock, in ticks, at which it began or resumed the request that it is at; none where it is at none."""
         return self._board.kept[self.number].started or None
 
     @property
@@ -191,7 +201,7 @@ class Thread(ReadOnly):
 
     @property
     def oldest(self) -> Optional[int]:
-        """The clock at which its queued request came; none without one."""
+        """The clock, in ticks, at which its queued request came; none without one."""
         record = self._board.kept[self.number]
         return record.oldest if record.queued else None
 
@@ -222,7 +232,7 @@ class Thread(ReadOnly):
 
 
 class BanOf(NamedTuple):
-    """For which thread a core is banned, and the clock at which that thread's request was begun."""
+    """For which thread a core is banned, and the clock, in ticks, at which that thread's request was begun."""
 
     thread: Thread
     started: int
@@ -302,7 +312,7 @@ class Core(ReadOnly):
         """Its class for the thread's task: 1 beside a core that the task holds, 2 last granted to one of its threads, 3
         any other open core; 4 held by a best-effort task, or 5 by a latency-critical one that is over while this one is
         short, where the thread's task is latency-critical. None of any other core."""
-        task = self._board.owner[thread.number]
+        task = self._board.owner[number_of(thread, Thread, "core.class_for")]
         if self.open:
             return open_class(self._board, task, self.number)
         return held_class(self._board, task, self.number) if self._board.is_critical[task] else None
@@ -315,19 +325,21 @@ class Core(ReadOnly):
 
     def grant(self, thread: Thread) -> Grant:
         """The action that sends the thread `Run` of this core. Its class is a label that the report shows."""
-        return Grant(self.number, thread.number, self.class_for(thread) or OTHER_IDLE)
+        return Grant(self.number, number_of(thread, Thread, "core.grant"), self.class_for(thread) or OTHER_IDLE)
 
     def revoke(self, for_task: Optional[Task] = None, for_ban: Optional["Core"] = None) -> Revoke:
         """The action that sends its thread `Park`: for a task that is to get it; for a ban, which a request on that
         core, its sibling, asks for; else for bandwidth. The cause is a label that the report shows."""
         if for_task is not None:
-            return Revoke(self.number, ForTask(for_task.number))
-        return Revoke(self.number, ForBandwidth() if for_ban is None else ForBan(for_ban.number))
+            return Revoke(self.number, ForTask(number_of(for_task, Task, "core.revoke")))
+        if for_ban is not None:
+            return Revoke(self.number, ForBan(number_of(for_ban, Core, "core.revoke")))
+        return Revoke(self.number, ForBandwidth())
 
     def ban(self, for_thread: Thread) -> Ban:
         """The action that bans it for a thread's request on its sibling: nobody is granted it until it is unbanned. If
         it is held, the next action has to revoke it."""
-        return Ban(self.number, for_thread.number, for_thread.started or 0)
+        return Ban(self.number, number_of(for_thread, Thread, "core.ban"), for_thread.started or 0)
 
     def unban(self) -> Unban:
         """The action that ends its ban."""
@@ -335,7 +347,8 @@ class Core(ReadOnly):
 
 
 class Machine:
-    """The cores, the threads and the tasks, in order. Lists have only what is permitted at that moment."""
+    """The tuples `cores`, `threads` and `tasks` have each of them at the place of its number. Lists have only what is
+    permitted at that moment."""
 
     __slots__ = ("_board", "cores", "threads", "tasks")
     _board: Board
@@ -364,12 +377,12 @@ class Machine:
 
     @property
     def figure(self) -> int:
-        """The bandwidth figure of this pass, in the unit of the figures."""
+        """The bandwidth figure of this pass, in the unit of the table's bandwidth limit."""
         return self._board.figure
 
     @property
     def bandwidth_limit(self) -> int:
-        """The table's bandwidth limit, in the same unit."""
+        """The table's bandwidth limit, in the unit of the figures: whatever the machine measures, as bytes a tick."""
         return self._board.table.bandwidth_limit
 
     def permits(self, action: Action) -> bool:
@@ -410,7 +423,7 @@ class Machine:
     def open_core(self, near: Thread) -> Optional[Core]:
         """The open core that suits the thread best, by its class and then its number; none where the thread may be
         granted none."""
-        if not self._may_get_one(near.number):
+        if not self._may_get_one(number_of(near, Thread, "machine.open_core")):
             return None
         found = [(it.class_for(near), it.number) for it in self.cores if it.open]
         best = min(((kind, number) for kind, number in found if kind is not None), default=None)
@@ -420,6 +433,8 @@ class Machine:
     def granted(self, kind: Optional[str] = None) -> list[Core]:
         """The cores that may be revoked, the one that was granted first in front: of tasks of a kind, `lc` or `be`, or
         of all. Their tasks hold more than they are guaranteed, and their threads have room for a command."""
+        if kind not in KINDS:
+            raise ValueError(f"machine.granted got {kind!r}; wanted: lc, be, or no kind")
         board = self._board
         held = [it for it in self.cores if board.is_held(it.number) and kind in (None, self._kind_at(it.number))]
         held.sort(key=lambda it: board.granted[it.number])

@@ -60,7 +60,9 @@ class Talk:
         self.rows, self.buffer = 0, b""
         try:
             words = shlex.split(command)
-            self.process = subprocess.Popen(words or [""], stdin=subprocess.PIPE, stdout=subprocess.PIPE,
+            if not words:
+                raise ValueError("no program is named")
+            self.process = subprocess.Popen(words, stdin=subprocess.PIPE, stdout=subprocess.PIPE,
                                             preexec_fn=die_with_parent)
         except (OSError, ValueError) as fault:
             raise Refusal(f"{self.name}: {getattr(fault, 'strerror', None) or fault}") from None
