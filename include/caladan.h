@@ -35,7 +35,7 @@
  * says so here; the soname of libcaladan_c.so has the version.
  *
  * Since version 5: CALADAN_POLICY_ASSURED is decided and audited by another rule (docs/POLICY.md): what an earlier
- * version decided by it may be CALADAN_ILLEGAL now.
+ * version decided by it may be CALADAN_ILLEGAL now. New is CALADAN_ASSURED_RULE.
  * Since version 3: a handle may move from one thread to another, and one of another kind counts as closed.
  * New are tables of rows (caladan_open_rows, and the same of a guard and an audit), facts for a policy of
  * your own (caladan_guard_judge, caladan_guard_kept, caladan_guard_ban, caladan_guard_last), caladan_kept,
@@ -115,6 +115,10 @@ enum {
  * [opened]. By CALADAN_POLICY_ASSURED a latency-critical task that goes on waiting below its guarantee is
  * granted a core (docs/POLICY.md says when). */
 enum { CALADAN_POLICY_CALADAN = 0, CALADAN_POLICY_ASSURED = 1 };
+
+/* The rule of CALADAN_POLICY_ASSURED: the number rises where the policy decides otherwise than before. A record says
+ * it, since no other rule audits what one decided. That of the versions 4 and 5 was 1. */
+#define CALADAN_ASSURED_RULE 2
 
 /* A scheduler, or nothing. */
 typedef struct caladan {
