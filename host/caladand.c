@@ -84,7 +84,8 @@ static char *recorded_table(const scheduler *s) {
     char *text = malloc(room);
     if (text == NULL) fail("-r", strerror(ENOMEM));
     if (s->options.policy != CALADAN_POLICY_CALADAN)
-        at += (size_t)sprintf(text, "# Audit it with --policy %s.\n", caladan_policy_text(s->options.policy));
+        at += (size_t)sprintf(text, "# Audit it with --policy %s, rule %d.\n",
+                              caladan_policy_text(s->options.policy), CALADAN_ASSURED_RULE);
     for (unsigned t = 0; t < s->machine.tasks; t++)
         if (s->options.under >> t & 1)
             at += (size_t)sprintf(text + at, "# Task %u stands under.\n", t);

@@ -34,6 +34,8 @@
  * texts and the speed of a call may change. A higher version may have more calls, numbers and fields, and
  * says so here; the soname of libcaladan_c.so has the version.
  *
+ * Since version 5: CALADAN_POLICY_ASSURED is decided and audited by another rule (docs/POLICY.md): what an earlier
+ * version decided by it may be CALADAN_ILLEGAL now. New is CALADAN_ASSURED_RULE.
  * Since version 3: a handle may move from one thread to another, and one of another kind counts as closed.
  * New are tables of rows (caladan_open_rows, and the same of a guard and an audit), facts for a policy of
  * your own (caladan_guard_judge, caladan_guard_kept, caladan_guard_ban, caladan_guard_last), caladan_kept,
@@ -60,7 +62,7 @@ extern "C" {
 
 /* The version of this interface, which caladan_version answers; and whether the linked library has it, so
  * that this header is about that library. */
-#define CALADAN_VERSION 5
+#define CALADAN_VERSION 6
 #define CALADAN_IS_THIS_VERSION() (caladan_version() == CALADAN_VERSION)
 
 /* The layout that the library expects of each struct, in bytes: its size, and the place of each field. A
@@ -113,6 +115,10 @@ enum {
  * [opened]. By CALADAN_POLICY_ASSURED a latency-critical task that goes on waiting below its guarantee is
  * granted a core (docs/POLICY.md says when). */
 enum { CALADAN_POLICY_CALADAN = 0, CALADAN_POLICY_ASSURED = 1 };
+
+/* The rule of CALADAN_POLICY_ASSURED: the number rises where the policy decides otherwise than before. A record says
+ * it, since no other rule audits what one decided. That of the versions 4 and 5 was 1. */
+#define CALADAN_ASSURED_RULE 2
 
 /* A scheduler, or nothing. */
 typedef struct caladan {
@@ -250,7 +256,7 @@ CALADAN_PLACE(caladan_counts, held, 0);
 CALADAN_PLACE(caladan_counts, booked, 1);
 CALADAN_PLACE(caladan_counts, cap, 2);
 
-/* The version: 5 [proved]. */
+/* The version: 6 [proved]. */
 uint32_t caladan_version(void);
 
 /* Opens the task table that a text spells (docs/POLICY.md), in a closed handle: DONE, or the table's

@@ -38,6 +38,48 @@ words() {
     "$bin/caladand" --help | grep -q '^usage: caladand -n NAME'; note $? "caladand --help"
 }
 
+made_record() { # made_record NAME LINE EXAMPLE: the folder of a record whose table has this line first
+    local given=$top/examples/audit/$3/input
+    mkdir -p "$build/rules/$1"
+    { [ -z "$2" ] || echo "$2"; sed '/^---$/,$d' "$given"; } > "$build/rules/$1/table.toml"
+    sed '1,/^---$/d' "$given" > "$build/rules/$1/piece-000001.history"
+}
+says_of() { # says_of STATUS WORDS RECORD..: what audit_record prints, in a line, and its status
+    local found
+    found=$(cd "$build/rules" && "$top/host/audit_record" "${@:3}" 2>&1; echo "status $?")
+    [ "$found" = "$2
+status $1" ]; note $? "'$2', status $1, of audit_record ${*:3} ($found)"
+}
+rules() { # a record is audited by the rule that it names; one of another rule is refused by its name, and none is illegal for it
+    local line="# Audit it with --policy assured" before=assured_rule_of_before now=assured_by_its_policy
+    local -x CALADAN_SIM=${sim[0]}
+    rm -rf "$build/rules"
+    if needs_audit; then
+        CALADAN_SIM=$build/audits
+        printf '#!/bin/sh\nshift\nexec "%s" "$@"\n' "${sim[0]}" > "$build/audits" && chmod +x "$build/audits"
+    fi
+    made_record new "$line, rule 2." $now
+    made_record old "$line." $before
+    made_record first "$line, rule 1." $before
+    made_record later "$line, rule 3." $now
+    made_record other "# Audit it with --policy bold, rule 2." $now
+    made_record plain "" caladan_by_assured
+    made_record named "$line, rule 2." $before
+    mkdir "$build/rules/empty" "$build/rules/none" && cp "$build/rules/new/table.toml" "$build/rules/none"
+    says_of 0 "new/piece-000001.history: legal" new
+    says_of 0 "plain/piece-000001.history: legal" plain
+    says_of 1 "named/piece-000001.history: illegal pass 1" named
+    says_of 2 "audit_record: old: made by assured, rule 1, and this is assured, rule 2: version 5 audits it" old
+    says_of 2 "audit_record: first: made by assured, rule 1, and this is assured, rule 2: version 5 audits it" first
+    says_of 2 "audit_record: later: made by assured, rule 3, and this is assured, rule 2: the version that made it audits it" later
+    says_of 2 "audit_record: other: made by bold, rule 2, and this is assured, rule 2: the version that made it audits it" other
+    says_of 2 "audit_record: empty: it has no table.toml" empty
+    says_of 2 "audit_record: none: it has no whole piece" none
+    says_of 2 "audit_record: later: made by assured, rule 3, and this is assured, rule 2: the version that made it audits it
+new/piece-000001.history: legal
+named/piece-000001.history: illegal pass 1" later new named
+}
+
 folders() { # the folder of sockets is the user's, and nobody else's
     local base=$CALADAN_FOLDER
     name=folder$$

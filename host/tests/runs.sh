@@ -22,7 +22,7 @@ by_assured() { # by the other policy: legal by that one, and not by Caladan's
     end
     above 1 revoke
     has_pieces 1 || judge=timed # what is not there is not judged otherwise
-    grep -qx "# Audit it with --policy assured." "$record/table.toml" && is_legal "$record/table.toml" "$record/piece-000001.history"
+    grep -qx "# Audit it with --policy assured, rule 2." "$record/table.toml" && is_legal "$record/table.toml" "$record/piece-000001.history"
     $judge $? "$what: its table does not say who made it"
     policy=caladan
     for each in "$record"/piece*.history; do is_legal "$table" "$each" || others=$((others + 1)); done

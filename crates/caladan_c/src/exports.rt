@@ -121,7 +121,7 @@ ghost use Rattle.std.specs.Prelude.{◌≡◌};
 /// The version of this interface.
 #[unsafe(no_mangle)]
 pub extern "C" fn caladan_version() -> u32
-    ensures { result ≡ 5 }
+    ensures { result ≡ 6 }
 {
-    5
+    6
 }

@@ -28,7 +28,7 @@ from __future__ import annotations
 
 from typing import TYPE_CHECKING, Any
 
-__version__ = "5"
+__version__ = "6"
 __all__ = ["ActionRefused", "Answer", "LeftOut", "Log", "Policy", "Refusal", "Run", "Table", "Trials", "compare",
            "core", "policies", "sweep", "world"]
 # Functions of caladan.core which, as its classes and constants, go by `caladan.` too for a version more.

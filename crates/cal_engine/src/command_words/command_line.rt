@@ -29,7 +29,7 @@ use std::alloc::{AllocError, Global};
 
 /// What both programs say of their version: that of the project, as the file VERSION has it, and of
 /// the files that they read and write.
-pub const VERSION: &str = "5 (writes history 2; reads signals and history 1 and 2, arrivals 1)";
+pub const VERSION: &str = "6 (writes history 2; reads signals and history 1 and 2, arrivals 1)";
 
 /// What the program is to do with its input.
 #[derive(Clone, Copy, Debug, PartialEq, Eq)]

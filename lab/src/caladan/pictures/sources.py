@@ -18,6 +18,7 @@ from ..players import Players, naming, own_of
 from ..pool import each
 from ..programs import Text, Viewer, Word, refused, viewer
 from ..refusal import Refusal
+from ..rules import refuse_other_rule
 from ..sweeps.command import answer, asked_of
 from ..tables import SEPARATOR, machine_of, names_in
 from ..varying import variations_of
@@ -153,6 +154,7 @@ def run_of_input(inputs: Sequence[Given], known: Optional[Table], asked: Picture
     if len(inputs) != 1:
         raise Refusal(f"{len(inputs)} inputs; wanted: one, or the CSV of its run")
     text = inputs[0].text.encode()
+    refuse_other_rule(text)
     trace = parts_of(text, False).trace.text
     with asking():
         words = words_by(view, text, asked)

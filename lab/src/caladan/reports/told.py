@@ -13,6 +13,7 @@ from ..labels import Labels, counted
 from ..pool import all_of
 from ..programs import Text, Viewer, Word, refused, simulator
 from ..refusal import Refusal
+from ..rules import refuse_other_rule
 from ..tables import Machine, machine_of, table_part
 from ..timelines.command import is_of_arrivals, trace_of
 
@@ -82,6 +83,7 @@ def reports_of(view: Viewer, policy: str, history: bytes) -> tuple[tuple[str, ..
 
 def told_of(view: Viewer, policy: str, given: bytes, labels: Labels, came: Optional[bytes] = None) -> Told:
     """What the programs tell of an input. That there are not as many names as tasks comes after what they refuse."""
+    refuse_other_rule(given)
     by: list[Word] = ["--policy", policy]
     is_run = is_of_arrivals(trace_of(given))
     shown = view.told(["history", "--table", *by], given).out if is_of_signals(trace_of(given)) else given

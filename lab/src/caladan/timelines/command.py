@@ -12,6 +12,7 @@ from ..plans import plan_of
 from ..pool import all_of
 from ..programs import Viewer, viewer
 from ..refusal import Refusal
+from ..rules import refuse_other_rule
 from ..stamps import tick_of
 from ..tables import Machine, accepted, machine_of, table_part
 from ..words.parsing import Asked
@@ -111,6 +112,7 @@ def text_of(events: Iterator[str]) -> Iterator[bytes]:
 
 def answer(asked: Asked, given: bytes, names: tuple[str, ...]) -> Iterator[bytes]:
     """What is written of an input, in parts. What is refused is told before the first of them."""
+    refuse_other_rule(given)
     view, trace = viewer(asked.one("program")), trace_of(given)
     told = facts(view, given, words_of(asked), names, trace)
     labels = Labels(names, tick_of(given, asked.one("tick")))
