@@ -107,7 +107,7 @@ enum {
     CALADAN_NOT_PERMITTED = 18, /* an action is not permitted at its place */
     CALADAN_NO_JUDGEMENT = 19, /* a number that is no judgement of its look */
     CALADAN_ILLEGAL = 20,     /* a recorded pass is not legal */
-    CALADAN_LOST = 21,        /* no page can show any more that the thread is gone */
+    CALADAN_LOST = 21,        /* no record of its page can say any more that the thread left */
     CALADAN_NO_POLICY = 22    /* no policy has this number */
 };
 

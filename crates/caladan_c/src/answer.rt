@@ -28,7 +28,7 @@ pub enum Refusal {
     NoAction = 17,
     /// A number is no judgement of its look.
     NoJudgement = 19,
-    /// No page can show any more that the thread is gone: `caladan_gone`.
+    /// No record of the thread's page can say any more that it left: `caladan_gone`.
     Lost = 21,
     /// No policy has this number.
     NoPolicy = 22,
