@@ -1,6 +1,6 @@
 /* A publisher that files with and without CALADAN_CHECKED share. Compiled twice: with it, which gives what stands
- * first, and without, which gives the test. A publication is begun in one file and ended in the other, both ways, and nothing
- * is broken; the file with checks still sees that one was entered again. Prints 'mixed_test: ok'. */
+ * first, and without, which gives the test. A publication is begun in one file and ended in the other, both ways, and
+ * nothing is broken; the file with checks still sees that one was entered again. Prints 'mixed_test: ok'. */
 #include <stddef.h>
 #include <stdint.h>
 extern const char *broken;
