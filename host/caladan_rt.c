@@ -419,7 +419,7 @@ static void wait_for_word(caladan_rt *rt, struct pollfd *file) {
 
 /* Until the scheduler closes the connection: it ended, or has given the task up; or until the process itself has
  * closed it. Its number may be another file's by then, of which nothing is read. */
-static void *watch(void *argument) {
+void *host_watch(void *argument) {
     caladan_rt *rt = argument;
     struct pollfd file = {rt->connection, POLLIN, 0};
     pulse felt = {0};
@@ -454,7 +454,7 @@ static int begin_to_watch(caladan_rt *rt) {
     sigfillset(&all);
     pthread_sigmask(SIG_BLOCK, &all, &before);
     atomic_store(&rt->is_watched, true);
-    int error = pthread_create(&watcher, NULL, watch, rt);
+    int error = pthread_create(&watcher, NULL, host_watch, rt);
     if (error == 0) pthread_detach(watcher);
     else atomic_store(&rt->is_watched, false);
     pthread_sigmask(SIG_SETMASK, &before, NULL);

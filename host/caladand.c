@@ -96,7 +96,7 @@ static char *recorded_table(const scheduler *s) {
 static void open_record(scheduler *s) {
     const options *o = &s->options;
     char *table = recorded_table(s);
-    s->record = record_open(o->folder, o->name, table, o->bytes, s->machine.threads, &s->others);
+    s->record = s->opened = record_open(o->folder, o->name, table, o->bytes, s->machine.threads, &s->others);
     free(table);
     printf("record: %s\ntick 0: %llu ns of CLOCK_MONOTONIC\n", record_path(s->record), (unsigned long long)s->epoch);
     fflush(stdout);
@@ -177,8 +177,8 @@ int main(int count, char **words) {
     while (!is_over(&s)) run_piece(&s);
     wait_for_moves(&s);
     close_tasks(&s);
-    bool is_kept = s.options.folder == NULL || record_close();
-    end_metrics();
+    bool is_kept = s.opened == NULL || record_close(s.opened);
+    end_metrics(&s);
     leave_places(); /* whoever does not read the summary keeps neither a name nor a processor from others */
     strays_say(&s);
     print_summary(&s);

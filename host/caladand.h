@@ -125,6 +125,9 @@ typedef struct host_thread {
 } host_thread;
 
 typedef struct strays strays; /* strays.c */
+typedef struct moves moves;   /* moves.c */
+typedef struct pairs pairs;   /* pairs.c */
+typedef struct desk desk;     /* counters.c */
 
 typedef struct counts {
     uint64_t passes, left_out; /* of them from the record, since they were idle */
@@ -157,7 +160,10 @@ typedef struct scheduler {
     size_t made, sent;
     unsigned on_core[HOST_CORES]; /* the thread that holds or leaves it, plus one; or 0 */
     bool is_banned[HOST_CORES];
+    moves *moves;
     bool has_mover;
+    pairs *pairs; /* NULL: no task stands under */
+    desk *desk;
     /* patience.c: the time in which the scheduler itself ran; the time that went by, but for standstills; and when
      * both were counted last */
     uint64_t run_time, wall_time, accounted_at;
@@ -171,6 +177,7 @@ typedef struct scheduler {
     bool is_closing;
     bool is_due; /* the next pass is made at once: it frees a core that nobody has to leave */
     record *record; /* NULL: nothing is recorded */
+    record *opened; /* also one that was given up; NULL: none was asked for */
     strays *strays; /* NULL: nobody looks for them */
     uint64_t strays_told, strays_told_at; /* how many it has told of, and when */
     /* of each kernel thread of a task, the thread that was pinned; 0: none */
@@ -192,7 +199,7 @@ typedef void clerk_work(void *with);
 bool start_clerk(clerk_work *work, void *with, const cpu_set_t *where); /* on these processors, if there are any */
 bool place_clerk(clerk_work *work, const cpu_set_t *where); /* from now on it runs there */
 void look_after_clerks(scheduler *s); /* those that were moved go back */
-bool wait_for_clerk(bool is_idle(void), uint64_t most);                  /* false: it was not idle in so long */
+bool wait_for_clerk(bool is_idle(const void *of), const void *of, uint64_t most); /* false: not in so long */
 /* A line on standard error; it waits for nobody. */
 void complain(const char *format, ...) __attribute__((format(printf, 1, 2)));
 bool begin_lines(const cpu_set_t *where); /* until then, who complains writes the line himself */
@@ -285,9 +292,9 @@ void under_settle(scheduler *s, uint64_t now); /* plans what follows from the ac
 typedef struct host_pair {
     pid_t under, to;
 } host_pair;
-bool begin_pairs(const scheduler *s);
+bool begin_pairs(scheduler *s);
 /* Whether each of them gives way; -1: it is not known yet, and who asks, as a task, has to ask again. */
-int each_gives_way(const host_pair *pairs, size_t count, unsigned asker, uint64_t now);
+int each_gives_way(pairs *it, const host_pair *pairs, size_t count, unsigned asker, uint64_t now);
 
 /* groups.c: whether a thread in SCHED_IDLE of one process gives way to those of another */
 bool gives_way(pid_t under, pid_t to);
@@ -300,8 +307,8 @@ void end_piece(scheduler *s);
 
 /* counters.c */
 void print_summary(scheduler *s);
-bool begin_metrics(const scheduler *s);
+bool begin_metrics(scheduler *s);
 /* Hands the counters to the clerk who writes them into the scheduler's folder, unless he is at work. */
 void hand_metrics(const scheduler *s);
-void end_metrics(void);
+void end_metrics(const scheduler *s);
 #endif

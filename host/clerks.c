@@ -75,16 +75,17 @@ void look_after_clerks(scheduler *s) {
 }
 
 /* A second signal waits for no clerk longer than the least. */
-bool wait_for_clerk(bool is_idle(void), uint64_t most) {
+bool wait_for_clerk(bool is_idle(const void *of), const void *of, uint64_t most) {
     struct timespec moment = {0, 2000000};
-    for (uint64_t from = host_clock(); !is_idle(); nanosleep(&moment, NULL))
+    for (uint64_t from = host_clock(); !is_idle(of); nanosleep(&moment, NULL))
         if (host_clock() - from >= (stop_signals() > 1 ? CLERKS_LAST : most)) return false;
     return true;
 }
 
 /* ---- lines on standard error ---- */
 
-/* One thread puts lines here, the scheduler's, and one writes them. A line that does not fit is counted and lost. */
+/* One thread puts lines here, the scheduler's, and one writes them. A line that does not fit is counted and lost. The
+ * process's, as its standard error is. */
 static struct {
     char line[LINES][LINE];
     atomic_size_t put, written; /* how many so far */
@@ -144,5 +145,5 @@ void complain(const char *format, ...) {
 }
 
 uint64_t lost_lines(void) { return atomic_load(&lines.lost); }
-static bool are_written(void) { return atomic_load(&lines.written) == atomic_load(&lines.put); }
-void end_lines(void) { wait_for_clerk(are_written, CLERKS_LAST); }
+static bool are_written(const void *of) { return (void)of, atomic_load(&lines.written) == atomic_load(&lines.put); }
+void end_lines(void) { wait_for_clerk(are_written, NULL, CLERKS_LAST); }

@@ -104,7 +104,7 @@ typedef struct tally {
     uint64_t lost_lines;
 } tally;
 
-static struct {
+struct desk {
     int folder;
     char text[1 << 15]; /* some times what all counters take */
     FILE *out;          /* to it */
@@ -114,7 +114,7 @@ static struct {
     atomic_bool is_over; /* nothing is written any more */
     atomic_bool is_gone; /* nobody finds the scheduler any more */
     bool is_told;
-} desk;
+};
 
 static void put_each_task(FILE *out, const tally *t) {
     char labels[32];
@@ -149,8 +149,8 @@ static void put_all(FILE *out, const tally *t) {
 
 /* All of the text goes to the file at once, from memory: no stream waits for the disk, at which the end of the process
  * would wait too. */
-static bool write_text(const char *text, size_t length) {
-    int file = openat(desk.folder, "metrics.new", O_WRONLY | O_CREAT | O_TRUNC | O_NOFOLLOW | O_CLOEXEC, 0600);
+static bool write_text(int folder, const char *text, size_t length) {
+    int file = openat(folder, "metrics.new", O_WRONLY | O_CREAT | O_TRUNC | O_NOFOLLOW | O_CLOEXEC, 0600);
     if (file < 0) return false;
     bool is_whole = write(file, text, length) == (ssize_t)length;
     return close(file) == 0 && is_whole;
@@ -158,46 +158,49 @@ static bool write_text(const char *text, size_t length) {
 
 /* A reader finds a whole file, this one or the one before. One that cannot be written is not: nothing depends on it.
  * Nor is one that came too late: the folder is being emptied. */
-static void write_metrics(const tally *t) {
-    rewind(desk.out);
-    put_all(desk.out, t);
-    if (fflush(desk.out) || ferror(desk.out)) return clearerr(desk.out);
-    if (write_text(desk.text, (size_t)ftell(desk.out)) && !atomic_load(&desk.is_over))
-        renameat(desk.folder, "metrics.new", desk.folder, "metrics");
+static void write_metrics(desk *it) {
+    rewind(it->out);
+    put_all(it->out, &it->tally);
+    if (fflush(it->out) || ferror(it->out)) return clearerr(it->out);
+    if (write_text(it->folder, it->text, (size_t)ftell(it->out)) && !atomic_load(&it->is_over))
+        renameat(it->folder, "metrics.new", it->folder, "metrics");
 }
 
 static void write_each(void *with) {
-    (void)with;
-    while (!atomic_load(&desk.is_over)) {
-        while (sem_wait(&desk.bell)) {}
-        write_metrics(&desk.tally);
-        if (!atomic_load(&desk.is_over)) atomic_store(&desk.is_gone, !can_be_found(desk.tally.tasks));
-        atomic_store(&desk.is_busy, false);
+    desk *it = with;
+    while (!atomic_load(&it->is_over)) {
+        while (sem_wait(&it->bell)) {}
+        write_metrics(it);
+        if (!atomic_load(&it->is_over)) atomic_store(&it->is_gone, !can_be_found(it->tally.tasks));
+        atomic_store(&it->is_busy, false);
     }
 }
 
-bool begin_metrics(const scheduler *s) {
-    desk.folder = s->folder;
-    desk.out = fmemopen(desk.text, sizeof desk.text, "w");
-    sem_init(&desk.bell, 0, 0);
-    return desk.out && start_clerk(write_each, NULL, &s->others);
+bool begin_metrics(scheduler *s) {
+    desk *it = s->desk = calloc(1, sizeof *it);
+    if (it == NULL) return false;
+    it->folder = s->folder;
+    it->out = fmemopen(it->text, sizeof it->text, "w");
+    sem_init(&it->bell, 0, 0);
+    return it->out && start_clerk(write_each, it, &s->others);
 }
 
 void hand_metrics(const scheduler *s) {
-    tally *t = &desk.tally;
-    if (atomic_load(&desk.is_busy)) return;
-    bool is_gone = atomic_load(&desk.is_gone);
-    if (is_gone && !desk.is_told) complain("its folder, or a socket there, was removed: nobody can attach any more");
-    desk.is_told = is_gone;
+    desk *it = s->desk;
+    tally *t = &it->tally;
+    if (atomic_load(&it->is_busy)) return;
+    bool is_gone = atomic_load(&it->is_gone);
+    if (is_gone && !it->is_told) complain("its folder, or a socket there, was removed: nobody can attach any more");
+    it->is_told = is_gone;
     t->counts = s->counts, t->latency = s->latency;
     t->tasks = s->machine.tasks, t->is_recorded = s->record != NULL, t->lost_lines = lost_lines();
     for (unsigned i = 0; i < t->tasks; i++) t->is_attached[i] = s->task[i].is_attached;
-    atomic_store(&desk.is_busy, true);
-    sem_post(&desk.bell);
+    atomic_store(&it->is_busy, true);
+    sem_post(&it->bell);
 }
 
-static bool is_idle(void) { return !atomic_load(&desk.is_busy); }
-void end_metrics(void) {
-    atomic_store(&desk.is_over, true);
-    wait_for_clerk(is_idle, CLERKS_LAST);
+static bool is_idle(const void *of) { return !atomic_load(&((const desk *)of)->is_busy); }
+void end_metrics(const scheduler *s) {
+    atomic_store(&s->desk->is_over, true);
+    wait_for_clerk(is_idle, s->desk, CLERKS_LAST);
 }

@@ -9,6 +9,7 @@
 #define _GNU_SOURCE
 #include <errno.h>
 #include <semaphore.h>
+#include <stdlib.h>
 #include <string.h>
 #include <sys/resource.h>
 #include "caladand.h"
@@ -34,21 +35,19 @@ typedef struct move {
     unsigned core, to;
 } move;
 
-static struct {
-    move move[MOST_MOVES];
+/* What a pass plans, and what the mover has to do, of one scheduler. */
+struct moves {
+    move planned[MOST_MOVES];
     size_t count;
     bool is_open; /* some that were handed on are not known to be done */
-} plan;
-
-static struct {
-    move move[MOST_MOVES];
+    move handed[MOST_MOVES];
     atomic_size_t put, done;
     size_t seen;      /* how many were done when the scheduler looked last, and since when */
     uint64_t seen_at;
     bool is_elsewhere; /* the mover was put elsewhere, and has not made a move since */
     atomic_bool is_asleep;
     sem_t bell;
-} queue;
+};
 
 /* ---- one move ---- */
 
@@ -137,44 +136,46 @@ static void do_move(scheduler *s, const move *m) {
 
 /* ---- the mover ---- */
 
-static void rest(void) {
+static void rest(moves *it) {
     uint64_t from = host_clock();
-    while (atomic_load(&queue.put) == atomic_load(&queue.done)) {
+    while (atomic_load(&it->put) == atomic_load(&it->done)) {
         host_pause();
         if (host_clock() - from < RESTLESS) continue;
-        atomic_store(&queue.is_asleep, true);
-        if (atomic_load(&queue.put) == atomic_load(&queue.done)) while (sem_wait(&queue.bell)) {}
-        atomic_store(&queue.is_asleep, false);
+        atomic_store(&it->is_asleep, true);
+        if (atomic_load(&it->put) == atomic_load(&it->done)) while (sem_wait(&it->bell)) {}
+        atomic_store(&it->is_asleep, false);
     }
 }
 
 static void move_each(void *with) {
+    scheduler *s = with;
     for (;;) {
-        rest();
-        size_t next = atomic_load(&queue.done);
-        do_move(with, &queue.move[next % MOST_MOVES]);
-        atomic_store(&queue.done, next + 1);
+        rest(s->moves);
+        size_t next = atomic_load(&s->moves->done);
+        do_move(s, &s->moves->handed[next % MOST_MOVES]);
+        atomic_store(&s->moves->done, next + 1);
     }
 }
 
 bool begin_moves(scheduler *s) {
     cpu_set_t where;
-    if (s->options.mover < 0) return true;
+    s->moves = calloc(1, sizeof *s->moves);
+    if (s->moves == NULL || s->options.mover < 0) return s->moves != NULL;
     CPU_ZERO(&where);
     CPU_SET((size_t)s->options.mover, &where);
-    sem_init(&queue.bell, 0, 0);
+    sem_init(&s->moves->bell, 0, 0);
     s->has_mover = start_clerk(move_each, s, &where);
     return s->has_mover;
 }
 
 /* There is always room: no thread has more than four moves under way, and one that is told once
  * more is not moved. */
-static void hand_over(const move *m) {
-    size_t next = atomic_load(&queue.put);
-    if (next == atomic_load(&queue.done)) queue.seen = next, queue.seen_at = host_clock();
-    queue.move[next % MOST_MOVES] = *m;
-    atomic_store(&queue.put, next + 1);
-    if (atomic_exchange(&queue.is_asleep, false)) sem_post(&queue.bell);
+static void hand_over(moves *it, const move *m) {
+    size_t next = atomic_load(&it->put);
+    if (next == atomic_load(&it->done)) it->seen = next, it->seen_at = host_clock();
+    it->handed[next % MOST_MOVES] = *m;
+    atomic_store(&it->put, next + 1);
+    if (atomic_exchange(&it->is_asleep, false)) sem_post(&it->bell);
 }
 
 /* ---- what comes of it ---- */
@@ -223,13 +224,13 @@ static void settle_seat(scheduler *s, size_t k) {
 
 static void settle_moves(scheduler *s) {
     bool are_some = false;
-    for (size_t k = 0; plan.is_open && k < s->machine.threads; k++) {
+    for (size_t k = 0; s->moves->is_open && k < s->machine.threads; k++) {
         const host_seat *seat = &s->thread[k].seat;
         bool is_done = atomic_load(&seat->done) == seat->handed;
         if (is_done && seat->settled != seat->handed) settle_seat(s, k);
         are_some |= !is_done;
     }
-    plan.is_open = are_some;
+    s->moves->is_open = are_some;
 }
 
 /* ---- planning ---- */
@@ -238,8 +239,8 @@ static void add(scheduler *s, move m) {
     host_seat *seat = &s->thread[m.thread].seat;
     m.is_first = atomic_load(&seat->done) == seat->handed;
     seat->handed++;
-    plan.move[plan.count++] = m;
-    plan.is_open = true;
+    s->moves->planned[s->moves->count++] = m;
+    s->moves->is_open = true;
 }
 
 static uint8_t rank_of(const scheduler *s, size_t k) {
@@ -262,8 +263,8 @@ void plan_park(scheduler *s, size_t k, unsigned from, unsigned to) {
 /* A Run comes into the ring only when its thread is pinned: one that happens to be awake takes
  * it at once. */
 static void send_what_can_be(scheduler *s) {
-    for (size_t i = 0; i < plan.count; i++) {
-        move *m = &plan.move[i];
+    for (size_t i = 0; i < s->moves->count; i++) {
+        move *m = &s->moves->planned[i];
         host_thread *thread = &s->thread[m->thread];
         if (!m->is_first || (m->what == RUN && !is_pinned(s, thread, m->core))) continue;
         caladan_ring_send(&thread->seat.pin.sender, m->what == RUN ? m->core + 1u : CALADAN_PARK);
@@ -274,18 +275,18 @@ static void send_what_can_be(scheduler *s) {
 void carry_out(scheduler *s) {
     send_what_can_be(s);
     for (int rank = FIRST; rank < RANKS; rank++)
-        for (size_t i = 0; i < plan.count; i++) {
-            if (plan.move[i].rank != rank) continue;
-            if (s->has_mover) hand_over(&plan.move[i]);
-            else do_move(s, &plan.move[i]);
+        for (size_t i = 0; i < s->moves->count; i++) {
+            if (s->moves->planned[i].rank != rank) continue;
+            if (s->has_mover) hand_over(s->moves, &s->moves->planned[i]);
+            else do_move(s, &s->moves->planned[i]);
         }
-    plan.count = 0;
+    s->moves->count = 0;
     settle_moves(s);
 }
 
 static void put_mover_elsewhere(const scheduler *s) {
     bool is_put = CPU_COUNT(&s->others) && place_clerk(move_each, &s->others);
-    queue.is_elsewhere = true;
+    s->moves->is_elsewhere = true;
     complain("the mover made no move on processor %d for a second%s", s->options.mover,
              is_put ? ", and is put on others" : "");
 }
@@ -294,16 +295,16 @@ static void put_mover_elsewhere(const scheduler *s) {
  * nobody who could end a move that it has begun. */
 void look_after_mover(const scheduler *s) {
     uint64_t now = host_clock();
-    size_t done = atomic_load(&queue.done);
-    bool is_at_work = s->has_mover && done != atomic_load(&queue.put);
-    if (!is_at_work || done != queue.seen) queue.seen = done, queue.seen_at = now, queue.is_elsewhere = false;
-    if (now - queue.seen_at >= STUCK && !queue.is_elsewhere) put_mover_elsewhere(s);
+    size_t done = atomic_load(&s->moves->done);
+    bool is_at_work = s->has_mover && done != atomic_load(&s->moves->put);
+    if (!is_at_work || done != s->moves->seen) s->moves->seen = done, s->moves->seen_at = now, s->moves->is_elsewhere = false;
+    if (now - s->moves->seen_at >= STUCK && !s->moves->is_elsewhere) put_mover_elsewhere(s);
     uint64_t most = stop_signals() > 1 ? 2 * STUCK : LOST;
-    if (now - queue.seen_at >= most) fail("the mover", "it makes no moves any more");
+    if (now - s->moves->seen_at >= most) fail("the mover", "it makes no moves any more");
 }
 
 void wait_for_moves(scheduler *s) {
-    while (s->has_mover && atomic_load(&queue.done) != atomic_load(&queue.put)) look_after_mover(s), host_pause();
+    while (s->has_mover && atomic_load(&s->moves->done) != atomic_load(&s->moves->put)) look_after_mover(s), host_pause();
     settle_moves(s);
 }
 

@@ -2,6 +2,7 @@
  * millisecond and more for each pair. One question at a time: who asked comes again for the answer. */
 #define _GNU_SOURCE
 #include <semaphore.h>
+#include <stdlib.h>
 #include <string.h>
 #include "caladand.h"
 
@@ -9,7 +10,7 @@
 #define KEPT ((uint64_t)100000000)
 enum { IS_FREE, IS_ASKED, IS_ANSWERED };
 
-static struct {
+struct pairs {
     host_pair pair[HOST_TASKS];
     size_t count;
     unsigned asker;
@@ -17,42 +18,44 @@ static struct {
     uint64_t asked_at;
     _Atomic int state; /* while it is asked, all that is the clerk's */
     sem_t bell;
-} question;
+};
 
 static void answer_each(void *with) {
-    (void)with;
+    pairs *it = with;
     for (;;) {
-        while (sem_wait(&question.bell)) {}
+        while (sem_wait(&it->bell)) {}
         bool all = true;
-        for (size_t i = 0; i < question.count && all; i++)
-            all = gives_way(question.pair[i].under, question.pair[i].to);
-        question.give_way = all;
-        atomic_store(&question.state, IS_ANSWERED);
+        for (size_t i = 0; i < it->count && all; i++)
+            all = gives_way(it->pair[i].under, it->pair[i].to);
+        it->give_way = all;
+        atomic_store(&it->state, IS_ANSWERED);
     }
 }
 
-bool begin_pairs(const scheduler *s) {
+bool begin_pairs(scheduler *s) {
     if (s->options.under == 0) return true;
-    sem_init(&question.bell, 0, 0);
-    return start_clerk(answer_each, NULL, &s->others);
+    s->pairs = calloc(1, sizeof *s->pairs);
+    if (s->pairs == NULL) return false;
+    sem_init(&s->pairs->bell, 0, 0);
+    return start_clerk(answer_each, s->pairs, &s->others);
 }
 
-static bool is_same(const host_pair *pairs, size_t count, unsigned asker) {
-    return question.asker == asker && question.count == count && !memcmp(question.pair, pairs, count * sizeof *pairs);
+static bool is_same(const pairs *it, const host_pair *pairs, size_t count, unsigned asker) {
+    return it->asker == asker && it->count == count && !memcmp(it->pair, pairs, count * sizeof *pairs);
 }
 
-int each_gives_way(const host_pair *pairs, size_t count, unsigned asker, uint64_t now) {
-    int state = atomic_load(&question.state);
+int each_gives_way(pairs *it, const host_pair *pairs, size_t count, unsigned asker, uint64_t now) {
     if (count == 0) return 1;
+    int state = atomic_load(&it->state);
     if (state == IS_ASKED) return -1;
-    if (state == IS_ANSWERED && is_same(pairs, count, asker)) {
-        atomic_store(&question.state, IS_FREE);
-        return question.give_way;
+    if (state == IS_ANSWERED && is_same(it, pairs, count, asker)) {
+        atomic_store(&it->state, IS_FREE);
+        return it->give_way;
     }
-    if (state == IS_ANSWERED && question.asker != asker && now - question.asked_at < KEPT) return -1;
-    memcpy(question.pair, pairs, count * sizeof *pairs);
-    question.count = count, question.asker = asker, question.asked_at = now;
-    atomic_store(&question.state, IS_ASKED);
-    sem_post(&question.bell);
+    if (state == IS_ANSWERED && it->asker != asker && now - it->asked_at < KEPT) return -1;
+    memcpy(it->pair, pairs, count * sizeof *pairs);
+    it->count = count, it->asker = asker, it->asked_at = now;
+    atomic_store(&it->state, IS_ASKED);
+    sem_post(&it->bell);
     return -1;
 }

@@ -29,8 +29,7 @@ typedef struct piece {
     _Atomic int state; /* free is set by the clerk, the others by the passes */
 } piece;
 
-/* A process has one. */
-static struct record {
+struct record {
     char path[HOST_PATH];
     int folder;
     uint64_t full; /* bytes of a piece that is to end */
@@ -41,7 +40,7 @@ static struct record {
     bool is_given_up;             /* and it is said why */
     _Atomic uint64_t failed;      /* the piece that the clerk could not write, and why; known when `error` is */
     atomic_int error;
-} the_record;
+};
 
 /* ---- the folder ---- */
 
@@ -170,7 +169,8 @@ record *record_open(const char *folder, const char *name, const char *table, uin
     uint64_t pass = ROW + (uint64_t)threads * ROW + CALADAN_MOST_ACTIONS * ACTION,
              end = ROW + (RECORD_END_PASSES + 1) * pass;
     uint64_t most = RECORD_MOST - strlen(table) - end;
-    record *r = &the_record;
+    record *r = calloc(1, sizeof *r);
+    if (r == NULL) fail("-r", strerror(ENOMEM));
     r->full = bytes < most ? bytes : most;
     r->size = r->full + end;
     for (int i = 0; i < 2; i++) make_buffer(r, &r->piece[i]);
@@ -218,12 +218,11 @@ bool record_end_piece(record *r, uint64_t passes) {
     return true;
 }
 
-static bool is_done(void) { return atomic_load(&the_record.is_done); }
-bool record_close(void) {
-    record *r = &the_record;
+static bool is_done(const void *of) { return atomic_load(&((const record *)of)->is_done); }
+bool record_close(record *r) {
     atomic_store(&r->is_over, true);
     sem_post(&r->bell);
-    bool is_in_time = wait_for_clerk(is_done, LAST);
+    bool is_in_time = wait_for_clerk(is_done, r, LAST);
     if (r->is_given_up) return false;
     if (is_in_time) return record_keeps_up(r);
     return give_in(r, r->now ? r->now->number : 0, "the disk has not taken it in time");

@@ -27,5 +27,5 @@ bool record_end_piece(record *r, uint64_t passes);
 bool record_keeps_up(record *r);
 /* Waits until all whole pieces are written, also of a record that has ended before; some seconds at most. False: the
  * record is not whole, and it was said. */
-bool record_close(void);
+bool record_close(record *r);
 #endif

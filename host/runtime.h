@@ -76,4 +76,6 @@ struct caladan_rt {
     _Atomic uint64_t tick_0;  /* of the scheduler, or of the last one */
     kernel_thread thread[];
 };
+
+void *host_watch(void *rt); /* what the thread does that waits for the end of the scheduler */
 #endif

@@ -171,7 +171,7 @@ static int is_in_fit_group(const scheduler *s, const host_task *task, pid_t pid)
         if (task->is_under && other->is_critical) pairs[count++] = (host_pair){pid, other->pid};
         if (task->is_critical && other->is_under) pairs[count++] = (host_pair){other->pid, pid};
     }
-    return each_gives_way(pairs, count, number_of(s, task), now_of(s));
+    return each_gives_way(s->pairs, pairs, count, number_of(s, task), now_of(s));
 }
 
 static void dismiss(scheduler *s, host_guest *guest, uint32_t status) {

@@ -2,7 +2,7 @@
  *
  * You open a scheduler for a task table. You give each pass a look at each kernel thread, and it answers what
  * the scheduler must do: free, ban, revoke and grant cores. docs/POLICY.md says what a pass is. Link with
- * libcaladan_c.a and the heap that Rattle programs use (liblibc_c.a of the kit).
+ * libcaladan_c.a and a heap (below), and for tables of rows with caladan_rows.c.
  *
  * The answers of each call are proved, for the function of the same name (crates/caladan_c/src/lib.rt and
  * src/exports). The brackets after a promise say what supports it: [a name] is a clause of that function,
@@ -11,12 +11,14 @@
  * name answers without CALADAN_: DONE is CALADAN_DONE.
  * Nothing checks what a caller in C owes:
  *  - A handle begins as CALADAN_CLOSED, and only these calls change it. Do not use two copies of it, and do
- *    not read or write what it points to. Make one call at a time on a handle. It may move from one thread to
- *    another, as from the one that reads a table to the one that polls, if each call ends before the next
- *    begins: by a mutex, a join, or a release store and an acquire load. The proofs are about one thread, and
- *    calls in such an order are those of one thread: the library keeps nothing but what the handle points to,
- *    in no thread-local and no static storage [tested: neither is in the archive], and another thread may
- *    free what one allocated (malloc, below). Calls on different handles may run at the same time.
+ *    not read or write what it points to. Calls that change nothing take a const handle; while such a call
+ *    lasts it uses the handle like any other, so define no handle const, nor put one into read-only memory.
+ *    Make one call at a time on a handle. It may move from one thread to another, as from the one that reads a
+ *    table to the one that polls, if each call ends before the next begins: by a mutex, a join, or a release
+ *    store and an acquire load. The proofs are about one thread, and calls in such an order are those of one
+ *    thread: the library keeps nothing but what the handle points to, in no thread-local and no static storage
+ *    [tested: neither is in the archive], and another thread may free what one allocated (malloc, below).
+ *    Calls on different handles may run at the same time.
  *  - The three kinds of handles have their own types. A call that still gets one of another kind, by a cast,
  *    answers as for a closed one [closed, already] and changes nothing [same, refused, unchanged, other];
  *    opening it answers IS_OPEN [already].
@@ -36,6 +38,12 @@
  *
  * Since version 5: CALADAN_POLICY_ASSURED is decided and audited by another rule (docs/POLICY.md): what an earlier
  * version decided by it may be CALADAN_ILLEGAL now. New is CALADAN_ASSURED_RULE.
+ * Queries take a const handle, and compilers warn where the answer of a call that opens, makes
+ * a pass or judges is not looked at. New are
+ * caladan_holder_of, caladan_guard_holder_of, caladan_guard_ban_of and caladan_guard_last_of, which take any
+ * number; the exports without `_of` take a byte, are deprecated, and are no macros any more.
+ * New too are caladan_open_rows_policy and caladan_audit_open_rows_policy. What opens tables of rows is in
+ * caladan_rows.c, libcaladan_rows.a where it is installed. A heap of your own may take the place of liblibc_c.a.
  * Since version 3: a handle may move from one thread to another, and one of another kind counts as closed.
  * New are tables of rows (caladan_open_rows, and the same of a guard and an audit), facts for a policy of
  * your own (caladan_guard_judge, caladan_guard_kept, caladan_guard_ban, caladan_guard_last), caladan_kept,
@@ -75,6 +83,36 @@ extern "C" {
 #endif
 #define CALADAN_SIZE(type, size) CALADAN_SAME(sizeof(type) == (size), #type " has " #size " bytes")
 #define CALADAN_PLACE(type, field, at) CALADAN_SAME(offsetof(type, field) == (at), #field " of " #type " is at " #at)
+
+/* What compilers are told of a call: its answer is to be looked at (that of a query of what is known to be there
+ * need not be); another one takes its place. */
+#ifdef __GNUC__
+#define CALADAN_ANSWERS __attribute__((warn_unused_result))
+#define CALADAN_OLD(instead) __attribute__((deprecated(instead)))
+#define CALADAN_CALLS_OLD _Pragma("GCC diagnostic push") _Pragma("GCC diagnostic ignored \"-Wdeprecated-declarations\"")
+#define CALADAN_CALLS_NEW _Pragma("GCC diagnostic pop")
+#else
+#define CALADAN_ANSWERS
+#define CALADAN_OLD(instead)
+#define CALADAN_CALLS_OLD
+#define CALADAN_CALLS_NEW
+#endif
+
+/* The heap: the library takes memory by these three, which liblibc_c.a defines over malloc, realloc and free.
+ * Define them yourself, as for an arena, and do not link liblibc_c.a: clients/c/own_heap.c does. `ok` false:
+ * there is no memory, and the block that was to be resized is as it was. A block lies at a multiple of
+ * `alignment`, a power of two up to 16, and is never null, even of 0 bytes; resized, it keeps its first `kept`
+ * bytes. Passes of a scheduler take no memory [tested]. */
+typedef struct caladan_block {
+    bool ok;
+    void *at;
+} caladan_block;
+CALADAN_SIZE(caladan_block, 16);
+CALADAN_PLACE(caladan_block, ok, 0);
+CALADAN_PLACE(caladan_block, at, 8);
+caladan_block rattle_alloc(size_t size, size_t alignment);
+caladan_block rattle_realloc(void *at, size_t kept, size_t size, size_t alignment);
+void rattle_dealloc(void *at);
 
 /* The first line of a history (docs/FORMATS.md). */
 #define CALADAN_HISTORY_HEADER "caladan-history,2"
@@ -262,20 +300,22 @@ uint32_t caladan_version(void);
 /* Opens the task table that a text spells (docs/POLICY.md), in a closed handle: DONE, or the table's
  * first fault [opened], or NO_MEMORY. IS_OPEN of an open one [already]. Unless DONE the handle is as
  * before [refused]. Takes all the memory that passes need [not proved]. */
+CALADAN_ANSWERS
 uint8_t caladan_open(const uint8_t *table, size_t length, caladan *handle);
 
 /* The same for passes by the policy with a number, CALADAN_POLICY_..: below, the policy and legal histories
  * are then those of that policy [opened]. NO_POLICY for a number that no policy has [no_policy], whatever the
  * table; IS_OPEN for an open handle, whatever the number [already]. Unless DONE the handle is as before
  * [refused]. */
+CALADAN_ANSWERS
 uint8_t caladan_open_policy(const uint8_t *table, size_t length, uint32_t policy, caladan *handle);
 
 /* How many kernel threads the table has [count]; 0 of a closed handle [closed]. Nothing changes [same]. */
-size_t caladan_threads(caladan *handle);
+size_t caladan_threads(const caladan *handle);
 
 /* The bandwidth figure above which a best-effort task loses a core [limit]; 0 of a closed handle
  * [closed]. Nothing changes [same]. */
-uint64_t caladan_bandwidth_limit(caladan *handle);
+uint64_t caladan_bandwidth_limit(const caladan *handle);
 
 /* The next pass. looks: one for each thread, in thread order. judged: room for as many. actions: room
  * for CALADAN_MOST_ACTIONS. DONE: the actions are what the policy does on these looks after all passes
@@ -286,6 +326,7 @@ uint64_t caladan_bandwidth_limit(caladan *handle);
  * be any numbers [answers], now even below that of the last pass: a request that comes after now has waited
  * 0, and one that began after now has run for 0 [passed]. Unless DONE, nothing changes except that *made is 0
  * [refused]. */
+CALADAN_ANSWERS
 uint8_t caladan_pass(caladan *handle, uint64_t now, uint64_t bandwidth, const caladan_look *looks, size_t count,
                      uint8_t *judged, size_t judged_room, caladan_action *actions, size_t room, size_t *made);
 
@@ -300,6 +341,7 @@ uint8_t caladan_pass(caladan *handle, uint64_t now, uint64_t bandwidth, const ca
  * Record the looks that were taken: caladan_taken makes them; the judgement to record for a refused one is
  * CALADAN_BUSY [tested]. Other answers are as those of caladan_pass [wrong_count, no_room, closed, own,
  * refused]. */
+CALADAN_ANSWERS
 uint8_t caladan_pass_each(caladan *handle, uint64_t now, uint64_t bandwidth, const caladan_look *looks, size_t count,
                           uint8_t *judged, size_t judged_room, caladan_action *actions, size_t room, size_t *made);
 
@@ -307,7 +349,8 @@ uint8_t caladan_pass_each(caladan *handle, uint64_t now, uint64_t bandwidth, con
  * not fit [first; law misfits_do_not_fit]; DONE, each fits [none]; no other answer [answers], but
  * WRONG_COUNT [wrong_count] or IS_CLOSED [closed]. Only UNFIT writes *thread [other]. Nothing changes
  * [same]. */
-uint8_t caladan_first_unfit(caladan *handle, const caladan_look *looks, size_t count, size_t *thread);
+CALADAN_ANSWERS
+uint8_t caladan_first_unfit(const caladan *handle, const caladan_look *looks, size_t count, size_t *thread);
 
 /* What the table says of the machine: DONE [told], or IS_CLOSED [closed], which writes nothing [refused].
  * Nothing changes [same]. */
@@ -322,7 +365,7 @@ CALADAN_PLACE(caladan_machine, cores, 0);
 CALADAN_PLACE(caladan_machine, tasks, 1);
 CALADAN_PLACE(caladan_machine, threads, 2);
 CALADAN_PLACE(caladan_machine, bandwidth_limit, 8);
-uint8_t caladan_table(caladan *handle, caladan_machine *machine);
+uint8_t caladan_table(const caladan *handle, caladan_machine *machine);
 
 /* What the table says of a task: DONE [told] exactly of one that it has [there], else NO_SUCH [no_task];
  * IS_CLOSED [closed]. Unless DONE *row is as before [refused]. Nothing changes [same]. Its threads are
@@ -343,7 +386,7 @@ CALADAN_PLACE(caladan_table_row, limit, 2);
 CALADAN_PLACE(caladan_table_row, first_thread, 3);
 CALADAN_PLACE(caladan_table_row, delay, 8);
 CALADAN_PLACE(caladan_table_row, request, 16);
-uint8_t caladan_table_task(caladan *handle, size_t task, caladan_table_row *row);
+uint8_t caladan_table_task(const caladan *handle, size_t task, caladan_table_row *row);
 
 /* A thread after the passes so far: DONE [told] exactly of one that the table has [there], else NO_SUCH
  * [no_thread]; IS_CLOSED [closed]. Unless DONE *state is as before [refused]. Nothing changes [same]. Its
@@ -358,13 +401,13 @@ CALADAN_SIZE(caladan_thread_state, 24);
 CALADAN_PLACE(caladan_thread_state, task, 0);
 CALADAN_PLACE(caladan_thread_state, sent, 8);
 CALADAN_PLACE(caladan_thread_state, taken, 16);
-uint8_t caladan_thread(caladan *handle, size_t thread, caladan_thread_state *state);
+uint8_t caladan_thread(const caladan *handle, size_t thread, caladan_thread_state *state);
 
 /* The kept record of a thread after the passes so far, by which the next pass decides unless it keeps
  * another: as a look with these words, all else 0; before any record the words are 0 too [told]. DONE exactly
  * of a thread that the table has [there], else NO_SUCH [no_thread]; IS_CLOSED [closed]. Unless DONE *look is
  * as before [refused]. Nothing changes [same]. */
-uint8_t caladan_kept(caladan *handle, size_t thread, caladan_look *look);
+uint8_t caladan_kept(const caladan *handle, size_t thread, caladan_look *look);
 
 /* The record that a thread's page must show once the thread is gone, as a look without room: it has taken all
  * that was sent, is on no core and has no request; misses and stamp are the last shown; its place is the one
@@ -376,28 +419,35 @@ uint8_t caladan_kept(caladan *handle, size_t thread, caladan_look *look);
  * the thread showed more commands taken than were sent (only caladan_pass lets it), or a number is at its end
  * [lost]. Of a thread of the table DONE or LOST [there], else NO_SUCH [no_thread]; IS_CLOSED [closed]. Unless
  * DONE *look is as before [refused]. Nothing changes [same]; the look is good only for the next pass. */
-uint8_t caladan_gone(caladan *handle, size_t thread, caladan_look *look);
+CALADAN_ANSWERS
+uint8_t caladan_gone(const caladan *handle, size_t thread, caladan_look *look);
 
-/* A core's number as a byte; 255, which no table has, for a number that does not fit. The calls below take
- * any number, so that 256 is not core 0. */
+/* A core's number as a byte; 255, which no table has, for a number that does not fit. The calls whose names end
+ * in `_of` take any number, so that 256 is not core 0. */
 static inline uint8_t caladan_core(size_t core) { return core < UINT8_MAX ? (uint8_t)core : UINT8_MAX; }
 
 /* Who has a core after the passes so far: DONE [told] exactly of one that the table has [there], else
  * NO_SUCH [no_core]; IS_CLOSED [closed]. Unless DONE *holder is as before [refused]. Nothing changes
- * [same]. */
-uint8_t caladan_holder(caladan *handle, uint8_t core, caladan_holder_of_core *holder);
-#define caladan_holder(handle, core, holder) caladan_holder(handle, caladan_core(core), holder)
+ * [same]. The clauses are those of caladan_holder, the export that takes a byte; that caladan_holder_of hands
+ * the number on is tested. */
+CALADAN_OLD("call caladan_holder_of, which takes any number")
+uint8_t caladan_holder(const caladan *handle, uint8_t core, caladan_holder_of_core *holder);
+CALADAN_CALLS_OLD
+static inline uint8_t caladan_holder_of(const caladan *handle, size_t core, caladan_holder_of_core *holder) {
+    return caladan_holder(handle, caladan_core(core), holder);
+}
+CALADAN_CALLS_NEW
 
 /* What a task has after the passes so far: DONE [told] exactly of one that the table has [there], else
  * NO_SUCH [no_task]; IS_CLOSED [closed]. Unless DONE *counts is as before [refused]. Nothing changes
  * [same]. */
-uint8_t caladan_task(caladan *handle, size_t task, caladan_counts *counts);
+uint8_t caladan_task(const caladan *handle, size_t task, caladan_counts *counts);
 
 /* The thread to which you must send Park, for a core that the last pass revokes. DONE, IS_CLOSED, or NO_SUCH
  * if no thread is told to leave the core [tested]. */
-static inline uint8_t caladan_revoked(caladan *handle, size_t core, uint8_t *thread) {
+static inline uint8_t caladan_revoked(const caladan *handle, size_t core, uint8_t *thread) {
     caladan_holder_of_core holder;
-    uint8_t answer = caladan_holder(handle, core, &holder);
+    uint8_t answer = caladan_holder_of(handle, core, &holder);
     if (answer != CALADAN_DONE) return answer;
     if (holder.state != CALADAN_CORE_LEAVING) return CALADAN_NO_SUCH;
     *thread = holder.thread;
@@ -419,8 +469,9 @@ static inline caladan_look caladan_taken(const caladan_look *look, uint8_t judge
 uint8_t caladan_close(caladan *handle);
 
 /* A table from rows instead of a text. Each row is as caladan_table_task tells it; first_thread is not read.
- * These functions write the text of the rows and open that: nothing of it is proved, tools/c_library tests
- * it. */
+ * These functions are defined in caladan_rows.c, which you compile with your own files; where the library is
+ * installed they are in libcaladan_rows.a, and in libcaladan_c.so. They write the text of the rows and open
+ * that: nothing of it is proved, tools/c_library tests it. */
 enum { CALADAN_ROWS_ROOM = 2048, CALADAN_TOO_MANY_ROWS = 17 };
 
 /* Where a table of rows is refused. */
@@ -430,115 +481,23 @@ typedef struct caladan_wrong {
                           if none is at fault, as without memory */
 } caladan_wrong;
 
-static inline char *caladan_add_text(char *at, const char *text) {
-    size_t length = strlen(text);
-    memcpy(at, text, length);
-    return at + length;
-}
-
-/* A line of a key and its number. One above INT64_MAX is in no text, and is written as that: no key has as
- * much. */
-static inline char *caladan_add_number(char *at, const char *key, uint64_t number) {
-    char digits[20];
-    size_t count = 0;
-    at = caladan_add_text(caladan_add_text(at, key), " = ");
-    if (number > INT64_MAX) number = INT64_MAX;
-    do digits[count++] = (char)('0' + number % 10);
-    while (number /= 10);
-    while (count) *at++ = digits[--count];
-    *at++ = '\n';
-    return at;
-}
-
 /* Writes the text of a table, and answers its length. It writes no more than CALADAN_TOO_MANY_ROWS rows,
  * which are too many. */
-static inline size_t caladan_rows_text(size_t cores, uint64_t bandwidth_limit, const caladan_table_row *rows,
-                                       size_t count, char text[CALADAN_ROWS_ROOM]) {
-    char *at = caladan_add_number(text, "cores", cores);
-    at = caladan_add_number(at, "bandwidth_limit", bandwidth_limit);
-    if (!count) at = caladan_add_text(at, "task = []\n");
-    for (size_t k = 0; k < count && k < CALADAN_TOO_MANY_ROWS; k++) {
-        const char *kind = rows[k].kind == CALADAN_LATENCY_CRITICAL ? "lc"
-                           : rows[k].kind == CALADAN_BEST_EFFORT    ? "be"
-                                                                    : "none";
-        at = caladan_add_text(at, "[[task]]\nkind = \"");
-        at = caladan_add_text(caladan_add_text(at, kind), "\"\n");
-        at = caladan_add_number(at, "guaranteed", rows[k].guaranteed);
-        at = caladan_add_number(at, "limit", rows[k].limit);
-        at = caladan_add_number(at, "delay", rows[k].delay);
-        at = caladan_add_number(at, "request", rows[k].request);
-    }
-    return (size_t)(at - text);
-}
-
-/* Whether a table of these rows has this fault. */
-static inline bool caladan_is_refused(uint8_t fault, size_t cores, uint64_t bandwidth_limit,
-                                      const caladan_table_row *rows, size_t count) {
-    char text[CALADAN_ROWS_ROOM];
-    caladan handle = CALADAN_CLOSED;
-    uint8_t answer =
-        caladan_open((const uint8_t *)text, caladan_rows_text(cores, bandwidth_limit, rows, count, text), &handle);
-    if (answer == CALADAN_DONE) caladan_close(&handle);
-    return answer == fault;
-}
-
-/* Which field of a row has this fault by itself: the fields get their values in the order of the checks. */
-static inline const char *caladan_wrong_field(uint8_t fault, size_t cores, const caladan_table_row *row) {
-    caladan_table_row so_far = {CALADAN_LATENCY_CRITICAL, 0, 1, 0, 0, 0};
-    if (fault == CALADAN_GUARANTEES_EXCEED_CORES) return "guaranteed";
-    if (fault == CALADAN_TOO_MANY_THREADS) return "limit";
-    so_far.kind = row->kind;
-    if (caladan_is_refused(fault, cores, 0, &so_far, 1)) return "kind";
-    so_far.limit = row->limit;
-    if (caladan_is_refused(fault, cores, 0, &so_far, 1)) return "limit";
-    so_far.guaranteed = row->guaranteed;
-    if (caladan_is_refused(fault, cores, 0, &so_far, 1)) return "guaranteed";
-    so_far.delay = row->delay;
-    if (caladan_is_refused(fault, cores, 0, &so_far, 1)) return "delay";
-    so_far.request = row->request;
-    return caladan_is_refused(fault, cores, 0, &so_far, 1) ? "request" : NULL;
-}
-
-/* Where a table of rows has the fault for which it is refused. A sum is at fault in the row that makes it too
- * great. */
-static inline caladan_wrong caladan_find_wrong(uint8_t fault, size_t cores, uint64_t bandwidth_limit,
-                                               const caladan_table_row *rows, size_t count) {
-    caladan_table_row plain[CALADAN_TOO_MANY_ROWS];
-    caladan_wrong wrong = {count, NULL};
-    const size_t most = CALADAN_TOO_MANY_ROWS, few = count < most ? count : most;
-    for (size_t k = 0; k < CALADAN_TOO_MANY_ROWS; k++) {
-        caladan_table_row row = {CALADAN_LATENCY_CRITICAL, 0, 1, 0, 0, 0};
-        plain[k] = row;
-    }
-    if (caladan_is_refused(fault, cores, 0, plain, 1)) wrong.field = "cores";
-    else if (caladan_is_refused(fault, 2, bandwidth_limit, plain, 1)) wrong.field = "bandwidth_limit";
-    else if (caladan_is_refused(fault, 2, 0, plain, few)) wrong.field = "count";
-    for (size_t k = 0; k < few && !wrong.field && wrong.row == count; k++)
-        if (caladan_is_refused(fault, cores, bandwidth_limit, rows, k + 1)) wrong.row = k;
-    if (wrong.row < count) wrong.field = caladan_wrong_field(fault, cores, &rows[wrong.row]);
-    return wrong;
-}
-
-/* The answer of a call that opened the table of these rows; where it is a fault of the table, *wrong says
- * where. wrong may be null. */
-static inline uint8_t caladan_rows_answer(uint8_t answer, size_t cores, uint64_t bandwidth_limit,
-                                          const caladan_table_row *rows, size_t count, caladan_wrong *wrong) {
-    if (wrong && answer && answer < CALADAN_NO_MEMORY)
-        *wrong = caladan_find_wrong(answer, cores, bandwidth_limit, rows, count);
-    return answer;
-}
+size_t caladan_rows_text(size_t cores, uint64_t bandwidth_limit, const caladan_table_row *rows, size_t count,
+                         char text[CALADAN_ROWS_ROOM]);
 
 /* Opens the table of these rows in a closed handle: what caladan_open answers to their text. Of the faults of
  * a table there remain OUT_OF_RANGE, BEST_EFFORT_GUARANTEE, GUARANTEES_EXCEED_CORES and TOO_MANY_THREADS; for
  * each *wrong is the place where the checks of docs/POLICY.md find it first, and no other answer writes it
- * [tested]. wrong may be null. For another policy give the text of caladan_rows_text to caladan_open_policy. */
-static inline uint8_t caladan_open_rows(size_t cores, uint64_t bandwidth_limit, const caladan_table_row *rows,
-                                        size_t count, caladan *handle, caladan_wrong *wrong) {
-    char text[CALADAN_ROWS_ROOM];
-    uint8_t answer =
-        caladan_open((const uint8_t *)text, caladan_rows_text(cores, bandwidth_limit, rows, count, text), handle);
-    return caladan_rows_answer(answer, cores, bandwidth_limit, rows, count, wrong);
-}
+ * [tested]. wrong may be null. */
+CALADAN_ANSWERS
+uint8_t caladan_open_rows(size_t cores, uint64_t bandwidth_limit, const caladan_table_row *rows,
+                          size_t count, caladan *handle, caladan_wrong *wrong);
+
+/* The same by the policy with a number: what caladan_open_policy answers to the text [tested]. */
+CALADAN_ANSWERS
+uint8_t caladan_open_rows_policy(size_t cores, uint64_t bandwidth_limit, const caladan_table_row *rows,
+                                 size_t count, uint32_t policy, caladan *handle, caladan_wrong *wrong);
 
 /* The first clock that is more than `ticks` after `came`, if it is after now and before `next`; else next. */
 static inline uint64_t caladan_first_clock(uint64_t came, uint64_t ticks, uint64_t now, uint64_t next) {
@@ -552,7 +511,8 @@ static inline uint64_t caladan_first_clock(uint64_t came, uint64_t ticks, uint64
  * than its task's row says, which may change what a pass does; UINT64_MAX: at no clock. DONE or IS_CLOSED,
  * which writes nothing. It uses the kept records and the table alone, and is not proved; tools/c_library
  * tests it against the passes of each example of decide, and on made ones. */
-static inline uint8_t caladan_next_clock(caladan *handle, uint64_t now, uint64_t *clock) {
+CALADAN_ANSWERS
+static inline uint8_t caladan_next_clock(const caladan *handle, uint64_t now, uint64_t *clock) {
     caladan_machine machine;
     uint64_t next = UINT64_MAX;
     uint8_t answer = caladan_table(handle, &machine);
@@ -560,9 +520,9 @@ static inline uint8_t caladan_next_clock(caladan *handle, uint64_t now, uint64_t
     for (size_t task = 0; task < machine.tasks; task++) {
         caladan_table_row row;
         caladan_look kept;
-        caladan_table_task(handle, task, &row);
+        if ((answer = caladan_table_task(handle, task, &row))) return answer;
         for (size_t k = row.first_thread; k < (size_t)row.first_thread + row.limit; k++) {
-            caladan_kept(handle, k, &kept);
+            if ((answer = caladan_kept(handle, k, &kept))) return answer;
             if (kept.queued) next = caladan_first_clock(kept.oldest, row.delay, now, next);
             if (kept.paused) next = caladan_first_clock(kept.since, row.delay, now, next);
             if (row.kind == CALADAN_LATENCY_CRITICAL && kept.running && kept.started)
@@ -592,20 +552,22 @@ CALADAN_PLACE(caladan_audit, at, 8);
 
 /* Opens an audit of the task table that a text spells, in a closed handle, as caladan_open does [opened,
  * already, refused]. */
+CALADAN_ANSWERS
 uint8_t caladan_audit_open(const uint8_t *table, size_t length, caladan_audit *audit);
 
 /* The same by the policy with a number, as for caladan_open_policy: the audit judges by that policy [opened,
  * no_policy, already, refused]. */
+CALADAN_ANSWERS
 uint8_t caladan_audit_open_policy(const uint8_t *table, size_t length, uint32_t policy, caladan_audit *audit);
 
-/* Opens the table of these rows, as caladan_open_rows does [tested]. */
-static inline uint8_t caladan_audit_open_rows(size_t cores, uint64_t bandwidth_limit, const caladan_table_row *rows,
-                                              size_t count, caladan_audit *audit, caladan_wrong *wrong) {
-    char text[CALADAN_ROWS_ROOM];
-    uint8_t answer =
-        caladan_audit_open((const uint8_t *)text, caladan_rows_text(cores, bandwidth_limit, rows, count, text), audit);
-    return caladan_rows_answer(answer, cores, bandwidth_limit, rows, count, wrong);
-}
+/* Opens the table of these rows, as caladan_open_rows and caladan_open_rows_policy do [tested]. */
+CALADAN_ANSWERS
+uint8_t caladan_audit_open_rows(size_t cores, uint64_t bandwidth_limit, const caladan_table_row *rows,
+                                size_t count, caladan_audit *audit, caladan_wrong *wrong);
+CALADAN_ANSWERS
+uint8_t caladan_audit_open_rows_policy(size_t cores, uint64_t bandwidth_limit,
+                                       const caladan_table_row *rows, size_t count, uint32_t policy,
+                                       caladan_audit *audit, caladan_wrong *wrong);
 
 /* The next recorded pass: its looks, the judgement of each (the same count), and its actions, as caladan_pass
  * takes and answers them. DONE if it was taken, legal or not [taken]; else IS_CLOSED [closed], WRONG_COUNT
@@ -614,6 +576,7 @@ static inline uint8_t caladan_audit_open_rows(size_t cores, uint64_t bandwidth_l
  * [own], and then nothing has changed [refused]. You may give more or fewer looks than the table has threads:
  * such a pass is taken [answers], and is not legal ([legal] of caladan_audit_verdict). A pass of
  * caladan_pass_each is recorded by the looks that it took (caladan_taken). */
+CALADAN_ANSWERS
 uint8_t caladan_audit_pass(caladan_audit *audit, uint64_t now, uint64_t bandwidth, const caladan_look *looks,
                            size_t count, const uint8_t *judged, size_t judged_count, const caladan_action *actions,
                            size_t made);
@@ -621,7 +584,8 @@ uint8_t caladan_audit_pass(caladan_audit *audit, uint64_t now, uint64_t bandwidt
 /* The audit's verdict on the passes so far: DONE, each is legal [legal]; ILLEGAL, and *pass is the first
  * that is not, counted from 0 (passes after it are not looked at) [illegal]; no other answer [answers], but
  * IS_CLOSED [closed]. Only ILLEGAL writes *pass [other]. Nothing changes [same]. */
-uint8_t caladan_audit_verdict(caladan_audit *audit, uint64_t *pass);
+CALADAN_ANSWERS
+uint8_t caladan_audit_verdict(const caladan_audit *audit, uint64_t *pass);
 
 /* Lets go of what the audit keeps: DONE [closed], and the handle is closed then [after]; or IS_CLOSED
  * [already], and nothing changes [other]. */
@@ -633,7 +597,8 @@ uint8_t caladan_audit_close(caladan_audit *audit);
  * (No core has two threads, no task more cores than its limit, no revocation goes below a guarantee, no
  * banned core is granted or stays held, and more.) It always lets a pass without actions through [law
  * doing_nothing_is_permitted], so a policy may always do nothing. A Ban of a core that is held is followed at
- * once by the revocation of that core, and a Cap below what the task holds by those that bring it down to it. */
+ * once by the revocation of that core, and a Cap below what the task holds by those that bring it down to it.
+ * A guard is opened by no policy: it permits what each of them does [law each_policy_is_permitted]. */
 typedef struct caladan_guard {
     bool open;
     void *at;
@@ -680,16 +645,13 @@ CALADAN_PLACE(caladan_refused, names, 9);
 /* Opens a guard of the task table that a text spells, in a closed handle, as caladan_open does [opened,
  * already, refused]. Takes all the memory that passes of at most CALADAN_MOST_ACTIONS actions need [not
  * proved]. */
+CALADAN_ANSWERS
 uint8_t caladan_guard_open(const uint8_t *table, size_t length, caladan_guard *guard);
 
 /* Opens the table of these rows, as caladan_open_rows does [tested]. */
-static inline uint8_t caladan_guard_open_rows(size_t cores, uint64_t bandwidth_limit, const caladan_table_row *rows,
-                                              size_t count, caladan_guard *guard, caladan_wrong *wrong) {
-    char text[CALADAN_ROWS_ROOM];
-    uint8_t answer =
-        caladan_guard_open((const uint8_t *)text, caladan_rows_text(cores, bandwidth_limit, rows, count, text), guard);
-    return caladan_rows_answer(answer, cores, bandwidth_limit, rows, count, wrong);
-}
+CALADAN_ANSWERS
+uint8_t caladan_guard_open_rows(size_t cores, uint64_t bandwidth_limit, const caladan_table_row *rows,
+                                size_t count, caladan_guard *guard, caladan_wrong *wrong);
 
 /* The next pass: one look for each thread, in thread order, room for as many judgements, and the chosen
  * actions, as caladan_pass answers them (unused fields are 0). DONE: each is permitted at its place and the
@@ -700,6 +662,7 @@ static inline uint8_t caladan_guard_open_rows(size_t cores, uint64_t bandwidth_l
  * which can come only with more than CALADAN_MOST_ACTIONS actions [not proved]; for a closed handle IS_CLOSED
  * [closed]; no other number [own]. Unless DONE the guard is as before and nothing is judged [unchanged]: you
  * may hand in the same pass again with other actions. */
+CALADAN_ANSWERS
 uint8_t caladan_guard_pass(caladan_guard *guard, uint64_t now, uint64_t bandwidth, const caladan_look *looks,
                            size_t count, uint8_t *judged, size_t judged_room, const caladan_action *actions,
                            size_t made, caladan_refused *refused);
@@ -710,19 +673,21 @@ uint8_t caladan_guard_pass(caladan_guard *guard, uint64_t now, uint64_t bandwidt
  * that a policy that chooses again knows which looks count as busy; no other answer writes any [unjudged].
  * Unless DONE the guard is as before [unchanged]. Other answers are as those of caladan_guard_pass
  * [wrong_count, no_room, no_action, told, closed, own]. */
+CALADAN_ANSWERS
 uint8_t caladan_guard_pass_each(caladan_guard *guard, uint64_t now, uint64_t bandwidth, const caladan_look *looks,
                                 size_t count, uint8_t *judged, size_t judged_room, const caladan_action *actions,
                                 size_t made, caladan_refused *refused);
 
 /* Which look caladan_guard_pass would answer UNFIT to, as caladan_first_unfit says it [first, none,
  * answers, wrong_count, closed, other, same]. */
-uint8_t caladan_guard_first_unfit(caladan_guard *guard, const caladan_look *looks, size_t count, size_t *thread);
+CALADAN_ANSWERS
+uint8_t caladan_guard_first_unfit(const caladan_guard *guard, const caladan_look *looks, size_t count, size_t *thread);
 
 /* The table, and a thread after the passes that went through, as from caladan_table, caladan_table_task and
  * caladan_thread [their clauses]. */
-uint8_t caladan_guard_table(caladan_guard *guard, caladan_machine *machine);
-uint8_t caladan_guard_table_task(caladan_guard *guard, size_t task, caladan_table_row *row);
-uint8_t caladan_guard_thread(caladan_guard *guard, size_t thread, caladan_thread_state *state);
+uint8_t caladan_guard_table(const caladan_guard *guard, caladan_machine *machine);
+uint8_t caladan_guard_table_task(const caladan_guard *guard, size_t task, caladan_table_row *row);
+uint8_t caladan_guard_thread(const caladan_guard *guard, size_t thread, caladan_thread_state *state);
 
 /* The record that a thread's page must show once the thread is gone, as from caladan_gone [told, lost, there,
  * no_thread, closed, refused, same]. It fits and is kept [told; law permitted_gone_is_kept]. A guard frees
@@ -730,15 +695,22 @@ uint8_t caladan_guard_thread(caladan_guard *guard, size_t thread, caladan_thread
  * leaves (it has at most one [law threads_have_one_core]) and does nothing else [told; law
  * gone_may_be_freed]. While its looks have no room, no action that sends it a command is permitted ([stopped]
  * and [through] of caladan_guard_pass). */
-uint8_t caladan_guard_gone(caladan_guard *guard, size_t thread, caladan_look *look);
+CALADAN_ANSWERS
+uint8_t caladan_guard_gone(const caladan_guard *guard, size_t thread, caladan_look *look);
 
-/* Who has a core after the passes that went through, as from caladan_holder [told, there, no_core,
+/* Who has a core after the passes that went through, as from caladan_holder_of [told, there, no_core,
  * closed, refused, same]. */
-uint8_t caladan_guard_holder(caladan_guard *guard, uint8_t core, caladan_holder_of_core *holder);
-#define caladan_guard_holder(guard, core, holder) caladan_guard_holder(guard, caladan_core(core), holder)
+CALADAN_OLD("call caladan_guard_holder_of, which takes any number")
+uint8_t caladan_guard_holder(const caladan_guard *guard, uint8_t core, caladan_holder_of_core *holder);
+CALADAN_CALLS_OLD
+static inline uint8_t caladan_guard_holder_of(const caladan_guard *guard, size_t core,
+                                              caladan_holder_of_core *holder) {
+    return caladan_guard_holder(guard, caladan_core(core), holder);
+}
+CALADAN_CALLS_NEW
 
 /* What a task has after them, as from caladan_task [told, there, no_task, closed, refused, same]. */
-uint8_t caladan_guard_task(caladan_guard *guard, size_t task, caladan_counts *counts);
+uint8_t caladan_guard_task(const caladan_guard *guard, size_t task, caladan_counts *counts);
 
 /* Facts for a policy of your own. None of these calls changes anything [same]; each answers IS_CLOSED for a
  * closed handle [closed], and writes only if it answers DONE [refused].
@@ -749,9 +721,9 @@ uint8_t caladan_guard_task(caladan_guard *guard, size_t task, caladan_counts *co
  * number [own].
  * caladan_guard_kept: the kept record of a thread, as from caladan_kept [told, there, no_thread]. In the next
  * pass it counts in place of a look that is not judged KEPT.
- * caladan_guard_ban: whether a core is banned, and for whom [told]. DONE exactly of a core that the table has
+ * caladan_guard_ban_of: whether a core is banned, and for whom [told]. DONE exactly of a core that the table has
  * [there], else NO_SUCH [no_core].
- * caladan_guard_last: to which thread a core was granted last, and its task [told]. DONE exactly of a core
+ * caladan_guard_last_of: to which thread a core was granted last, and its task [told]. DONE exactly of a core
  * that the table has [there], else NO_SUCH [no_core]. */
 typedef struct caladan_core_ban {
     uint8_t banned;   /* 1; else 0, and all is 0 */
@@ -771,19 +743,28 @@ CALADAN_SIZE(caladan_core_last, 3);
 CALADAN_PLACE(caladan_core_last, granted, 0);
 CALADAN_PLACE(caladan_core_last, thread, 1);
 CALADAN_PLACE(caladan_core_last, task, 2);
-uint8_t caladan_guard_judge(caladan_guard *guard, const caladan_look *looks, size_t count, uint8_t *judged,
+CALADAN_ANSWERS
+uint8_t caladan_guard_judge(const caladan_guard *guard, const caladan_look *looks, size_t count, uint8_t *judged,
                             size_t judged_room);
-uint8_t caladan_guard_kept(caladan_guard *guard, size_t thread, caladan_look *look);
-uint8_t caladan_guard_ban(caladan_guard *guard, uint8_t core, caladan_core_ban *ban);
-#define caladan_guard_ban(guard, core, ban) caladan_guard_ban(guard, caladan_core(core), ban)
-uint8_t caladan_guard_last(caladan_guard *guard, uint8_t core, caladan_core_last *last);
-#define caladan_guard_last(guard, core, last) caladan_guard_last(guard, caladan_core(core), last)
+uint8_t caladan_guard_kept(const caladan_guard *guard, size_t thread, caladan_look *look);
+CALADAN_OLD("call caladan_guard_ban_of, which takes any number")
+uint8_t caladan_guard_ban(const caladan_guard *guard, uint8_t core, caladan_core_ban *ban);
+CALADAN_OLD("call caladan_guard_last_of, which takes any number")
+uint8_t caladan_guard_last(const caladan_guard *guard, uint8_t core, caladan_core_last *last);
+CALADAN_CALLS_OLD
+static inline uint8_t caladan_guard_ban_of(const caladan_guard *guard, size_t core, caladan_core_ban *ban) {
+    return caladan_guard_ban(guard, caladan_core(core), ban);
+}
+static inline uint8_t caladan_guard_last_of(const caladan_guard *guard, size_t core, caladan_core_last *last) {
+    return caladan_guard_last(guard, caladan_core(core), last);
+}
+CALADAN_CALLS_NEW
 
 /* The thread to which you must send Park, for a core that the last pass revokes: DONE, IS_CLOSED, or NO_SUCH
  * if no thread is told to leave the core [tested]. */
-static inline uint8_t caladan_guard_revoked(caladan_guard *guard, size_t core, uint8_t *thread) {
+static inline uint8_t caladan_guard_revoked(const caladan_guard *guard, size_t core, uint8_t *thread) {
     caladan_holder_of_core holder;
-    uint8_t answer = caladan_guard_holder(guard, core, &holder);
+    uint8_t answer = caladan_guard_holder_of(guard, core, &holder);
     if (answer != CALADAN_DONE) return answer;
     if (holder.state != CALADAN_CORE_LEAVING) return CALADAN_NO_SUCH;
     *thread = holder.thread;

@@ -28,10 +28,11 @@
  *    blocked meanwhile.
  *  - A thread that ends within its turn leaves the page busy for all who publish on it. The page is buried
  *    only when all of them are gone: before that, the record would say of the living that they are gone.
- * With CALADAN_CHECKED defined (in every file that shares a publisher) the calls check these rules, and call
- * CALADAN_BROKEN(why) where one is broken; that is abort() unless you define it. It is meant for tests and
- * debug builds. Noticed are a wrong address, a publication or a taking that was entered again, a publication
- * on a page on which somebody else has published, and a word or an end of a turn that nobody has.
+ * With CALADAN_CHECKED defined the calls check these rules, and call CALADAN_BROKEN(why) where one is broken;
+ * that is abort() unless you define it. It is meant for tests and debug builds. Files with and without it may
+ * share a publisher: its layout is the same, and each checks what it does itself. Noticed are a wrong address,
+ * a publication or a taking that was entered again, a publication on a page on which somebody else has
+ * published, and a word or an end of a turn that nobody has.
  *
  * ORDER. Loads and stores are as weak as each allows; the reason is beside it, or beside the like one of
  * caladan_page_open and caladan_page_close. On x86 each is a plain move
@@ -101,14 +102,14 @@ CALADAN_SIZE(caladan_page, 128);
 CALADAN_PLACE(caladan_page, version, 0);
 CALADAN_PLACE(caladan_page, words, 8);
 
-/* A publisher's own state: the last place. */
+/* A publisher's own state: the last place; and CALADAN_ENTERED, where a publication with it has begun in a file
+ * with checks. */
 typedef struct caladan_publisher {
     caladan_page *page;
     uint64_t place;
-#ifdef CALADAN_CHECKED
-    volatile int entered; /* 0, or a publication with it has begun */
-#endif
 } caladan_publisher;
+CALADAN_SIZE(caladan_publisher, 2 * sizeof(uint64_t));
+#define CALADAN_ENTERED ((uint64_t)1 << 63)
 
 /* Opens a page for the record after this place: it is busy until caladan_page_close. */
 static inline void caladan_page_open(caladan_page *page, uint64_t place) {
@@ -130,10 +131,11 @@ static inline void caladan_page_close(caladan_page *page, uint64_t place, const 
 /* Begins to publish: the page is busy until caladan_publish_end. */
 static inline void caladan_publish_begin(caladan_publisher *publisher) {
 #ifdef CALADAN_CHECKED
-    CALADAN_OWED(publisher->entered == 0, "a publication was begun within another one with the same publisher");
-    publisher->entered = 1;
+    CALADAN_OWED(!(*(volatile uint64_t *)&publisher->place & CALADAN_ENTERED),
+                 "a publication was begun within another one with the same publisher");
+    *(volatile uint64_t *)&publisher->place |= CALADAN_ENTERED;
     CALADAN_STD(atomic_signal_fence)(CALADAN_STD(memory_order_seq_cst));
-    CALADAN_OWED(CALADAN_LOAD(&publisher->page->version, relaxed) / 2 == publisher->place,
+    CALADAN_OWED(CALADAN_LOAD(&publisher->page->version, relaxed) / 2 == (publisher->place & ~CALADAN_ENTERED),
                  "somebody else published on the page");
 #endif
     caladan_page_open(publisher->page, publisher->place);
@@ -141,13 +143,14 @@ static inline void caladan_publish_begin(caladan_publisher *publisher) {
 
 /* Ends it; answers the record's place. taken, misses and stamp (words 0, 5 and 6) may never fall. */
 static inline uint64_t caladan_publish_end(caladan_publisher *publisher, const uint64_t words[CALADAN_WORDS]) {
-    publisher->place++;
-    caladan_page_close(publisher->page, publisher->place, words);
 #ifdef CALADAN_CHECKED
-    CALADAN_OWED(publisher->entered == 1, "a publication was ended that was not begun");
-    publisher->entered = 0;
+    /* busy: a publication that was begun in a file without checks has only that */
+    CALADAN_OWED((publisher->place & CALADAN_ENTERED) || CALADAN_LOAD(&publisher->page->version, relaxed) % 2 == 1,
+                 "a publication was ended that was not begun");
 #endif
-    return publisher->place;
+    uint64_t place = (publisher->place & ~CALADAN_ENTERED) + 1;
+    caladan_page_close(publisher->page, place, words);
+    return publisher->place = place;
 }
 
 static inline uint64_t caladan_publish(caladan_publisher *publisher, const uint64_t words[CALADAN_WORDS]) {
@@ -193,9 +196,6 @@ static inline bool caladan_adopt(caladan_publisher *publisher, caladan_page *pag
     for (int i = 0; i < CALADAN_WORDS; i++) words[i] = CALADAN_LOAD(&page->words[i], relaxed);
     publisher->page = page;
     publisher->place = version / 2;
-#ifdef CALADAN_CHECKED
-    publisher->entered = 0;
-#endif
     return version % 2 == 0;
 }
 

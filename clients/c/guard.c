@@ -12,10 +12,10 @@ static const char TABLE[] = "cores = 4\nbandwidth_limit = 1000\n\n"
                             "[[task]]\nkind = \"be\"\nguaranteed = 0\nlimit = 2\ndelay = 0\nrequest = 0\n";
 enum { THREADS = 4 };
 
-#define WANT(got, wanted) do { unsigned long long g = (got), w = (wanted); \
+#define WANT(got, wanted) do { unsigned long long g = (unsigned long long)(got), w = (wanted); \
     if (g != w) { printf("line %d: %s is %llu, not %llu\n", __LINE__, #got, g, w); return 1; } } while (0)
 
-static caladan_guard guard = CALADAN_GUARD_CLOSED;
+static caladan_guard guard; /* closed: CALADAN_GUARD_CLOSED is all zeros */
 static caladan_look looks[THREADS];
 static uint8_t judged[THREADS];
 static caladan_refused refused;
@@ -55,12 +55,12 @@ static int closed(void) {
     caladan_core_last last = {9, 9, 9};
     WANT(caladan_guard_judge(&guard, looks, THREADS, judged, THREADS), CALADAN_IS_CLOSED);
     WANT(caladan_guard_kept(&guard, 0, &looks[0]), CALADAN_IS_CLOSED);
-    WANT(caladan_guard_ban(&guard, 0, &ban), CALADAN_IS_CLOSED);
-    WANT(caladan_guard_last(&guard, 0, &last), CALADAN_IS_CLOSED);
+    WANT(caladan_guard_ban_of(&guard, 0, &ban), CALADAN_IS_CLOSED);
+    WANT(caladan_guard_last_of(&guard, 0, &last), CALADAN_IS_CLOSED);
     WANT(ban.banned + last.granted, 18);
     WANT(hand(NULL, 0), CALADAN_IS_CLOSED);
     WANT(refused.why, 77);
-    WANT(caladan_guard_holder(&guard, 0, &holder), CALADAN_IS_CLOSED);
+    WANT(caladan_guard_holder_of(&guard, 0, &holder), CALADAN_IS_CLOSED);
     WANT(caladan_guard_task(&guard, 0, &counts), CALADAN_IS_CLOSED);
     WANT(caladan_guard_close(&guard), CALADAN_IS_CLOSED);
     WANT(holder.state, 9);
@@ -68,7 +68,7 @@ static int closed(void) {
     WANT(caladan_guard_open((const uint8_t *)"cores", 5, &guard), CALADAN_NOT_TOML);
     WANT(open_guard(), CALADAN_DONE);
     WANT(open_guard(), CALADAN_IS_OPEN);
-    WANT(caladan_guard_holder(&guard, 4, &holder), CALADAN_NO_SUCH);
+    WANT(caladan_guard_holder_of(&guard, 4, &holder), CALADAN_NO_SUCH);
     WANT(caladan_guard_task(&guard, 2, &counts), CALADAN_NO_SUCH);
     WANT(caladan_guard_task(&guard, 1, &counts), CALADAN_DONE);
     WANT(counts.cap, 2);
@@ -119,12 +119,12 @@ static int through(void) {
     caladan_counts counts;
     const caladan_action first[] = {grant(3, 0), grant(0, 2)},
                          second[] = {ban(0), {.kind = CALADAN_REVOKE, .core = 0, .cause = CALADAN_FOR_BAN, .by = 0}};
-    WANT(caladan_guard_holder(&guard, 3, &holder), CALADAN_DONE);
+    WANT(caladan_guard_holder_of(&guard, 3, &holder), CALADAN_DONE);
     WANT(holder.state, CALADAN_CORE_FREE); /* what was refused so far changed nothing */
     WANT(hand(first, 2), CALADAN_DONE);
     WANT(judged[0], CALADAN_KEPT);
     WANT(refused.why, 77);
-    WANT(caladan_guard_holder(&guard, 3, &holder), CALADAN_DONE);
+    WANT(caladan_guard_holder_of(&guard, 3, &holder), CALADAN_DONE);
     WANT(holder.state, CALADAN_CORE_HELD);
     WANT(holder.thread, 0);
     looks[0] = (caladan_look){.room = 1, .number = 1, .taken = 1, .running = 4, .started = 10, .stamp = 10};
@@ -133,7 +133,7 @@ static int through(void) {
     WANT(hand(second, 2), CALADAN_DONE);
     WANT(judged[0], CALADAN_KEPT);
     WANT(judged[2], CALADAN_FOREIGN); /* it shows a core that its thread was not given */
-    WANT(caladan_guard_holder(&guard, 0, &holder), CALADAN_DONE);
+    WANT(caladan_guard_holder_of(&guard, 0, &holder), CALADAN_DONE);
     WANT(holder.state, CALADAN_CORE_LEAVING);
     WANT(holder.cause, CALADAN_FOR_BAN);
     WANT(caladan_guard_task(&guard, 1, &counts), CALADAN_DONE);
@@ -148,21 +148,21 @@ static int seen(void) {
     caladan_core_ban ban;
     caladan_core_last last;
     caladan_look kept;
-    WANT(caladan_guard_ban(&guard, 0, &ban), CALADAN_DONE);
+    WANT(caladan_guard_ban_of(&guard, 0, &ban), CALADAN_DONE);
     WANT(ban.banned, 1); /* for whom, as it was chosen */
     WANT(ban.thread, 0);
     WANT(ban.started, 0);
-    WANT(caladan_guard_ban(&guard, 1, &ban), CALADAN_DONE);
+    WANT(caladan_guard_ban_of(&guard, 1, &ban), CALADAN_DONE);
     WANT(ban.banned, 0);
-    WANT(caladan_guard_last(&guard, 0, &last), CALADAN_DONE);
+    WANT(caladan_guard_last_of(&guard, 0, &last), CALADAN_DONE);
     WANT(last.granted, 1);
     WANT(last.thread, 2);
     WANT(last.task, 1);
-    WANT(caladan_guard_last(&guard, 1, &last), CALADAN_DONE);
+    WANT(caladan_guard_last_of(&guard, 1, &last), CALADAN_DONE);
     WANT(last.granted, 0);
-    WANT(caladan_guard_ban(&guard, 4, &ban), CALADAN_NO_SUCH);
-    WANT(caladan_guard_ban(&guard, 256, &ban), CALADAN_NO_SUCH);
-    WANT(caladan_guard_last(&guard, 256, &last), CALADAN_NO_SUCH);
+    WANT(caladan_guard_ban_of(&guard, 4, &ban), CALADAN_NO_SUCH);
+    WANT(caladan_guard_ban_of(&guard, 256, &ban), CALADAN_NO_SUCH);
+    WANT(caladan_guard_last_of(&guard, 256, &last), CALADAN_NO_SUCH);
     WANT(caladan_guard_kept(&guard, THREADS, &kept), CALADAN_NO_SUCH);
     WANT(caladan_guard_kept(&guard, 0, &kept), CALADAN_DONE);
     looks[0].number = 0, looks[0].room = 0;

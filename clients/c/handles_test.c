@@ -41,7 +41,7 @@ static void is_no_scheduler(caladan *it) {
     CHECK(caladan_first_unfit(it, looks, THREADS, &thread) == CALADAN_IS_CLOSED);
     CHECK(caladan_table(it, &machine) == CALADAN_IS_CLOSED && caladan_table_task(it, 0, &row) == CALADAN_IS_CLOSED);
     CHECK(caladan_thread(it, 0, &state) == CALADAN_IS_CLOSED && caladan_gone(it, 0, &look) == CALADAN_IS_CLOSED);
-    CHECK(caladan_kept(it, 0, &look) == CALADAN_IS_CLOSED && caladan_holder(it, 0, &holder) == CALADAN_IS_CLOSED);
+    CHECK(caladan_kept(it, 0, &look) == CALADAN_IS_CLOSED && caladan_holder_of(it, 0, &holder) == CALADAN_IS_CLOSED);
     CHECK(caladan_task(it, 0, &counts) == CALADAN_IS_CLOSED && caladan_close(it) == CALADAN_IS_CLOSED && it->open);
 }
 
@@ -55,11 +55,12 @@ static void is_no_guard(caladan_guard *it) {
           caladan_guard_table_task(it, 0, &row) == CALADAN_IS_CLOSED);
     CHECK(caladan_guard_thread(it, 0, &state) == CALADAN_IS_CLOSED &&
           caladan_guard_gone(it, 0, &look) == CALADAN_IS_CLOSED);
-    CHECK(caladan_guard_holder(it, 0, &holder) == CALADAN_IS_CLOSED &&
+    CHECK(caladan_guard_holder_of(it, 0, &holder) == CALADAN_IS_CLOSED &&
           caladan_guard_task(it, 0, &counts) == CALADAN_IS_CLOSED);
     CHECK(caladan_guard_judge(it, looks, THREADS, judged, THREADS) == CALADAN_IS_CLOSED &&
           caladan_guard_kept(it, 0, &look) == CALADAN_IS_CLOSED);
-    CHECK(caladan_guard_ban(it, 0, &ban) == CALADAN_IS_CLOSED && caladan_guard_last(it, 0, &last) == CALADAN_IS_CLOSED);
+    CHECK(caladan_guard_ban_of(it, 0, &ban) == CALADAN_IS_CLOSED &&
+          caladan_guard_last_of(it, 0, &last) == CALADAN_IS_CLOSED);
     CHECK(caladan_guard_close(it) == CALADAN_IS_CLOSED && it->open);
 }
 
@@ -112,7 +113,7 @@ static void look_at_pass(caladan *handle, uint64_t pass, caladan_look of[THREADS
     }
 }
 
-static caladan shared = CALADAN_CLOSED;
+static caladan shared; /* closed: CALADAN_CLOSED is all zeros */
 static actions_of_pass by_threads[PASSES], by_one[PASSES];
 static size_t counts_by_threads[PASSES], counts_by_one[PASSES];
 

@@ -70,7 +70,7 @@ static void try_told(caladan_guard *guard) {
     WATCHED(caladan_thread_state) state;
     WATCHED(caladan_look) gone;
     FILL(holder);
-    CHECK(caladan_guard_holder(guard, 2, &holder.told) == CALADAN_DONE && is_whole(holder.behind));
+    CHECK(caladan_guard_holder_of(guard, 2, &holder.told) == CALADAN_DONE && is_whole(holder.behind));
     CHECK(holder.told.state == CALADAN_CORE_LEAVING && holder.told.thread == LEAVES &&
           holder.told.cause == CALADAN_FOR_BAN && holder.told.cause_of == 3);
     FILL(counts);
@@ -95,10 +95,10 @@ static void try_cores(caladan_guard *guard) {
     WATCHED(caladan_core_last) last;
     WATCHED(caladan_look) kept;
     FILL(ban);
-    CHECK(caladan_guard_ban(guard, 2, &ban.told) == CALADAN_DONE && is_whole(ban.behind));
+    CHECK(caladan_guard_ban_of(guard, 2, &ban.told) == CALADAN_DONE && is_whole(ban.behind));
     CHECK(ban.told.banned == 1 && ban.told.thread == STAYS && ban.told.started == 777);
     FILL(last);
-    CHECK(caladan_guard_last(guard, 3, &last.told) == CALADAN_DONE && is_whole(last.behind));
+    CHECK(caladan_guard_last_of(guard, 3, &last.told) == CALADAN_DONE && is_whole(last.behind));
     CHECK(last.told.granted == 1 && last.told.thread == STAYS && last.told.task == 1);
     FILL(kept);
     CHECK(caladan_guard_kept(guard, LEAVES, &kept.told) == CALADAN_DONE && is_whole(kept.behind));

@@ -191,7 +191,7 @@ static int succeed(host *it, shared *all, uint64_t number) {
     if (pass(it, all, number, &granted)) return 1;
     for (uint8_t core = 0; core < 4; core++) {
         caladan_holder_of_core holder;
-        if (caladan_holder(&it->each, core, &holder) ||
+        if (caladan_holder_of(&it->each, core, &holder) ||
             (holder.state != CALADAN_CORE_FREE && holder.thread == LIAR && !granted))
             return wrong("the gone one's core is not free", number);
     }

@@ -256,7 +256,7 @@ static void try_guarded_gone(void) {
     looks[LIAR] = gone;
     is = hand(&guard, 101, looks, &freed, 1);
     CHECK(is.answer == CALADAN_DONE && is.judged[LIAR] == CALADAN_KEPT);
-    CHECK(caladan_guard_holder(&guard, 2, &holder) == CALADAN_DONE && holder.state == CALADAN_CORE_FREE);
+    CHECK(caladan_guard_holder_of(&guard, 2, &holder) == CALADAN_DONE && holder.state == CALADAN_CORE_FREE);
     CHECK(caladan_guard_thread(&guard, LIAR, &state) == CALADAN_DONE && state.taken == 1);
     looks[LIAR] = (caladan_look){.room = 1, .number = 8, .taken = 9, .misses = 7, .stamp = 50};
     CHECK(caladan_guard_pass(&guard, 102, 0, looks, THREADS, is.judged, THREADS, NULL, 0, &is.refused) == CALADAN_DONE);
@@ -300,7 +300,7 @@ static void try_gone(void) {
  * it. */
 static void try_gone_beside_a_waiting_sibling(void) {
     caladan handle = open_one();
-    caladan_look looks[THREADS], gone;
+    caladan_look looks[THREADS], gone = {0};
     static passed told;
     size_t freed = 0, granted = 0;
     one_waits(looks);
@@ -312,7 +312,7 @@ static void try_gone_beside_a_waiting_sibling(void) {
         pass_each(&handle, now, looks, &told);
         CHECK(told.answer == CALADAN_DONE && told.judged[LIAR] == CALADAN_KEPT);
         for (size_t i = 0; i < told.made; i++) freed += told.actions[i].kind == CALADAN_FREE;
-        granted += grants_to(&told, LIAR);
+        granted += (size_t)grants_to(&told, LIAR);
     }
     CHECK(freed == 1 && granted == 0);
     caladan_close(&handle);

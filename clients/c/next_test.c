@@ -122,7 +122,7 @@ static void change(caladan *handle, size_t k, uint64_t now, caladan_look *look) 
     *look = (caladan_look){.room = chance(4) != 0, .number = look->number + 1, .taken = state.sent, .stamp = now};
     look->queued = chance(2), look->oldest = look->queued ? now - chance(40) : 0;
     look->paused = chance(8) == 0, look->since = look->paused ? now - chance(40) : 0;
-    for (size_t core = 0; caladan_holder(handle, core, &holder) == CALADAN_DONE; core++)
+    for (size_t core = 0; caladan_holder_of(handle, core, &holder) == CALADAN_DONE; core++)
         if (holder.state == CALADAN_CORE_HELD && holder.thread == k && chance(4))
             look->running = core + 1, look->started = chance(4) ? now - chance(100) : 0;
 }

@@ -7,7 +7,7 @@
 static const char TABLE[] = "cores = 2\nbandwidth_limit = 1000\n\n"
                             "[[task]]\nkind = \"lc\"\nguaranteed = 1\nlimit = 1\ndelay = 10\nrequest = 50\n";
 
-#define WANT(got, wanted) do { unsigned long long g = (got), w = (wanted); \
+#define WANT(got, wanted) do { unsigned long long g = (unsigned long long)(got), w = (wanted); \
     if (g != w) { printf("line %d: %s is %llu, not %llu\n", __LINE__, #got, g, w); return 1; } } while (0)
 
 static uint8_t open_text(const char *text, caladan *handle) {
@@ -24,7 +24,7 @@ static int closed(void) {
     size_t made = 99;
     WANT(caladan_threads(&handle), 0);
     WANT(caladan_bandwidth_limit(&handle), 0);
-    WANT(caladan_holder(&handle, 0, &holder), CALADAN_IS_CLOSED);
+    WANT(caladan_holder_of(&handle, 0, &holder), CALADAN_IS_CLOSED);
     WANT(caladan_task(&handle, 0, &counts), CALADAN_IS_CLOSED);
     WANT(caladan_pass(&handle, 1, 0, &look, 1, &judged, 1, actions, CALADAN_MOST_ACTIONS, &made), CALADAN_IS_CLOSED);
     WANT(made, 0);
@@ -35,7 +35,7 @@ static int closed(void) {
     WANT(open_text("cores = 3\n", &handle), CALADAN_MISSING_KEY);
     WANT(open_text("cores", &handle), CALADAN_NOT_TOML);
     WANT(handle.open, 0);
-    WANT(caladan_holder(&handle, 256, &holder), CALADAN_IS_CLOSED);
+    WANT(caladan_holder_of(&handle, 256, &holder), CALADAN_IS_CLOSED);
     return 0;
 }
 
@@ -60,8 +60,8 @@ static int nothing(void) {
     WANT(caladan_guard_open((const uint8_t *)TABLE, strlen(TABLE), &guard), CALADAN_DONE);
     WANT(caladan_guard_pass(&guard, 1, 0, &look, 1, &judged, 1, NULL, 0, &refused), CALADAN_DONE);
     WANT(caladan_guard_pass_each(&guard, 1, 0, NULL, 0, NULL, 0, NULL, 0, &refused), CALADAN_WRONG_COUNT);
-    WANT(caladan_guard_holder(&guard, 256, &holder), CALADAN_NO_SUCH);
-    WANT(caladan_guard_holder(&guard, SIZE_MAX, &holder), CALADAN_NO_SUCH);
+    WANT(caladan_guard_holder_of(&guard, 256, &holder), CALADAN_NO_SUCH);
+    WANT(caladan_guard_holder_of(&guard, SIZE_MAX, &holder), CALADAN_NO_SUCH);
     WANT(caladan_guard_revoked(&guard, 256, &thread), CALADAN_NO_SUCH);
     WANT(caladan_audit_open((const uint8_t *)TABLE, strlen(TABLE), &audit), CALADAN_DONE);
     WANT(caladan_audit_pass(&audit, 1, 0, NULL, 0, NULL, 0, NULL, 0), CALADAN_DONE);
@@ -93,7 +93,7 @@ static int opened(void) {
         WANT(caladan_pass(&handle, 111, 0, &torn, 1, judged, 1, actions, CALADAN_MOST_ACTIONS, &made), CALADAN_UNFIT);
         WANT(made, 0);
         WANT(judged[0], 77);
-        WANT(caladan_holder(&handle, 0, &holder), CALADAN_DONE);
+        WANT(caladan_holder_of(&handle, 0, &holder), CALADAN_DONE);
         WANT(holder.state, CALADAN_CORE_FREE);
     }
     WANT(caladan_pass(&handle, 111, 0, &look, 1, judged, 1, actions, CALADAN_MOST_ACTIONS, &made), CALADAN_DONE);
@@ -102,13 +102,17 @@ static int opened(void) {
     WANT(actions[0].kind, CALADAN_GRANT);
     WANT(actions[0].core, 0);
     WANT(actions[0].core_class, 3);
-    WANT(caladan_holder(&handle, 0, &holder), CALADAN_DONE);
+    WANT(caladan_holder_of(&handle, 0, &holder), CALADAN_DONE);
     WANT(holder.state, CALADAN_CORE_HELD);
-    WANT(caladan_holder(&handle, 2, &holder), CALADAN_NO_SUCH);
-    WANT(caladan_holder(&handle, 255, &holder), CALADAN_NO_SUCH);
-    WANT(caladan_holder(&handle, 256, &holder), CALADAN_NO_SUCH);
-    WANT(caladan_holder(&handle, SIZE_MAX, &holder), CALADAN_NO_SUCH);
+    WANT(caladan_holder_of(&handle, 2, &holder), CALADAN_NO_SUCH);
+    WANT(caladan_holder_of(&handle, 255, &holder), CALADAN_NO_SUCH);
+    WANT(caladan_holder_of(&handle, 256, &holder), CALADAN_NO_SUCH);
+    WANT(caladan_holder_of(&handle, SIZE_MAX, &holder), CALADAN_NO_SUCH);
     WANT(caladan_revoked(&handle, 256, judged), CALADAN_NO_SUCH);
+    CALADAN_CALLS_OLD
+    WANT(caladan_holder(&handle, 0, &holder), CALADAN_DONE);
+    WANT(caladan_holder(&handle, 255, &holder), CALADAN_NO_SUCH);
+    CALADAN_CALLS_NEW
     WANT(caladan_task(&handle, 0, &counts), CALADAN_DONE);
     WANT(counts.held, 1);
     WANT(counts.booked, 1);

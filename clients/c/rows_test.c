@@ -1,5 +1,5 @@
 /* Tables of rows: each refusal with the row and field that it is for, the same answer as to the text of the rows, and
- * that an opened table has these rows. Prints 'rows_test: ok'. */
+ * that an opened table has these rows, and makes passes by the policy that was asked for. Prints 'rows_test: ok'. */
 #include "caladan.h"
 #include "check.h"
 
@@ -101,6 +101,44 @@ static void try_opened(void) {
     CHECK(wrong.row == 77 && caladan_close(&handle) == CALADAN_DONE);
 }
 
+/* By each policy the same faults at the same places; by a number that no policy has none, and no place. */
+static void try_policies(void) {
+    caladan handle = CALADAN_CLOSED;
+    caladan_audit audit = CALADAN_AUDIT_CLOSED;
+    plain();
+    for (uint32_t policy = 0; policy < 3; policy++) {
+        const bool is_one = policy == CALADAN_POLICY_CALADAN || policy == CALADAN_POLICY_ASSURED;
+        const uint8_t wanted = is_one ? CALADAN_DONE : CALADAN_NO_POLICY;
+        caladan_wrong wrong = {77, "none"};
+        CHECK(caladan_open_rows_policy(2, 0, rows, 2, policy, &handle, &wrong) == wanted && handle.open == is_one);
+        CHECK(caladan_audit_open_rows_policy(2, 0, rows, 2, policy, &audit, &wrong) == wanted && audit.open == is_one);
+        CHECK(wrong.row == 77);
+        if (!is_one) continue;
+        CHECK(caladan_close(&handle) == CALADAN_DONE && caladan_audit_close(&audit) == CALADAN_DONE);
+        CHECK(caladan_open_rows_policy(3, 0, rows, 2, policy, &handle, &wrong) == CALADAN_OUT_OF_RANGE);
+        CHECK(wrong.row == 2 && !strcmp(wrong.field, "cores"));
+    }
+}
+
+/* The passes are those of the policy. All threads of two tasks wait; the second task alone is guaranteed a core. Whom
+ * the first grant is for: by Caladan's policy the first task, by `assured` the one below its guarantee. */
+static uint8_t granted_first(uint32_t policy) {
+    static caladan_action actions[CALADAN_MOST_ACTIONS];
+    const caladan_table_row two[] = {{.kind = LC, .limit = 2, .delay = 10, .request = 50},
+                                     {.kind = LC, .guaranteed = 1, .limit = 1, .delay = 10, .request = 50}};
+    const caladan_look waits = {.room = 1, .number = 1, .queued = 1, .oldest = 50, .stamp = 50};
+    const caladan_look looks[] = {waits, waits, waits};
+    caladan handle = CALADAN_CLOSED;
+    uint8_t judged[3];
+    size_t made = 0, k = 0;
+    CHECK(caladan_open_rows_policy(2, 1000, two, 2, policy, &handle, NULL) == CALADAN_DONE);
+    CHECK(caladan_pass_each(&handle, 100, 0, looks, 3, judged, 3, actions, CALADAN_MOST_ACTIONS, &made) ==
+          CALADAN_DONE);
+    while (k < made && actions[k].kind != CALADAN_GRANT) k++;
+    CHECK(k < made && caladan_close(&handle) == CALADAN_DONE);
+    return k < made ? actions[k].thread : 255;
+}
+
 /* The least and the longest text that there is fit, whatever the rows say. */
 static void try_text(void) {
     char text[CALADAN_ROWS_ROOM + 1];
@@ -120,6 +158,8 @@ int main(void) {
     try_refusals();
     try_sums();
     try_opened();
+    try_policies();
+    CHECK(granted_first(CALADAN_POLICY_CALADAN) == 0 && granted_first(CALADAN_POLICY_ASSURED) == 2);
     try_text();
     puts(failed ? "rows_test: failed" : "rows_test: ok");
     return failed;

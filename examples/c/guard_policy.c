@@ -71,14 +71,14 @@ static size_t free_and_grant(choice *it, caladan_guard *guard) {
     caladan_holder_of_core holder;
     caladan_core_ban ban;
     for (size_t core = 0; core < CORES; core++) {
-        caladan_guard_holder(guard, core, &holder);
+        caladan_guard_holder_of(guard, core, &holder);
         bool free = holder.state == CALADAN_CORE_FREE;
         if (!free && has_left(it, holder.thread)) {
             add(it, (caladan_action){.kind = CALADAN_FREE, .core = (uint8_t)core});
             it->placed[holder.thread] = false;
             free = true;
         }
-        caladan_guard_ban(guard, core, &ban);
+        caladan_guard_ban_of(guard, core, &ban);
         if (free && !ban.banned && (k = first_waiting(it)) < THREADS) {
             add(it, (caladan_action){
                         .kind = CALADAN_GRANT, .core = (uint8_t)core, .thread = (uint8_t)k, .core_class = 3});
@@ -103,7 +103,7 @@ static uint8_t choose(choice *it, caladan_guard *guard, const caladan_look *look
     }
     for (size_t core = 0; core < CORES; core++) {
         caladan_holder_of_core holder;
-        caladan_guard_holder(guard, core, &holder);
+        caladan_guard_holder_of(guard, core, &holder);
         if (holder.state != CALADAN_CORE_FREE) it->placed[holder.thread] = true;
     }
     size_t core = free_and_grant(it, guard), k = first_waiting(it);

@@ -9,21 +9,18 @@
 #include <stdlib.h>
 #include <time.h>
 #include <unistd.h>
+#include "../caladand.h"
 
 static unsigned long long nanoseconds, kills, looks_made, looks_at_kill, hurried_at;
-static int fake_clock(clockid_t clock, struct timespec *t) {
+int __wrap_clock_gettime(clockid_t clock, struct timespec *t);
+int __wrap_clock_gettime(clockid_t clock, struct timespec *t) {
     (void)clock;
     nanoseconds += 1000;
     *t = (struct timespec){(time_t)(nanoseconds / 1000000000), (long)(nanoseconds % 1000000000)};
     return 0;
 }
-static long fake_syscall(long number, ...);
-#define clock_gettime fake_clock
-#define syscall fake_syscall
-#include "../pieces.c"
-#include "../patience.c"
-
-static long fake_syscall(long number, ...) {
+long __wrap_syscall(long number, ...);
+long __wrap_syscall(long number, ...) {
     if (number != SYS_pidfd_send_signal) return 0;
     if (kills++ == 0) looks_at_kill = looks_made;
     return 0;

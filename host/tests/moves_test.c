@@ -14,6 +14,7 @@
 #include <sys/resource.h>
 #include <time.h>
 #include <unistd.h>
+#include "../caladand.h"
 
 static unsigned long long nanoseconds = 10000000000;
 static unsigned long long each_call; /* that many pass at each look at the clock */
@@ -24,22 +25,20 @@ static unsigned long long takes;
 static unsigned long long found[4]; /* how many commands each found at the first pinning */
 static unsigned long long sent(int k);
 
-static int fake_clock(clockid_t clock, struct timespec *t) {
+int __wrap_clock_gettime(clockid_t clock, struct timespec *t);
+int __wrap_clock_gettime(clockid_t clock, struct timespec *t) {
     (void)clock;
     nanoseconds += each_call;
     *t = (struct timespec){(time_t)(nanoseconds / 1000000000), (long)(nanoseconds % 1000000000)};
     return 0;
 }
-static long fake_syscall(long number, ...);
-#define clock_gettime fake_clock
-#define syscall fake_syscall
-#include "../caladand.h"
 
 static void say(const char *word, int thread) {
     snprintf(said + strlen(said), sizeof said - strlen(said), "%s%d ", word, thread);
 }
 
-static int fake_pin(pid_t tid, size_t size, const cpu_set_t *cpus) {
+int __wrap_sched_setaffinity(pid_t tid, size_t size, const cpu_set_t *cpus);
+int __wrap_sched_setaffinity(pid_t tid, size_t size, const cpu_set_t *cpus) {
     (void)size, (void)cpus;
     for (int k = 0; k < 4 && said[0] == 0; k++) found[k] = sent(k);
     say("pin", tid - 100);
@@ -47,19 +46,18 @@ static int fake_pin(pid_t tid, size_t size, const cpu_set_t *cpus) {
     voluntary += waits_for_it;
     return refuses ? (errno = EINVAL, -1) : 0;
 }
-static int fake_usage(int who, struct rusage *used) {
+int __wrap_getrusage(int who, struct rusage *used);
+int __wrap_getrusage(int who, struct rusage *used) {
     (void)who;
     used->ru_nvcsw = voluntary;
     return 0;
 }
-#define sched_setaffinity fake_pin
-#define getrusage fake_usage
-#include "../moves.c"
 
 static scheduler s;
 static host_segment segment;
 
-static long fake_syscall(long number, ...) {
+long __wrap_syscall(long number, ...);
+long __wrap_syscall(long number, ...) {
     va_list rest;
     va_start(rest, number);
     void *first = va_arg(rest, void *);
@@ -103,6 +101,7 @@ static void check(bool is, const char *why) {
  * cores, but for 1. */
 static void begin(void) {
     memset(&segment, 0, sizeof segment);
+    free(s.moves);
     s = (scheduler){.machine = {.cores = 4, .tasks = 2, .threads = 4}, .options = {.mover = -1}};
     s.task[0].is_critical = true;
     s.task[0].segment = s.task[1].segment = &segment;
@@ -116,6 +115,7 @@ static void begin(void) {
         atomic_store(&segment.slot[k].tid, 100 + k);
         atomic_store(&segment.slot[k].asleep, k != 2);
     }
+    check(begin_moves(&s), "no memory");
     said[0] = 0;
     refuses = waits_for_it = false;
     takes = 0;
@@ -187,6 +187,7 @@ static unsigned long long wait_for_mover(unsigned stop) {
     begin();
     s.options.mover = 1;
     CPU_SET(3, &s.others);
+    free(s.moves);
     check(begin_moves(&s), "no mover");
     plan_run(&s, 0, 0);
     carry_out(&s);

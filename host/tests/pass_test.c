@@ -8,15 +8,15 @@
 #include <stdlib.h>
 #include <string.h>
 #include <time.h>
+#include "../caladand.h"
 
 static unsigned long long nanoseconds = 10000000000;
-static int fake_clock(clockid_t clock, struct timespec *t) {
+int __wrap_clock_gettime(clockid_t clock, struct timespec *t);
+int __wrap_clock_gettime(clockid_t clock, struct timespec *t) {
     (void)clock;
     *t = (struct timespec){(time_t)(nanoseconds / 1000000000), (long)(nanoseconds % 1000000000)};
     return 0;
 }
-#define clock_gettime fake_clock
-#include "../pass.c"
 
 static scheduler s;
 static host_segment segment;

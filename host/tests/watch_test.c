@@ -8,34 +8,34 @@
 #include <stdio.h>
 #include <stdlib.h>
 #include <sys/socket.h>
+#include "../runtime.h"
 
 enum { MOST_POLLS = 1000 };
 static short shows;        /* what poll finds of the connection */
 static ssize_t reads;      /* what recv answers */
 static int polls, closed_at; /* the poll from which on it is so; before that it says nothing */
 
-static int fake_poll(struct pollfd *file, nfds_t count, const struct timespec *wait, const sigset_t *mask) {
+int __wrap_ppoll(struct pollfd *file, nfds_t count, const struct timespec *wait, const sigset_t *mask);
+int __wrap_ppoll(struct pollfd *file, nfds_t count, const struct timespec *wait, const sigset_t *mask) {
     (void)count, (void)wait, (void)mask;
     if (++polls >= MOST_POLLS) printf("it does not notice it\n"), exit(1);
     file->revents = polls < closed_at ? POLLIN : shows;
     return 1;
 }
-static ssize_t fake_recv(int connection, void *to, size_t length, int how) {
+ssize_t __wrap_recv(int connection, void *to, size_t length, int how);
+ssize_t __wrap_recv(int connection, void *to, size_t length, int how) {
     (void)connection, (void)to, (void)length, (void)how;
     if (polls < closed_at) return 1;
     if (reads < 0) errno = EBADF;
     return reads;
 }
-#define ppoll fake_poll
-#define recv fake_recv
-#include "../caladan_rt.c"
 
 static void check(const char *what, short found, ssize_t answer) {
     static caladan_rt rt; /* without threads: there is nobody to tell */
     shows = found, reads = answer, polls = 0, closed_at = 10;
     atomic_store(&rt.is_over, false);
     atomic_store(&rt.is_watched, true);
-    watch(&rt);
+    host_watch(&rt);
     if (atomic_load(&rt.is_over) && !atomic_load(&rt.is_watched) && polls == closed_at) return;
     printf("%s: noticed after %d looks\n", what, polls), exit(1);
 }

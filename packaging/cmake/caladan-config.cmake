@@ -9,6 +9,11 @@ if(NOT TARGET caladan::caladan)
         IMPORTED_LOCATION "${caladan_libdir}/libcaladan_c.a"
         INTERFACE_INCLUDE_DIRECTORIES "${caladan_includedir}"
         INTERFACE_LINK_LIBRARIES "${caladan_libdir}/liblibc_c.a")
+    # Tables of rows, which call the archive: so it stands behind them once more.
+    if(EXISTS "${caladan_libdir}/libcaladan_rows.a")
+        set_property(TARGET caladan::caladan PROPERTY INTERFACE_LINK_LIBRARIES "${caladan_libdir}/libcaladan_rows.a"
+            "${caladan_libdir}/libcaladan_c.a" "${caladan_libdir}/liblibc_c.a")
+    endif()
 endif()
 if(NOT TARGET caladan::shared AND EXISTS "${caladan_libdir}/libcaladan_c.so")
     add_library(caladan::shared SHARED IMPORTED)

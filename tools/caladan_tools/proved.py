@@ -85,8 +85,8 @@ The proved programs and the C library, as they were built
 {built}
 
 `strip` took names of debugging out of them, and they are the programs and the archive below; libcaladan_c.so is that
-archive and its heap, linked. The heap, liblibc_c.a, is the kit's. caladand, libcaladan_rt.a and the clients are C,
-Python and Rust that is not proved.
+archive with libcaladan_rows.a and its heap, linked. The heap, liblibc_c.a, is the kit's. caladand, libcaladan_rows.a,
+libcaladan_rt.a and the clients are C, Python and Rust that is not proved.
 
 
 All files of the release but this one, by the folder of the prefix and by package

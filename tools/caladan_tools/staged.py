@@ -111,7 +111,17 @@ def lab(at, _):
     write(at, share(at, "doc/python3-caladan/README.md"), None, 0o644, f"{TOP}/lab/README.md")
 
 
-def shared_object(at, made, archive, heap):
+def table_rows(at, made):
+    """The library of tables of rows, which is C and not proved."""
+    made_of = f"{made.folder}/caladan_rows.o"
+    tool(os.environ.get("CC", "cc"), "-O2", "-fPIC", f"-I{TOP}/include", "-c", f"{TOP}/include/caladan_rows.c",
+         "-o", made_of)
+    rows = write(at, f"{at.lib}/libcaladan_rows.a", b"!<arch>\n")
+    tool("ar", "rcsD", rows, made_of)
+    return rows
+
+
+def shared_object(at, made, archives, heap):
     """The shared object, with the calls of caladan.h as its only names; its soname has the version."""
     number = made.version.partition("~")[0]
     names = f"{made.folder}/names"
@@ -120,31 +130,31 @@ def shared_object(at, made, archive, heap):
     so = f"{at.root}/{at.lib}/{SONAME}.{number}"
     tool(os.environ.get("CC", "cc"), "-shared", "-o", so,
          f"-Wl,--version-script={names},-soname,{SONAME}.{number},-z,relro,-z,now",
-         "-Wl,--whole-archive", archive, "-Wl,--no-whole-archive", heap)
+         "-Wl,--whole-archive", *archives, "-Wl,--no-whole-archive", heap)
     tool("strip", "--strip-unneeded", so)
     os.chmod(so, 0o644)
     os.symlink(f"{SONAME}.{number}", f"{at.root}/{at.lib}/{SONAME}")
 
 
 def library(at, made):
-    """The C library: the archive with its heap, the shared object, headers, pkg-config, CMake, and the clients as
-    sources."""
+    """The C library: the archive with its heap, tables of rows, the shared object, headers, pkg-config, CMake, and the
+    clients as sources."""
     archive = write(at, f"{at.lib}/libcaladan_c.a", None, 0o644, made.archive)
     heap = write(at, f"{at.lib}/liblibc_c.a", None, 0o644, made.heap)
-    shared_object(at, made, archive, heap)
+    shared_object(at, made, [table_rows(at, made), archive], heap)
     for file in (archive, heap):
         tool("strip", "--strip-debug", "--enable-deterministic-archives", file)
     for it in HEADERS:
         put(at, f"{at.prefix}/include", f"{TOP}/include/{it}")
     write(at, f"{at.lib}/pkgconfig/caladan.pc", pkg_config(
         at, "caladan", "The decisions of a core scheduler, proved", made.version,
-        "${libdir}/libcaladan_c.a ${libdir}/liblibc_c.a"))
+        "${libdir}/libcaladan_rows.a ${libdir}/libcaladan_c.a ${libdir}/liblibc_c.a"))
     for it in ("caladan-config.cmake", "caladan-config-version.cmake"):
         text = text_of(f"{TOP}/packaging/cmake/{it}").replace("@INCLUDE@", at.up)
         write(at, f"{at.lib}/cmake/caladan/{it}", text.replace("@VERSION@", made.version.partition("~")[0]))
     write(at, share(at, "doc/libcaladan-dev/README.md"), None, 0o644, f"{TOP}/crates/caladan_c/README.md")
-    for file in tracked("clients") + tracked("examples/c"):
-        under = re.sub("^clients/|^examples/", "", file)
+    for file in tracked("clients") + tracked("examples/c") + ["include/caladan_rows.c"]:
+        under = re.sub("^clients/|^examples/", "", file).replace("include/", "c/")
         mode = os.stat(f"{TOP}/{file}").st_mode & 0o755
         write(at, share(at, f"doc/libcaladan-dev/examples/{under}"), None, mode, f"{TOP}/{file}")
 
