@@ -145,6 +145,8 @@ impl Pass<'_> {
     }
 
     /// The thread for whose request on the core the sibling is to be banned, where a ban is due.
+    /// (Inlined, since mostly there is none.)
+    #[inline(always)]
     fn ban_due_by(&self, board: &Board, core: u8) -> Option<u8>
         requires at_hand { IsOfTable self.now.config.now board.now }
         requires core { core < self.now.config.now.cores }
