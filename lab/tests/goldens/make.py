@@ -6,6 +6,8 @@
     make.py check --program 'WORDS' [--name NAME] [-k WORD] [--some] [-j N] [--answers FOLDER]
                                                               runs the cases, with --some a sample of 60, and compares
                                                               with what is kept
+    make.py anew CASE .. --program 'WORDS'                    keeps what caladan_lab answers to these cases now, in place
+                                                              of what was kept
     make.py show CASE [--into FOLDER]                         a case with its answer; its files go into a folder
     make.py count [SOURCE..]                                  in how many cases each option is, each status and each
                                                               text of these sources for what is refused
@@ -17,12 +19,13 @@ A case has words, files and a standard input, made from seeds by the modules of 
 own. Its answer is the exit status, both outputs, and each file that is new, changed or gone. `check` compares all to
 the byte, but for the name of the program: a line that begins with `caladan_view:`, or with `Usage: caladan_view`, must
 begin so with NAME (else the file name of the program's last word); within a line either name may stand. Another program
-than caladan_view is asked to count and judge as that did, and not asked for runs by the policy assured that are others
-now (frozen/changed.py; README.md says what is otherwise). The
+than caladan_view is asked to count and judge as that did (frozen/changed.py; README.md says what is otherwise). The
 last line is 'N passed, M failed', and above it stands the first difference of each case that failed. A case that is
 made otherwise than the kept one fails too: freeze it again."""
 import argparse
+import dataclasses
 import os
+import re
 import shlex
 import subprocess
 import sys
@@ -31,7 +34,7 @@ from typing import Sequence
 
 sys.dont_write_bytecode = True
 from frozen.case import Answer, Case  # noqa: E402
-from frozen.changed import OTHER_RUNS, asked_as_before, said_as_before  # noqa: E402
+from frozen.changed import asked_as_before, said_as_before  # noqa: E402
 from frozen.comparing import KEPT_NAME, differences  # noqa: E402
 from frozen.coverage import table_of_options, table_of_statuses, table_of_texts  # noqa: E402
 from frozen.every import cases, chosen  # noqa: E402
@@ -68,6 +71,20 @@ def write(given: argparse.Namespace) -> int:
     return 0
 
 
+def anew(given: argparse.Namespace) -> int:
+    """Keeps what caladan_lab answers to some cases in place of what was kept, under the name that the others have."""
+    program, every = words_of_program(given.program), {it.name: it for it in cases()}
+    name, kept, first = os.path.basename(program[-1]), kept_answers(given.answers), read_kind(given.answers, KINDS[0])
+    asked = [asked_as_before(every[it], kept[it].answer) for it in given.cases]
+    for ran, answer in answers_of(program, asked, given.jobs):
+        then = said_as_before(answer, kept[ran.name].answer)
+        said = re.sub(rf"^{re.escape(name)}: ", f"{KEPT_NAME}: ", then.said, flags=re.M)
+        kept[ran.name] = Kept(every[ran.name].digest(), dataclasses.replace(then, said=said))
+    made = [(case, kept[name].answer) for name, case in every.items() if name in kept]
+    write_all(given.answers, first.commit, first.version, made)
+    return 0
+
+
 def kept_answers(folder: Path, commit_too: bool = True) -> "dict[str, Kept]":
     """All answers that are kept; which program gave them is said."""
     answers: "dict[str, Kept]" = {}
@@ -92,8 +109,7 @@ def check(given: argparse.Namespace) -> int:
     name = given.name or os.path.basename(shlex.split(given.program)[-1])
     kept, failed = kept_answers(given.answers), 0
     waiting = [it for it in asked if it.name not in kept]
-    others = {it.name for it in asked if it.name in OTHER_RUNS and name != KEPT_NAME}
-    named = {it.name: it for it in asked if it.name in kept and it.name not in others}
+    named = {it.name: it for it in asked if it.name in kept}
     # Another program than the one whose answers are kept is asked to count and judge as that did.
     run = [*named.values()] if name == KEPT_NAME else [asked_as_before(it, kept[it.name].answer)
                                                        for it in named.values()]
@@ -110,8 +126,6 @@ def check(given: argparse.Namespace) -> int:
     failed += len(gone)
     if waiting:
         print(f"no answer to {len(waiting)} other cases is kept yet")
-    if others:
-        print(f"of other runs by the policy assured, and not compared: {', '.join(sorted(others))}")
     print(f"{passed} passed, {failed} failed")
     return 1 if failed or not passed else 0
 
@@ -148,11 +162,11 @@ def count(given: argparse.Namespace) -> int:
 def main(words: "Sequence[str] | None" = None) -> int:
     asked = argparse.ArgumentParser(description=__doc__, formatter_class=argparse.RawDescriptionHelpFormatter)
     subcommands = asked.add_subparsers(dest="job", required=True)
-    jobs = {"write": write, "check": check, "show": show, "count": count}
+    jobs = {"write": write, "check": check, "anew": anew, "show": show, "count": count}
     parsers = {name: subcommands.add_parser(name, help=job.__doc__) for name, job in jobs.items()}
     for name, it in parsers.items():
         it.add_argument("--answers", type=Path, default=ANSWERS, help="where the answers are kept")
-        if name in ("write", "check"):
+        if name in ("write", "check", "anew"):
             it.add_argument("--program", required=True, help="the words before those of a case")
             it.add_argument("-j", "--jobs", type=int, default=2, help="how many run side by side")
     parsers["write"].add_argument("--commit", required=True, help="the commit that the program is of")
@@ -161,6 +175,7 @@ def main(words: "Sequence[str] | None" = None) -> int:
     parsers["check"].add_argument("--name", help=f"the name that it calls itself, in place of {KEPT_NAME}")
     parsers["check"].add_argument("-k", dest="word", help="the cases that have this in their name or words")
     parsers["check"].add_argument("--some", action="store_true", help="run a sample of them alone")
+    parsers["anew"].add_argument("cases", nargs="+", metavar="CASE")
     parsers["show"].add_argument("case")
     parsers["show"].add_argument("--into", type=Path)
     parsers["count"].add_argument("sources", type=Path, nargs="*")

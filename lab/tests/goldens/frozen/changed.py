@@ -10,9 +10,6 @@ AS_BEFORE = {"sweep": ("--rules", "4"), "compare": ("--window", "whole")}
 TEXTS = {"a task, p50, p90, p95, p99, p99.9 or max, and ticks": "a task, p50, p90, p99, p99.9 or max, and ticks",
          "--load <LOAD> --scale <TIMES> [FILE]": "--load <LOAD> --names <NAME,..> [FILE]",
          "  tip: a similar argument exists: '--scale'\n": "  tip: a similar argument exists: '--names'\n"}
-# Cases of runs that the assured policy makes otherwise by its rule of today: a task below its guarantee acts in a pass
-# until it lacks nothing.
-OTHER_RUNS = frozenset("sweep-013 sweep-025 sweep-074 sweep-173 sweep-180 compare-054 timeline-045".split())
 # How lines begin that stand below more refusals than before.
 MORE = ("  did you mean ", "  --names kv,batch says what the tasks are called, ")
 
