@@ -1,7 +1,7 @@
 """The libraries below a crate, for the scripts that ask the kit's prover themselves.
 
 `rt ci` leaves each proved library in crates/NAME/out/rlib, without the mark by which `rt lib` and `rt check` would take
-it: those prove all below once more. So .ci/run notes, right after `rt ci` passed (tools/note_libraries), what stands
+it: those prove all below once more. So .ci/run notes, right after `rt ci` passed (tools/archive --note), what stands
 there and what it is made from; where that is still so, the library is taken as it stands. tools/recheck keeps libraries
 of its own in out/recheck, which serve for every hour."""
 import json
