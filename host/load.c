@@ -3,14 +3,17 @@
  *
  *   load spin                 prints how many turns of the loop are a microsecond
  *   load lc -n NAME -u TASK [-s SECONDS] [-q REQUESTS_A_SECOND] [-m MICROSECONDS] [-i IDLE_NS]
- *        [-x CPU] [-k TURNS] [-c COUNTER]
+ *        [-x CPU] [-k TURNS] [-c COUNTER] [-w MS] [-r TIMES]
  *   load be -n NAME -u TASK [-s SECONDS] [-i IDLE_NS] [-b] [-h] [-e WHAT] [-k TURNS] [-c
  *        COUNTER] [-p WHAT] [-l MS] [-t]
  *
  * lc: requests come at times that are drawn beforehand (Poisson), whether earlier ones are
  * served or not, and the time of a request counts from there. A request is a number of turns of
  * a loop, so that what does not run does not count as work. With -x whoever hands requests in
- * spins on that processor, else he sleeps. The first half second is not measured. be: work
+ * spins on that processor, else he sleeps. The first half second is not measured. -w: of each
+ * two periods of so many milliseconds the first one, or with -MS the second one, is a burst, in
+ * which TIMES as many come; the quiet requests, which came in no burst, are ranked by themselves
+ * too. be: work
  * without end, in pieces of 10 microseconds, which are counted in the file COUNTER, by
  * processor; -b: each piece reads 64 KiB of 256 MiB; -h: no core is left within a chunk of 100
  * pieces; -e: when the scheduler is over, its threads wait, run, or attach again (wait, run,
@@ -60,12 +63,12 @@ typedef struct counter {
 static struct {
     const char *name, *counter;
     unsigned task;
-    double turns, microseconds, rate, seconds, lost;
+    double turns, microseconds, rate, seconds, lost, burst, times; /* burst: in ms; below 0 in the second period */
     int cpu;
     bool bytes, holds, blocks, handles, closes, forks, stops;
     const char *after, *starts;
     uint64_t idle_ns;
-} options = {.microseconds = 20, .rate = 10000, .seconds = 1, .cpu = -1, .idle_ns = 5000};
+} options = {.microseconds = 20, .rate = 10000, .seconds = 1, .times = 1, .cpu = -1, .idle_ns = 5000};
 
 static caladan_rt *rt;
 static counter *counters;
@@ -234,6 +237,12 @@ static void submit(unsigned thread, caladan_request request, bool is_measured) {
     if (is_measured) handed.nanoseconds[handed.count++] = clock_ns() - from;
 }
 
+/* By the clock that the processes of a run share. */
+static bool is_in_burst(double at) {
+    double period = fabs(options.burst) * 1e6, place = period > 0 ? fmod(at, 2 * period) : 0;
+    return period > 0 && (place < period) == (options.burst > 0);
+}
+
 /* Requests from `from` on: arrived[i] of each, `until` they end. Answers how many; *first: the first after `begin`. */
 static size_t hand_in(uint64_t *arrived, size_t room, uint64_t begin, uint64_t end, size_t *first, uint64_t *work) {
     uint64_t state = 88172645463325252u ^ (uint64_t)getpid() << 20;
@@ -241,7 +250,8 @@ static size_t hand_in(uint64_t *arrived, size_t room, uint64_t begin, uint64_t e
     size_t count = 0;
     *first = *work = 0;
     for (bool began = false; count < room && (count % 64 || !caladan_rt_is_over(rt)); count++) {
-        at += -log(((double)(draw(&state) >> 11) + 1) / 9007199254740993.0) * 1e9 / options.rate;
+        at += -log(((double)(draw(&state) >> 11) + 1) / 9007199254740993.0) * 1e9 /
+              (is_in_burst(at) ? options.rate * options.times : options.rate);
         uint64_t due = (uint64_t)at;
         if (due >= end) break;
         wait_until(due);
@@ -261,27 +271,44 @@ static double mean_of_most(const uint64_t *times, size_t count) {
     return most ? sum / (double)most : 0;
 }
 
+/* The time below which so much of them are, in microseconds, of those in order. */
+static double below(const uint64_t *times, size_t count, double share) {
+    return count ? (double)times[(size_t)((double)(count - 1) * share)] / 1000 : 0;
+}
+
+/* The quiet ones' times, put at the front in their order of arrival, and how many they are. */
+static size_t quiet_ones(const uint64_t *arrived, const uint64_t *times, size_t count, uint64_t *quiet) {
+    size_t many = 0;
+    for (size_t i = 0; i < count; i++)
+        if (!is_in_burst((double)arrived[i])) quiet[many++] = times[i];
+    qsort(quiet, many, sizeof *quiet, compare);
+    return many;
+}
+
 /* Requests that are not served by now count with the time that they have waited. */
 static void report(const uint64_t *arrived, size_t first, size_t count, uint64_t work) {
-    uint64_t now = caladan_rt_now(rt), *times = malloc((count - first) * sizeof *times + 8);
     size_t unserved = 0, n = count - first;
+    uint64_t now = caladan_rt_now(rt), *times = malloc(n * sizeof *times + 8), *quiet = malloc(n * sizeof *quiet + 8);
     for (size_t i = 0; i < n; i++) {
         times[i] = took[first + i];
         if (times[i] == 0) times[i] = now - arrived[first + i], unserved++;
     }
+    size_t many = quiet_ones(arrived + first, times, n, quiet);
     qsort(times, n, sizeof *times, compare);
     qsort(handed.nanoseconds, handed.count, sizeof *handed.nanoseconds, compare);
-#define AT(share) (n ? (double)times[(size_t)((double)(n - 1) * (share))] / 1000 : 0)
     printf("{\"requests\": %zu, \"unserved\": %zu, ", n, unserved);
-    printf("\"p50\": %.1f, \"p90\": %.1f, \"p99\": %.1f, ", AT(0.5), AT(0.9), AT(0.99));
-    printf("\"p999\": %.1f, \"max\": %.1f, ", AT(0.999), AT(1));
+    printf("\"p50\": %.1f, \"p90\": %.1f, \"p99\": %.1f, ", below(times, n, 0.5),
+           below(times, n, 0.9), below(times, n, 0.99));
+    printf("\"p999\": %.1f, \"max\": %.1f, ", below(times, n, 0.999), below(times, n, 1));
+    printf("\"quiet_p50\": %.1f, \"quiet_p99\": %.1f, ", below(quiet, many, 0.5), below(quiet, many, 0.99));
     printf("\"be_cores\": %.4f, \"submit_ns\": %.0f}\n", (double)work * 1e-5 / options.seconds,
            mean_of_most(handed.nanoseconds, handed.count));
     free(times);
+    free(quiet);
 }
 
 static int latency_critical(void) {
-    size_t room = (size_t)(options.rate * (options.seconds + 1) * 1.2) + 1000, first;
+    size_t room = (size_t)(options.rate * fmax(options.times, 1) * (options.seconds + 1) * 1.2) + 1000, first;
     uint64_t *arrived = malloc(room * sizeof *arrived), work;
     cpu_set_t cpus;
     took = calloc(room, sizeof *took);
@@ -485,6 +512,8 @@ static void read_option(int option) {
     case 'e': options.after = optarg; break;
     case 'l': options.lost = atof(optarg); break;
     case 'p': options.starts = optarg; break;
+    case 'w': options.burst = atof(optarg); break;
+    case 'r': options.times = atof(optarg); break;
     default: exit(2);
     }
 }
@@ -492,7 +521,7 @@ static void read_option(int option) {
 int main(int count, char **words) {
     const char *word = count > 1 ? words[1] : "";
     if (!strcmp(word, "spin")) return printf("%.2f\n", turns_of_a_microsecond()), 0;
-    static const char letters[] = "n:u:k:c:x:m:q:s:i:bhagzfe:p:l:t";
+    static const char letters[] = "n:u:k:c:x:m:q:s:i:bhagzfe:p:l:tw:r:";
     for (int c; count > 1 && (c = getopt(count - 1, words + 1, letters)) != -1;) read_option(c);
     if ((strcmp(word, "lc") && strcmp(word, "be")) || options.name == NULL)
         die("usage", "load spin | lc | be -n NAME -u TASK ..");

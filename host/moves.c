@@ -297,14 +297,16 @@ void look_after_mover(const scheduler *s) {
     uint64_t now = host_clock();
     size_t done = atomic_load(&s->moves->done);
     bool is_at_work = s->has_mover && done != atomic_load(&s->moves->put);
-    if (!is_at_work || done != s->moves->seen) s->moves->seen = done, s->moves->seen_at = now, s->moves->is_elsewhere = false;
+    moves *it = s->moves;
+    if (!is_at_work || done != it->seen) it->seen = done, it->seen_at = now, it->is_elsewhere = false;
     if (now - s->moves->seen_at >= STUCK && !s->moves->is_elsewhere) put_mover_elsewhere(s);
     uint64_t most = stop_signals() > 1 ? 2 * STUCK : LOST;
     if (now - s->moves->seen_at >= most) fail("the mover", "it makes no moves any more");
 }
 
 void wait_for_moves(scheduler *s) {
-    while (s->has_mover && atomic_load(&s->moves->done) != atomic_load(&s->moves->put)) look_after_mover(s), host_pause();
+    const moves *it = s->moves;
+    while (s->has_mover && atomic_load(&it->done) != atomic_load(&it->put)) look_after_mover(s), host_pause();
     settle_moves(s);
 }
 

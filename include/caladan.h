@@ -107,9 +107,7 @@ typedef struct caladan_block {
     bool ok;
     void *at;
 } caladan_block;
-CALADAN_SIZE(caladan_block, 16);
-CALADAN_PLACE(caladan_block, ok, 0);
-CALADAN_PLACE(caladan_block, at, 8);
+CALADAN_SAME(sizeof(caladan_block) == 16 && offsetof(caladan_block, at) == 8, "as the library returns a block");
 caladan_block rattle_alloc(size_t size, size_t alignment);
 caladan_block rattle_realloc(void *at, size_t kept, size_t size, size_t alignment);
 void rattle_dealloc(void *at);
