@@ -4,8 +4,10 @@ from __future__ import annotations
 
 import base64
 import json
+import os
 import re
 import subprocess
+import sys
 import zlib
 from dataclasses import replace
 from pathlib import Path
@@ -16,8 +18,7 @@ from conftest import TABLE, TOP, Run
 
 from caladan.explaining import command_of
 from caladan.programs import Viewer
-from caladan.refusal import Refusal
-from caladan.reports.explanations import Explainer
+from caladan.reports.explanations import GAP, LONG, Explainer, ranges_of
 from caladan.reports.told import (MOST, Told, chosen, last_before, nearest, parts_of_history, parts_of_report,
                                   passes_changed, shown_numbers)
 from caladan.tables import machine_of
@@ -97,14 +98,45 @@ def test_a_page_that_cannot_be_written(lab: Run, view: str, tmp_path: Path) -> N
     assert told == (3, "", f"caladan_lab: {tmp_path}/no/run.html: No such file or directory (os error 2)\n")
 
 
-def test_a_run_by_a_plan_has_no_page(view: str, tmp_path: Path, monkeypatch: pytest.MonkeyPatch) -> None:
+def shell(command: str, folder: Path, view: str) -> str:
+    """What a command of a page writes where the programs are called by their names."""
+    for name in ("caladan_view", "caladan_sim"):
+        link = folder / name
+        if not link.exists():
+            link.symlink_to(view.replace("caladan_view", name))
+    path = f"{folder}:{os.environ['PATH']}"
+    return subprocess.run(["bash", "-o", "pipefail", "-c", command], cwd=folder, env={**os.environ, "PATH": path},
+                          capture_output=True, text=True, check=True).stdout
+
+
+def test_a_run_by_a_plan_is_explained_by_that_plan(view: str, tmp_path: Path, monkeypatch: pytest.MonkeyPatch) -> None:
     import caladan
     monkeypatch.setenv("CALADAN_VIEW", view)
     table = caladan.Table(TABLE.encode())
-    with pytest.raises(Refusal, match="a run by --pace cannot be explained, so it has no report"):
-        table.run(task=0, load=0.5, turns=5, plan={"pace": 2}).report(tmp_path / "run.html")
-    table.run(task=0, load=0.5, turns=5).report(tmp_path / "run.html", explain="none")
-    assert inside((tmp_path / "run.html").read_text(), "facts")["cores"] == 4
+    run = table.run(task=[0, 1], load=[0.7, 2], service=[1, 50], turns=6, plan={"pace": 2, "beside": 500})
+    run.report(tmp_path / "run.html")
+    page = (tmp_path / "run.html").read_text()
+    facts, why = inside(page, "facts"), inside(page, "why")
+    assert facts["plan"] == "--pace 2 --beside 500" and len(why) == 12
+    (tmp_path / "INPUT").write_bytes(run.input)
+    assert "--pace 2 --beside 500 INPUT | " in facts["command"][0]
+    for number in (0, 5, 11):
+        assert shell(f"--pass {number}".join(facts["command"]), tmp_path, view) == why[number] == run.explain(number)
+    plain = table.run(task=[0, 1], load=[0.7, 2], service=[1, 50], turns=6)
+    assert plain.explain(5) != run.explain(5) and plain.explain(5).startswith("pass 5 now 60 ")
+
+
+def test_the_page_of_a_run_by_a_plan_and_what_is_refused(lab: Run, view: str) -> None:
+    given = example("lockstep/tour")
+    facts, why = reported(lab, view, given, "--pace", "2", "--policy", "assured")
+    assert len(why) == len(facts["reports"]) == 2 * 12 and None not in why
+    assert facts["command"] == ["caladan_view run --table --policy assured --pace 2 INPUT | "
+                                "caladan_view explain --policy assured ", ""]
+    no_arrivals = lab("report", "--pace", "2", given=example("audit/tour"), view=view)
+    assert (no_arrivals.status, no_arrivals.out) == (2, "") and no_arrivals.err.startswith("caladan_lab: ")
+    no_misses = lab("report", "--memory", "5", given=example("measure/refused/no_misses"), view=view)
+    assert no_misses[:2] == (2, "") and "no run by this plan" in no_misses.err
+    assert "--pace <P>" in lab("report", "--pace", "0", given=given, view=view).err
 
 
 def test_a_history_is_cut_at_the_pass_that_is_asked_for() -> None:
@@ -114,6 +146,43 @@ def test_a_history_is_cut_at_the_pass_that_is_asked_for() -> None:
     assert it.up_to(1) == history
     # Where rows are written in a way that hides a pass, the whole is shown.
     assert Explainer(Viewer("none"), "caladan", history, 3).up_to(0) == history
+
+
+def test_ranges_of_passes() -> None:
+    assert ranges_of([]) == [] and ranges_of([4]) == [(4, 5)]
+    assert ranges_of([1, 2, 3 + GAP, 5 + 2 * GAP]) == [(1, 4 + GAP), (5 + 2 * GAP, 6 + 2 * GAP)]
+    parts = ranges_of(range(7, 1000))
+    assert [it for part in parts for it in range(*part)] == [*range(7, 1000)]
+    assert {last - first for first, last in parts[:-1]} == {LONG}
+
+
+@pytest.mark.parametrize("name", ["lockstep/tour", "explain/illegal_action"])
+def test_a_range_of_passes_is_explained_as_each_of_them(view: str, name: str) -> None:
+    viewer = Viewer(view)
+    given = example(name).encode()
+    history = viewer.told(["run", "--table"], given).out if name == "lockstep/tour" else given
+    passes = history.count(b"\npass,")
+    done: list[int] = []
+    asked = sorted({0, 1, passes - 1})
+    why = Explainer(viewer, "caladan", history, passes).each(asked, passes, done.append)
+    assert sum(done) == len(asked) and [n for n, it in enumerate(why) if it is not None] == asked
+    for number in asked:
+        assert why[number] == viewer.told(["explain", "--pass", str(number)], history).out.decode()
+
+
+def test_a_pass_that_cannot_be_explained_has_the_line_that_says_so(view: str, tmp_path: Path) -> None:
+    given = example("explain/refused/looks").encode()
+    why = Explainer(Viewer(view), "caladan", given, 2).each([0, 1], 2, lambda _: None)
+    assert why[0] is not None and why[0].startswith("pass 0 now 100 ")
+    assert why[1] == "caladan_view: pass 1 may not be given its looks\n"
+    # One that ends in the middle of a range, and one that says nothing.
+    stub = tmp_path / "caladan_view"
+    stub.write_text(f"#!{sys.executable}\nimport sys\nfirst, last = int(sys.argv[5]), int(sys.argv[7])\n"
+                    "for it in range(first, min(last + 1, 3)):\n    print(f'pass {it} now 1 bandwidth 0')\n"
+                    "if last == 3:\n    sys.exit('no pass 3')\n")
+    stub.chmod(0o755)
+    told = Explainer(Viewer(str(stub)), "caladan", b"", 5).why((1, 5))
+    assert told == ["pass 1 now 1 bandwidth 0\n", "pass 2 now 1 bandwidth 0\n", "no pass 3\n", ""]
 
 
 def test_parts() -> None:
@@ -152,3 +221,6 @@ def test_commands() -> None:
     assert command_of("it's", "assured", False) == ("caladan_view explain --policy assured ", " 'it'\"'\"'s'")
     assert command_of("-", "caladan", True).of_core("3", "1") == (
         "caladan_sim lockstep --table < INPUT | caladan_view explain --pass 3 --core 1")
+    assert "".join(command_of("a run", "assured", True, ["--pace", "2"])) == (
+        "caladan_view run --table --policy assured --pace 2 'a run' | caladan_view explain --policy assured ")
+    assert "".join(command_of("run", "caladan", False, ["--pace", "2"])) == "caladan_view explain  run"

@@ -2,6 +2,7 @@
 from __future__ import annotations
 
 from fractions import Fraction
+from pathlib import Path
 from typing import Callable
 
 import pytest
@@ -10,13 +11,14 @@ from hypothesis import given
 from hypothesis import strategies as some
 
 from caladan.refusal import Refusal
-from caladan.sweeps.command import asked_of, names_needed
+from caladan.sweeps.command import asked_of, is_table_asked, names_needed
 from caladan.sweeps.objectives import objective_of
 from caladan.tables import machine_of, names_in
 from caladan.times import NANOSECONDS, ticks_of
 from caladan.numbers import UNNAMED
 from caladan.varying import key_tip, setting_text, variations_of, varied_text
 from caladan.words.asked import LAB
+from caladan.words.help import help_of
 from caladan.words.parsing import read_words
 
 MACHINE = machine_of(TABLE.encode())
@@ -44,7 +46,8 @@ def test_times_of_words() -> None:
     assert ticks_of("1e3us", "us", "") is None and ticks_of("-1us", "us", "") is None
     assert objective_of("kv.p99=250us", ("kv",), [0], "ns").ticks == 250_000
     assert refused(lambda: objective_of("0.p99=250us", (), [0])) == (
-        "--slo 0.p99=250us: 250us needs --tick, which says what a tick is: ns, us, ms or s")
+        "--slo 0.p99=250us: 250us needs --tick, which says what a tick is: ns, us, ms or s\n"
+        "  or a line of the table does: # A tick is 1 us.")
     assert refused(lambda: variations_of(["task.0.delay=5,1ns"], (), "us")) == (
         "--vary task.0.delay=5,1ns: 1ns is no whole number of ticks of 1 us, below 2^64")
 
@@ -88,11 +91,54 @@ def test_words_go_by_the_names_of_the_table(lab: Run) -> None:
     words = ["--slo", "kv.p99=65", "--vary", "batch.limit=1,2", "--task", "kv", "--load", "0.5"]
     asked = read_words(LAB, ["sweep", *words])
     assert names_needed(asked) and not names_needed(read_words(LAB, ["sweep", "--load", "1", "--slo", "task.0.max=1"]))
-    of_words = asked_of(asked, known=names_in(NAMED.encode()))
+    of_words = asked_of(asked, table=NAMED.encode())
     assert (of_words.objectives[0].task, of_words.variations[0].key, of_words.loads.task) == (0, "task.1.limit", 0)
     assert of_words.labels.names == ()
     ran = lab("sweep", *words, given=TABLE)
     assert ran == (2, "", "caladan_lab: --task kv: a task is a number, or a name that --names gives\n")
+
+
+def test_times_go_by_the_tick_of_the_table_or_of_the_log(lab: Run, tmp_path: Path) -> None:
+    words = ["--slo", "kv.p99=1ms", "--vary", "kv.delay=0.5ms"]
+    asked, stamp = read_words(LAB, ["sweep", "--load", "1", *words]), b"# A tick is 1 us.\n"
+    assert is_table_asked(asked) and not is_table_asked(read_words(LAB, ["sweep", "--load", "1", "--tick", "us"]))
+    of_words = asked_of(asked, table=stamp + NAMED.encode())
+    assert of_words.objectives[0].ticks == 1000 and of_words.variations[0].values == ("500",)
+    assert refused(lambda: asked_of(asked, table=NAMED.encode())).startswith("--slo kv.p99=1ms: 1ms needs --tick")
+    assert refused(lambda: asked_of(asked, table=b"# A tick is 3 ms.\n" + NAMED.encode())).startswith("--slo kv.p99=")
+    log = tmp_path / "log.csv"
+    log.write_text("time,service\n0,5\n10,5\n")
+    of_log = ["sweep", "--log", str(log), "--unit", "us", "--turn", "5us", *words]
+    cases = (((), b"", 1000), ((), b"# A tick is 1 ns.\n", 10 ** 6), (("--tick", "ns"), b"", 10 ** 6))
+    for more, table, ticks in cases:
+        assert asked_of(read_words(LAB, [*of_log, *more]), table=table + NAMED.encode()).objectives[0].ticks == ticks
+    ran = lab("compare", "--vary", "0.delay=1ms", given=f"{TABLE}---\ncaladan-arrivals,1\nend,0\n")
+    assert ran == (2, "", "caladan_lab: --vary 0.delay=1ms: 1ms needs --tick, which says what a tick is: ns, us, ms or "
+                          "s\n  or a line of the table does: # A tick is 1 us.\n")
+
+
+def test_a_picture_goes_by_them_too(lab: Run, view: str, tmp_path: Path) -> None:
+    pytest.importorskip("matplotlib")
+    given = f"# A tick is 1 us.\n{NAMED}"
+    words = ["--load", "0.5", "--turns", "300", "--service", "3", "--slo", "kv.p50=1ms", "--vary", "kv.delay=10us,20us"]
+    drawn = lab("sweep", *words, "-o", str(tmp_path / "sweep.svg"), given=given, view=view)
+    assert drawn == lab("sweep", *words, "-o", str(tmp_path / "text"), given=given, view=view) == (0, "", "")
+    svg = (tmp_path / "sweep.svg").read_text()
+    assert "p50 at most" in svg and "1000 us" in svg
+    run = f"{given}---\ncaladan-arrivals,1\npass,10,0\nturn,15\nrequest,0,0,1,1,0\nend,3\n"
+    words = ["--vary", "kv.delay=10us,20us", "-j", "1", "-o", str(tmp_path / "c.svg")]
+    drawn = lab("compare", *words, given=run, view=view)
+    assert drawn == (0, "", "") and (tmp_path / "c.svg").read_text().startswith("<?xml")
+    assert lab("compare", "-j", "0", given=run, view=view).status == 2
+
+
+def test_the_short_help_names_what_the_long_one_has_more() -> None:
+    for command in LAB.commands:
+        short, long = (help_of(command, it) for it in (False, True))
+        told = {it for it in short.replace("\n", " ").split() if it.startswith("--")}
+        assert {f"--{it.long}" for it in command.all_args if it.long} <= told
+        assert all(f"  {it.shown()}" in long or f", {it.shown()}" in long for it in command.all_args if it.long)
+        assert max(map(len, short.splitlines())) <= 80
 
 
 def test_which_was_meant() -> None:

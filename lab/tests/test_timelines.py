@@ -2,6 +2,7 @@
 from __future__ import annotations
 
 import json
+import re
 import subprocess
 from pathlib import Path
 from typing import Any, Callable
@@ -212,7 +213,15 @@ def test_of_a_history_the_command_is_explain_alone(lab: Run, view: str, tmp_path
     assert events_of(piped)[-1]["args"].get("explain", " INPUT").endswith(" INPUT")
 
 
-def test_a_run_by_a_plan_has_no_such_command(lab: Run, stub: Stub) -> None:
-    told = lab("timeline", "--commands", "--pace", "2", given=f"{TABLE}---\n{ARRIVALS}", view=stub({}, telling()))
-    assert told == (2, "", "caladan_lab: --commands: a run by --pace is not explained by any command; leave one of the "
-                           "two out\n")
+def test_of_a_run_by_a_plan_the_command_makes_it_by_that_plan(lab: Run, view: str, tmp_path: Path) -> None:
+    file = tmp_path / "run"
+    file.write_text((TOP / "examples" / "lockstep" / "tour" / "input").read_text())
+    told = events_of(lab("timeline", "--commands", "--pace", "2", str(file), view=view).out)
+    commands = [it["args"]["explain"] for it in told if "explain" in it.get("args", {})]
+    front = f"caladan_view run --table --pace 2 {file} | caladan_view explain --pass "
+    assert commands and all(it.startswith(front) for it in commands)
+    for it in commands[:2] + commands[-2:]:
+        words = it.replace("caladan_view", view)
+        ran = subprocess.run(["bash", "-o", "pipefail", "-c", words], capture_output=True, text=True, check=True)
+        number, core = re.findall(r"\d+", it.removeprefix(front))
+        assert ran.stdout.startswith(f"pass {number} ") and f"  core {core}: " in ran.stdout

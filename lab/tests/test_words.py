@@ -1,6 +1,11 @@
 """What words ask for, how they are refused, and what help says."""
 from __future__ import annotations
 
+import subprocess
+from importlib.machinery import SourceFileLoader
+from importlib.util import module_from_spec, spec_from_loader
+from pathlib import Path
+
 import pytest
 from conftest import TOP, Run
 
@@ -144,3 +149,25 @@ def test_no_word_is_no_job(lab: Run) -> None:
     status, out, err = lab()
     assert (status, out) == (2, "") and err.startswith("Many runs of the core scheduler")
     assert lab("--version") == (0, f"caladan_lab {__version__}\n", "")
+
+
+def test_completions_know_the_values_that_a_help_lists(tmp_path: Path, monkeypatch: pytest.MonkeyPatch) -> None:
+    monkeypatch.syspath_prepend(str(TOP / "tools"))
+    manual = module_from_spec(spec_from_loader("manual", SourceFileLoader("manual", str(TOP / "tools" / "manual"))))
+    manual.__loader__.exec_module(manual)
+    with pytest.raises(Shown) as it:
+        asked("report", "--help")
+    values = manual.values_of(str(it.value))
+    assert values == {"--policy": ["caladan", "assured"], "--explain": ["all", "changes", "none"],
+                      "--tick": ["ns", "us", "ms", "s"]}
+    chosen = {("report", flag): own for flag, own in values.items()}
+    file = tmp_path / "caladan_lab"
+    file.write_text(manual.bash("caladan_lab", {"report": ""}, {"": ["--help"], "report": [*values]}, [], chosen))
+    for last, word, wanted in (("--explain", "", "all changes none"), ("--explain", "c", "changes"),
+                               ("report", "--t", "--tick"), ("--came", "", "--policy --explain --tick")):
+        ran = subprocess.run(["bash", "-c", f". {file}; COMP_WORDS=(caladan_lab report {last} '{word}'); COMP_CWORD=3; "
+                              f"_caladan_lab caladan_lab '{word}' {last}; echo \"${{COMPREPLY[@]}}\""],
+                             capture_output=True, text=True, check=True)
+        assert ran.stdout == f"{wanted}\n"
+    page = manual.page("x", "about", "5", str(it.value))
+    assert '.SH "OPTIONS"' in page and "      \\fB\\-\\-explain\\fR <WHICH>" in page

@@ -17,7 +17,7 @@ from .files import Output, read_named
 from .labels import Labels, names_of
 from .plans import plan_words
 from .players import Players, naming, own_of
-from .programs import Came, Text, Viewer, Word, simulator, viewer
+from .programs import Came, Text, Viewer, Word, viewer
 from .refusal import Refusal
 from .stamps import tick_of
 from .sweeps.command import answer as swept
@@ -301,20 +301,30 @@ class Run:
 
     def report(self, file: Union[str, "os.PathLike[str]"], explain: str = "") -> None:
         """Writes the run as one page of HTML to click through, as `caladan_lab report` does: explain="all", "changes"
-        or "none" says which passes are explained. Refusal of a run by a plan, and where the page cannot be written."""
+        or "none" says which passes are explained. Refusal of a run by a policy of your own, which no rule explains, and
+        where the page cannot be written."""
         from .reports.command import report_of
-        if self.plan:
-            raise Refusal(f"a run by {self.plan[0]} cannot be explained, so it has no report")
-        page = report_of(self.table.view, self.input, self.table.labels, self.policy, explain, came=self.came)
+        self.refuse_own()
+        page = report_of(self.table.view, self.input, self.table.labels, self.policy, explain, came=self.came,
+                         plan=self.plan)
         Output(os.fspath(file)).keep(page)
 
     def explain(self, number: int, task: Optional[int] = None, core: Optional[int] = None) -> str:
         """Why a pass, from 0, does what it does."""
+        self.refuse_own()
+        more = words_of({"pass": number, "task": task, "core": core})
+        return self.table.view.told(["explain", "--policy", self.policy, *more], self.history).out.decode()
+
+    def refuse_own(self) -> None:
+        """Refuses a policy by whose rules nothing is explained."""
         if self.is_own:
             raise Refusal(f"{self.policy}: a pass is explained by the rules of caladan or of assured")
-        more = words_of({"pass": number, "task": task, "core": core})
-        history = simulator(self.table.view).told(["lockstep", "--table", "--policy", self.policy], self.input).out
-        return self.table.view.told(["explain", "--policy", self.policy, *more], history).out.decode()
+
+    @functools.cached_property
+    def history(self) -> bytes:
+        """The history of the run, below its table."""
+        from .reports.told import history_of
+        return history_of(self.table.view, self.by, self.plan, self.input)
 
     def picture(self, file: File = None, first: int = 0, passes: Optional[int] = None, task: Optional[int] = None,
                 width: int = 800, dark: bool = False, responses: bool = False) -> Picture:
@@ -440,7 +450,7 @@ def sweep(table: OfTable, load: Load = None, vary: Optional[Keys] = None, polici
     words, asked = _asked("sweep", of_table, vary, {"load": load_word(given), **of_log(log, scale, rate), **options})
     names_of(asked.one("names"))
     read = None if log is None or isinstance(log, (str, os.PathLike)) else log
-    of_words = asked_of(asked, read, names_in(of_table.text))
+    of_words = asked_of(asked, read, table_part(of_table.text))
     csv, lines = swept(of_words, of_table.text, of_table.view)
     return Answer(csv, tuple(words), of_table, tuple(lines.splitlines()), swept=of_words.loads.task)
 

@@ -73,10 +73,10 @@ class Progress:
         self.done, self.written, self.lock = 0, 0, threading.Lock()
         self.shown: Optional[Shown] = None
 
-    def made(self) -> None:
-        """One more is done."""
+    def made(self, many: int = 1) -> None:
+        """One more is done, or so many."""
         with self.lock:
-            self.done += 1
+            self.done += many
             after = int((time.monotonic() - self.began) * 1000)
             if self.is_shown and after >= PATIENCE and after >= self.written + STEADY:
                 self.written = after

@@ -20,12 +20,18 @@ def tick_in(text: bytes) -> Optional[Fraction]:
     return Fraction(found[1].decode()) * nanoseconds(found[2].decode()) if found else None
 
 
+def unit_in(text: bytes) -> str:
+    """The unit of a tick, as the table of an input says it; empty where it says none."""
+    own = tick_in(text)
+    return unit_of(own) if own is not None else ""
+
+
 def tick_of(text: bytes, asked: Optional[str]) -> str:
     """The unit of a tick: that of the word --tick, else the one that the table of an input says. Refusal where the word
     is another than the table's."""
     own = tick_in(text)
     if own is None or not asked:
-        return asked or (unit_of(own) if own is not None else "")
+        return asked or unit_in(text)
     if own != nanoseconds(asked):
         raise Refusal(f"--tick {asked}: the table says that a tick is {said_length(own)}",
                       below="  leave --tick out; or make the run again by `caladan_lab log` with another --tick\n")

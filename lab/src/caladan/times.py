@@ -12,6 +12,9 @@ NANOSECONDS = {"ns": 1, "us": 10 ** 3, "ms": 10 ** 6, "s": 10 ** 9}
 TIME = re.compile(r"([0-9]{1,20}(?:\.[0-9]{1,9})?)(ns|us|ms|s)")
 
 
+OR_TABLE = "  or a line of the table does: # A tick is 1 us.\n"
+
+
 def is_with_unit(text: str) -> bool:
     """Whether a text is a number with a unit of time."""
     return TIME.fullmatch(text) is not None
@@ -24,7 +27,7 @@ def ticks_of(text: str, tick: str, said: str) -> Optional[int]:
     if it is None:
         return number_of(text)
     if not tick:
-        raise Refusal(f"{said}: {text} needs --tick, which says what a tick is: ns, us, ms or s")
+        raise Refusal(f"{said}: {text} needs --tick, which says what a tick is: ns, us, ms or s", below=OR_TABLE)
     ticks = Fraction(it[1]) * NANOSECONDS[it[2]] / NANOSECONDS[tick]
     if ticks.denominator != 1 or ticks >= WORD:
         raise Refusal(f"{said}: {text} is no whole number of ticks of 1 {tick}, below 2^64")

@@ -142,6 +142,6 @@ def trials_of(table: Table, load: Load, vary: Optional[Keys], policies: Sequence
     words = ["sweep", "--csv", *vary_words(vary), *words_of(given)]
     asked = read_words(LAB, words)
     names_of(asked.one("names"))
-    swept = swept_input(replace(asked_of(asked), policies=names), table.text, table.view, others=own)
+    swept = swept_input(replace(asked_of(asked, table=table.text), policies=names), table.text, table.view, others=own)
     csv, lines = answer_of(swept)
     return Trials(table, Answer(csv, tuple(words), table, tuple(lines.splitlines())), swept)

@@ -13,8 +13,8 @@ from ..players import Players, own_of
 from ..pool import each
 from ..programs import viewer
 from ..refusal import Refusal
-from ..stamps import tick_of
-from ..sweeps.command import names_needed
+from ..stamps import tick_of, unit_in
+from ..sweeps.command import is_table_asked
 from ..tables import SEPARATOR, Machine, names_in, table_part
 from ..varying import Variations, setting_text, varied, variations_of
 from ..windows import MIDDLE, Window
@@ -82,16 +82,16 @@ class Comparison:
 
     def text(self) -> bytes:
         """The answer."""
-        tick = self.asked.one("tick") or ""
-        early = self.source.read(self.front) if names_needed(self.asked) else None
+        early = self.source.read(self.front) if is_table_asked(self.asked) else None
         names = self.names or (names_in(table_part(early)) if early is not None else ())
+        tick = self.asked.one("tick") or (unit_in(early) if early is not None else "")
         variations = variations_of(self.asked.all("vary"), names, tick)
         given = self.source.read(self.front) if early is None else early
         if self.files and separator(given[len(self.front):]):
             raise Refusal(f"{self.input_name or 'the standard input'}: a line --- in arrivals", below=ALONE)
         came = None if self.came_name is None else (self.came_name, read_named(self.came_name))
         parts = parts_of(given, bool(variations), self.files, self.input_name)
-        labels = Labels(self.names, tick_of(given, tick or None), table_names(self.files))
+        labels = Labels(self.names, tick_of(given, self.asked.one("tick")), table_names(self.files))
         return answer(self.asked, Reading(viewer(self.asked.one("program")), given, parts, bool(variations)),
                       variations, labels, came)
 
@@ -139,10 +139,10 @@ def runs_of(asked: Asked, reading: Reading, variations: Variations, labels: Labe
 
 
 def sheet_of(runs: Runs, variations: Variations, labels: Labels, has_came: bool, is_csv: bool,
-             is_shown: bool = False) -> bytes:
-    """What is written of the runs of a comparison, which are made; in all rows where the file of when requests came is
-    given."""
-    sheet = CompareSheet(runs.all(is_shown), runs.terms.policies, variations, labels, has_came, is_csv)
+             is_shown: bool = False, jobs: Optional[int] = None) -> bytes:
+    """What is written of the runs of a comparison, which are made, so many at a time; in all rows where the file of
+    when requests came is given."""
+    sheet = CompareSheet(runs.all(is_shown, jobs), runs.terms.policies, variations, labels, has_came, is_csv)
     return sheet.written().encode("utf-8", "surrogateescape")
 
 
@@ -154,7 +154,8 @@ def answer(asked: Asked, reading: Reading, variations: Variations, labels: Label
         machines, arrivals = tables_of(asked, reading, variations, labels)
         return input_text(ProgramMover(reading.view, arrivals), machines, variations, table)
     runs = runs_of(asked, reading, variations, labels, came)
-    return sheet_of(runs, variations, labels, came is not None, asked.has("csv"), is_terminal())
+    is_shown = is_terminal() and not asked.has("quiet")
+    return sheet_of(runs, variations, labels, came is not None, asked.has("csv"), is_shown, asked.number("jobs"))
 
 
 def table_name(variations: Variations, table: int) -> str:

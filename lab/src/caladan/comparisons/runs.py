@@ -3,7 +3,7 @@ from __future__ import annotations
 
 import itertools
 from dataclasses import dataclass, field, replace
-from typing import Sequence
+from typing import Optional, Sequence
 
 from .. import pool
 from ..figures import MaybeFigure
@@ -127,9 +127,10 @@ class Runs:
         words: list[Word] = ["requests", *self.words_of(table, policy, moved)]
         return samples_of(self.view.told([*words, *came], given).out, tasks, *self.terms.window.clocks(self.turns))
 
-    def all(self, is_shown: bool = False) -> list[ComparedRun]:
-        """The runs of each table by each policy: of the first table by each, then of the next. The refusal is that of
-        the first table by the first policy that has one. On a terminal it may be shown how many are made."""
+    def all(self, is_shown: bool = False, jobs: Optional[int] = None) -> list[ComparedRun]:
+        """The runs of each table by each policy, so many at a time: of the first table by each, then of the next. The
+        refusal is that of the first table by the first policy that has one. On a terminal it may be shown how many are
+        made."""
         policies = self.terms.policies
         units = list(itertools.product(range(len(self.machines)), policies))
         places = [place * len(self.machines) + table for table in range(len(self.machines))
@@ -141,7 +142,7 @@ class Runs:
             progress.made()
             return run
         try:
-            with self.players.at_work():
-                return pool.all_of(made, units, pool.at_a_time(), places)
+            with self.players.at_work(jobs):
+                return pool.all_of(made, units, pool.at_a_time(jobs), places)
         finally:
             progress.ended()

@@ -20,7 +20,7 @@ from .asked import OF_LOADS, known, log_of, terms_of
 from .dealing import OWN_SEED, Terms, tasks_of, turn_in, turns_of, work_of
 from .draws import block_of, drawn, scaled
 from .log import Log
-from .units import unit_of
+from .units import nanoseconds, unit_of
 
 SCALE, MOST_SCALE = "--scale", 1_000_000
 A_SCALE = "a scale is a number above 0 and at most 1000, with up to three digits after the point"
@@ -52,6 +52,10 @@ class LogLoads(Loads):
     @property
     def shown(self) -> list[int]:
         return [it.task for it in self.tasks if it.service != ENDLESS]
+
+    def unit(self, tick: str) -> str:
+        assert self.asked is not None
+        return unit_of(terms_of(self.asked, self.its_log, Fraction(nanoseconds(tick)) if tick else None).tick)
 
     def settled(self, given: bytes, ticks: int, tick: str) -> tuple[Loads, int, str]:
         assert self.asked is not None

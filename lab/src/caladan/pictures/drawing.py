@@ -5,6 +5,7 @@ from dataclasses import replace
 from typing import Callable, NamedTuple, Optional, Sequence
 
 from ..stamps import tick_of
+from ..tables import names_in
 from ..words.drawn import format_of
 from .asked import Look, PictureAsked
 from .bands import Scene
@@ -65,10 +66,11 @@ def compare_paper(got: Compared, look: Look) -> Paper:
                                         look.tick or got.numbers.unit, got.policies))
 
 
-def sweep_paper(sweep: Sweep, table: Optional[Table], swept: Optional[int], goals: Sequence[str], look: Look) -> Paper:
+def sweep_paper(sweep: Sweep, table: Optional[Table], swept: Optional[int], goals: Sequence[str], look: Look,
+                known: Sequence[str] = ()) -> Paper:
     """The picture of a sweep: of the task that is swept, where that is known, with the first objective of these words
-    that is of it."""
-    goal = goal_in(goals, look.names, swept, look.tick)
+    that is of it. Where nobody names the tasks, words may do so by the names that are known of the table."""
+    goal = goal_in(goals, look.names or known, swept, look.tick or sweep.unit)
     task = goal.task if goal and swept is None else swept
     names = [it.label for it in named_tasks(table.tasks, look.names)] if table else look.names
     name = names[task] if task is not None and task < len(names) else ""
@@ -88,8 +90,10 @@ def of_compare(asked: PictureAsked) -> Drawn:
 
 
 def of_sweep(asked: PictureAsked) -> Drawn:
-    got = swept_from(read_all(asked), asked, maybe(asked.table))
-    return Drawn(sweep_paper(got.sweep, got.table, got.task, asked.goals, asked.look), got.told)
+    given = read_all(asked)
+    got = swept_from(given, asked, maybe(asked.table))
+    known = names_in(given[0].text.encode("utf-8", "surrogateescape"))
+    return Drawn(sweep_paper(got.sweep, got.table, got.task, asked.goals, asked.look, known), got.told)
 
 
 def of_seeds(asked: PictureAsked) -> Drawn:

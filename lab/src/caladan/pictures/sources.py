@@ -19,8 +19,9 @@ from ..pool import each
 from ..programs import Text, Viewer, Word, refused, viewer
 from ..refusal import Refusal
 from ..rules import refuse_other_rule
+from ..stamps import unit_in
 from ..sweeps.command import answer, asked_of
-from ..tables import SEPARATOR, machine_of, names_in
+from ..tables import SEPARATOR, machine_of, names_in, table_part
 from ..varying import variations_of
 from .asked import PictureAsked, RunsRefused, runs_for
 from .facts import (Request, Run, Span, Standing, by_pass, kind_of, read_facts, request_of, run_of, span_of,
@@ -221,14 +222,15 @@ def compared_inputs(inputs: Sequence[Given], asked: PictureAsked) -> Compared:
     given = joined_inputs(inputs, asked.arrivals)
     view = viewer(asked.program)
     with asking():
-        variations = variations_of(words.all("vary"), asked.look.names, asked.look.tick)
+        variations = variations_of(words.all("vary"), asked.look.names or names_in(table_part(given.text)),
+                                   asked.look.tick or unit_in(given.text))
         labels = Labels(tables=table_names(given.files))
         came = words.one("came")
         comings = None if came is None else (came, read_named(came))
         reading = Reading(view, given.text, parts_of(given.text, bool(variations), given.files, given.arrivals),
                           bool(variations))
         runs = runs_of(words, reading, variations, labels, comings)
-        csv = sheet_of(runs, variations, labels, comings is not None, True).decode()
+        csv = sheet_of(runs, variations, labels, comings is not None, True, jobs=words.number("jobs")).decode()
         return columns_compared(read_comparison(csv, "compare --csv"), runs)
 
 
@@ -314,7 +316,7 @@ def swept_input(given: Given, asked: PictureAsked) -> Swept:
     view = viewer(asked.program)
     with asking():
         words = runs_for(asked)
-        of_words = asked_of(words, known=names_in(given.text.encode()))
+        of_words = asked_of(words, table=table_part(given.text.encode()))
         csv, lines = answer(of_words, given.text.encode(), view, is_terminal() and not of_words.is_quiet)
     return Swept(read_sweep(csv, "sweep --csv"), read_table(given.text, given.name), of_words.loads.task, lines)
 

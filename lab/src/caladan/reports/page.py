@@ -32,10 +32,12 @@ def tasks_of(told: Told, labels: Labels) -> list[dict[str, object]]:
     return [{"label": labels.task(n), **asdict(it)} for n, it in enumerate(told.machine.tasks)]
 
 
-def facts_of(told: Told, labels: Labels, policy: str, command: Sequence[str], unexplained: str) -> dict[str, object]:
+def facts_of(told: Told, labels: Labels, policy: str, command: Sequence[str], unexplained: str,
+             plan: Sequence[str] = ()) -> dict[str, object]:
     """What the page knows of a run, but for its explanations."""
     return {"cores": told.machine.cores, "bandwidthLimit": told.machine.bandwidth_limit,
-            "tasks": tasks_of(told, labels), "tick": labels.tick, "policy": policy, "verdict": told.verdict,
+            "tasks": tasks_of(told, labels), "tick": labels.tick, "policy": policy, "plan": " ".join(plan),
+            "verdict": told.verdict,
             "spans": told.spans, "series": told.series, "requests": told.requests, "numbers": told.numbers,
             "reports": told.reports, "command": command, "unexplained": unexplained,
             "palettes": {"light": palette(LIGHT), "dark": palette(DARK)}}

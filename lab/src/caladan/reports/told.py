@@ -81,16 +81,25 @@ def reports_of(view: Viewer, policy: str, history: bytes) -> tuple[tuple[str, ..
     return parts_of_history(history), view.ask(["explain", "--policy", policy], history).out.decode()
 
 
-def told_of(view: Viewer, policy: str, given: bytes, labels: Labels, came: Optional[bytes] = None) -> Told:
-    """What the programs tell of an input. That there are not as many names as tasks comes after what they refuse."""
+def history_of(view: Viewer, by: Sequence[Word], plan: Sequence[str], given: bytes) -> bytes:
+    """The history of the run on these arrivals, below its table: in lockstep, or by a plan."""
+    if plan:
+        return view.told(["run", "--table", *by], given).out
+    return simulator(view).told(["lockstep", "--table", *by], given).out
+
+
+def told_of(view: Viewer, policy: str, given: bytes, labels: Labels, came: Optional[bytes] = None,
+            plan: Sequence[str] = ()) -> Told:
+    """What the programs tell of an input, of arrivals by the words of a plan. That there are not as many names as tasks
+    comes after what they refuse."""
     refuse_other_rule(given)
-    by: list[Word] = ["--policy", policy]
+    by: list[Word] = ["--policy", policy, *plan]
     is_run = is_of_arrivals(trace_of(given))
-    shown = view.told(["history", "--table", *by], given).out if is_of_signals(trace_of(given)) else given
+    shown = view.told(["history", "--table", *by[:2]], given).out if is_of_signals(trace_of(given)) else given
     spans = view.told(["spans", *by], shown).out.decode()
     machine = machine_of(table_part(given))
     counted(labels.names, len(machine.tasks))
-    history = simulator(view).told(["lockstep", "--table", *by], given).out if is_run else shown
+    history = history_of(view, by, plan, given) if is_run else shown
     reports, verdict = reports_of(view, policy, history)
     if not reports:
         raise Refusal("the run has no passes: there is nothing to report")

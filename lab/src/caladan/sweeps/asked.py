@@ -8,6 +8,7 @@ from ..labels import Labels
 from ..numbers import WORD, number_of
 from ..plans import Plan, plan_of
 from ..refusal import Refusal
+from ..times import is_with_unit
 from ..varying import Variation, variations_of
 from ..words.parsing import Asked
 from .loads import Loads, asked_loads
@@ -116,14 +117,23 @@ def _loads(asked: Asked, names: tuple[str, ...], log: Optional[Log]) -> Loads:
     return asked_loads(asked, names)
 
 
-def sweep_asked(asked: Asked, labels: Labels, log: Optional[Log] = None, known: Sequence[str] = ()) -> SweepAsked:
+def has_times(asked: Asked) -> bool:
+    """Whether words say a time with its unit, and do not say what a tick is."""
+    values = [it.rpartition("=")[2] for it in (*asked.all("slo"), *asked.all("vary"))]
+    return not asked.has("tick") and any(is_with_unit(it) for value in values for it in value.split(","))
+
+
+def sweep_asked(asked: Asked, labels: Labels, log: Optional[Log] = None, known: Sequence[str] = (),
+                tick: str = "") -> SweepAsked:
     """What words ask for, where they need no table, maybe of a log that is read; the first that is refused is told of.
-    In words a task may go by its label, or without labels by the name that is known of its table."""
+    In words a task may go by its label, or without labels by the name that is known of its table, and a time has a
+    unit where a word, the table or the log says what a tick is."""
     names = labels.names or tuple(known)
     loads = _loads(asked, names, log)
     tasks = [it.task for it in loads.tasks]
-    objectives = tuple(objective_of(it, names, tasks, labels.tick) for it in asked.all("slo"))
-    variations = tuple(variations_of(asked.all("vary"), names, labels.tick))
+    unit = labels.tick or (loads.unit(tick) if has_times(asked) else "")
+    objectives = tuple(objective_of(it, names, tasks, unit) for it in asked.all("slo"))
+    variations = tuple(variations_of(asked.all("vary"), names, unit))
     turns = asked.number("turns") or 0
     first, after = _window(asked, turns)
     return SweepAsked(

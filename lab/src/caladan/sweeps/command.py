@@ -13,10 +13,11 @@ from ..players import Players, own_of
 from ..programs import Viewer, refused, viewer
 from ..progress import Progress
 from ..refusal import Refusal
+from ..stamps import unit_in
 from ..tables import Machine, machine_of, names_in, table_part
 from ..varying import varied
 from ..words.parsing import Asked
-from .asked import SweepAsked, sweep_asked
+from .asked import SweepAsked, has_times, sweep_asked
 from .loads import OFFERED, TASK
 from .runs import Point, Runs, SweptRun, Unit
 from .sheet import SweepSheet
@@ -103,6 +104,11 @@ def answer_of(swept: Swept) -> tuple[str, str]:
     return SweepSheet(swept).written(verdict), verdict.lines()
 
 
+def is_table_asked(asked: Asked) -> bool:
+    """Whether words say what only the table can explain: names of tasks, or times where no word says what a tick is."""
+    return names_needed(asked) or has_times(asked)
+
+
 def names_needed(asked: Asked) -> bool:
     """Whether words call tasks by names that the words do not give, so that the table is asked for them."""
     places = [*asked.all("task"), *(it.rpartition("=")[0].partition(".p")[0].removesuffix(".max")
@@ -112,10 +118,11 @@ def names_needed(asked: Asked) -> bool:
     return not asked.has("names") and any(it and number_of(it) is None for it in called)
 
 
-def asked_of(asked: Asked, log: Optional[Log] = None, known: Sequence[str] = ()) -> SweepAsked:
-    """What the words ask for, but for the table, of whose tasks these names are known; maybe of a log that is read."""
+def asked_of(asked: Asked, log: Optional[Log] = None, table: bytes = b"") -> SweepAsked:
+    """What the words ask for, maybe of a log that is read. Of the table that is theirs only the names of its tasks and
+    the unit of a tick count, as its comments say them."""
     labels = Labels(names_of(asked.one("names")), asked.one("tick") or "")
-    of_words = sweep_asked(asked, labels, log, known)
+    of_words = sweep_asked(asked, labels, log, names_in(table), unit_in(table))
     if not of_words.loads.has_misses:
         of_words.plan.refuse_without_misses()
     return of_words
@@ -128,8 +135,8 @@ def sweep(asked: Asked) -> int:
     source = Source(None if file == "-" else file)
     output_name = asked.one("output")
     output = Output(None if output_name == "-" else output_name)
-    early = source.read() if names_needed(asked) else None
-    of_words = asked_of(asked, known=names_in(table_part(early)) if early is not None else ())
+    early = source.read() if is_table_asked(asked) else None
+    of_words = asked_of(asked, table=b"" if early is None else table_part(early))
     given = source.read() if early is None else early
     is_shown = is_terminal() and not of_words.is_quiet
     text, lines = answer(of_words, given, viewer(asked.one("program")), is_shown)

@@ -84,6 +84,10 @@ class Loads:
         """The tasks that have rows where objectives do not say which."""
         return [self.task]
 
+    def unit(self, tick: str) -> str:
+        """The unit of a tick, where the table says this one, or none."""
+        return tick
+
     def settled(self, given: bytes, ticks: int, tick: str) -> tuple["Loads", int, str]:
         """The same for a table, which may say what a tick is; the ticks of a turn; and the unit of a tick."""
         return self, ticks, tick_of(given, tick)

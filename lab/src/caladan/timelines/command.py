@@ -122,13 +122,12 @@ def answer(asked: Asked, given: bytes, names: tuple[str, ...]) -> Iterator[bytes
 
 def command_for(asked: Asked, trace: bytes) -> Command:
     """The command that explains a pass of the input."""
-    return command_of(asked.one("input"), asked.one("policy") or "caladan", is_of_arrivals(trace))
+    return command_of(asked.one("input"), asked.one("policy") or "caladan", is_of_arrivals(trace),
+                      plan_of(asked).words())
 
 
 def timeline(asked: Asked) -> int:
     """Does what the words after `timeline` ask for; answers the exit status."""
-    if asked.has("commands") and (plan := plan_of(asked).words()):
-        raise Refusal(f"--commands: a run by {plan[0]} is not explained by any command; leave one of the two out")
     names = names_of(asked.one("names"))
     file, output_name = asked.one("input"), asked.one("output")
     source = Source(None if file == STANDARD else file)

@@ -48,13 +48,21 @@ def in_long_help(args: tuple[Arg, ...]) -> tuple[Arg, ...]:
     return tuple(replace(it, hidden=True) for it in args)
 
 
+def at_a_time(what: str, done: str = "") -> tuple[Arg, ...]:
+    """How many run at a time, and whether it is shown how many are done."""
+    return (option("jobs", "N", f"Run N {what} at a time at most [default: 2 a processor]", short="j",
+                   number=Number(1, 2 ** 63 - 1), hidden=True),
+            flag("quiet", f"Do not show on a terminal how many {done or what} are done", short="q", hidden=True))
+
+
 COMPARE = Command(
     "compare", f"{NAME} compare", "Run several tables on the same arrivals, and compare their numbers", texts.COMPARE,
     (Arg("tables", "The input; with --arrivals the tables, a file each", value="FILE", many=True),
      option("arrivals", "FILE", "The arrivals of all tables"), BY_EACH, *COUNT,
      option("window", "WINDOW", "Rank what came in the middle of the run, or all [default: middle]",
             names=("middle", "whole"), hidden=True), *PLAN, VARY, CSV, NAMES, TICK,
-     number("write-input", "N", "Write the input of table N's run instead, from 0", conflicts="csv"), OUTPUT),
+     number("write-input", "N", "Write the input of table N's run instead, from 0", conflicts="csv"),
+     *at_a_time("runs"), OUTPUT),
     extra=PICTURE, own=OWN)
 
 SWEEP = Command(
@@ -72,10 +80,7 @@ SWEEP = Command(
      option("rules", "VERSION", "Judge as version 4 did, or as 5 [default: 5]", names=("4", "5"), hidden=True),
      flag("by-seed", "A row for each seed in place of three", hidden=True),
      flag("cheapest", "List what keeps every objective, best for best effort first", needs="slo", hidden=True),
-     option("jobs", "N", "Run N loads at a time at most [default: 2 a processor]", short="j",
-            number=Number(1, 2 ** 63 - 1), hidden=True),
-     flag("quiet", "Do not show on a terminal how many loads are done", short="q", hidden=True),
-     CSV, NAMES, TICK, OUTPUT),
+     *at_a_time("loads"), CSV, NAMES, TICK, OUTPUT),
     extra=PICTURE, own=OWN, sections=(SWEPT_LOG,))
 
 TIMELINE = Command(
@@ -84,10 +89,8 @@ TIMELINE = Command(
 
 REPORT = Command(
     "report", f"{NAME} report", "Write a run as one page to click through, with why", REPORT_TEXT,
-    (INPUT, POLICY, COUNT[0], EXPLAIN, NAMES, TICK,
-     option("jobs", "N", "Ask for N passes at a time at most [default: 2 a processor]", short="j",
-            number=Number(1, 2 ** 63 - 1), hidden=True),
-     flag("quiet", "Do not show on a terminal how many passes are done", short="q", hidden=True), OUTPUT),
+    (INPUT, POLICY, COUNT[0], EXPLAIN, NAMES, TICK, *in_long_help(PLAN),
+     *at_a_time("questions", "passes"), OUTPUT),
     extra=(PROGRAM,))
 
 LAB = Command(
@@ -96,7 +99,7 @@ Each word makes runs by caladan_view, side by side, and writes what came of
 them. With -o the answer goes to a file, which appears only once the answer is
 complete; a name that ends in .svg, .png or .pdf is that of a picture.
 `caladan_lab WORD --help` says what is read and written, with a whole input to
-copy; `man caladan-viewer` has the rest.
+copy; docs/VIEWER.md has the rest, which a release has as `man caladan-viewer`.
 
 Exit status: 0 done, 1 an objective missed, 2 bad arguments or rejected input, 3
 memory or output was refused, or a program is missing. A fault is one line on

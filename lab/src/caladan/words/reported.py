@@ -19,9 +19,10 @@ as `caladan_view explain` says it, and the command that says it again. It is
 light or dark as its reader is, and goes by keys too.
 Without --explain all passes are explained if they are no more than 300; else
 300: those in which one of the slowest requests waited, and those nearest to
-them that did something. --explain changes explains all of both kinds. Each
-takes a run of `caladan_view explain` over the passes before it.
---came is as in `measure`.
+them that did something. --explain changes explains all of both kinds.
+--came is as in `measure`. With --pace, --beside, --memory or --figure there
+must be arrivals, and their run is like a machine: docs/VIEWER.md, "Runs like a
+machine".
 Exit status: 0 done, 2 rejected input, 3 memory or output was refused.
 
 To try it:

@@ -211,8 +211,7 @@ the turns that worked at it, and arrows from the request to these turns.
 With --pace, --beside, --memory or --figure there must be arrivals, and their
 run is like a machine: docs/VIEWER.md, "Runs like a machine".
 With --commands each slice of a core has the command that says why it began, as
-its argument `explain`; not of a run that is like a machine, which no command
-explains.
+its argument `explain`.
 Exit status: 0 done, 2 rejected input, 3 memory or output was refused.
 
 To try it:

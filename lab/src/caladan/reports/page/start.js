@@ -19,7 +19,7 @@ function tellAbout() {
   const tasks = run.tasks.map(it => `${it.label} (${it.kind})`).join(", ");
   const asked = run.requests.length ? `, ${run.requests.length.toLocaleString("en")} requests` : "";
   document.getElementById("about").textContent = `${passes.toLocaleString("en")} passes over ${cores}${asked}; tasks: `
-    + `${tasks}; policy ${run.policy}${run.verdict ? "; not a legal history of it" : ""}.`;
+    + `${tasks}; policy ${run.policy}${run.plan && `; run by ${run.plan}`}${run.verdict ? "; not a legal history of it" : ""}.`;
 }
 
 // The slowest first; what is pending ranks after what is answered, by how long it is pending.
