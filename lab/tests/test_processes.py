@@ -151,8 +151,8 @@ def test_a_program_that_ends_badly(body: str, said: str, tmp_path: Path) -> None
 
 
 @pytest.mark.parametrize("command, said", [
-    ("/none/mine", "No such file or directory"), ("", "no program is named"), ("'", "No closing quotation"),
-    ("/", "Permission denied")])
+    ("/none/mine", "No such file or directory"), ("", "no program is named"),
+    ("'", "No closing quotation"), ("/", "Permission denied")])
 def test_a_program_that_cannot_be_begun(command: str, said: str) -> None:
     with pytest.raises(Refusal) as it:
         history_of(ProcessPolicy(command, 60), 11)

@@ -78,8 +78,8 @@ class Guarded:
             self.policy.begin(self.machine)
         actions = self.policy.decide(self.machine)
         if not isinstance(actions, Iterable) or type(actions) in NAMES:
-            raise TypeError(f"{self.policy.called}.decide gave {actions!r}; wanted: that it yields {WANTED}, or "
-                            "gives a list of them")
+            raise TypeError(f"{self.policy.called}.decide gave {actions!r}; wanted: that it yields {WANTED}, or gives "
+                            "a list of them")
         if isinstance(actions, Generator):
             self.drive(board, actions)
         else:
