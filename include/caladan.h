@@ -39,11 +39,11 @@
  * Since version 5: CALADAN_POLICY_ASSURED is decided and audited by another rule (docs/POLICY.md): what an earlier
  * version decided by it may be CALADAN_ILLEGAL now. New is CALADAN_ASSURED_RULE.
  * Queries take a const handle, and compilers warn where the answer of a call that opens, makes
- * a pass or judges is not looked at. New are
- * caladan_holder_of, caladan_guard_holder_of, caladan_guard_ban_of and caladan_guard_last_of, which take any
- * number; the exports without `_of` take a byte, are deprecated, and are no macros any more.
- * New too are caladan_open_rows_policy and caladan_audit_open_rows_policy. What opens tables of rows is in
- * caladan_rows.c, libcaladan_rows.a where it is installed. A heap of your own may take the place of liblibc_c.a.
+ * a pass or judges is not looked at. New are caladan_holder_of, caladan_guard_holder_of, caladan_guard_ban_of
+ * and caladan_guard_last_of, which take any number; the exports without `_of` take a byte, are deprecated, and
+ * are no macros any more. New too are caladan_open_rows_policy and caladan_audit_open_rows_policy. What opens
+ * tables of rows is in caladan_rows.c, in libcaladan_rows.a where it is installed. A heap of your own may take
+ * the place of liblibc_c.a.
  * Since version 3: a handle may move from one thread to another, and one of another kind counts as closed.
  * New are tables of rows (caladan_open_rows, and the same of a guard and an audit), facts for a policy of
  * your own (caladan_guard_judge, caladan_guard_kept, caladan_guard_ban, caladan_guard_last), caladan_kept,

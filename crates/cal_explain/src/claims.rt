@@ -113,10 +113,11 @@ fn tell_cores<W: Write>(
     requires walk { IsWalk walk.now }
     requires task { task < length walk.now.config.now.tasks }
 {
+    let acts = claim.is_short || !claim.has_acted;
     let choice = walk.core_taken(task);
     for core in 0..walk.config().machine().cores() {
         let is_chosen = match choice {
-            Some(chosen) => chosen.number == core,
+            Some(chosen) => acts && chosen.number == core,
             None => false,
         };
         if scope.has_candidate(core) {
