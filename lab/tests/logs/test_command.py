@@ -109,6 +109,27 @@ task 0 came 3 later 0 left out 0 load 0.875
 """, "")
 
 
+def test_tasks_go_by_the_words_of_the_table(lab: Lab) -> None:
+    named = TABLE.replace("[[task]]", "[[task]] # kv", 1).replace("[[task]]\n", "[[task]] # batch\n", 1)
+    Path("named.toml").write_text(named)
+    Path("kv.csv").write_text("when;took;who\n9.5;3;kv\n2;7.25;kv\n4.0;1;kv\n")
+    how = ("--unit", "us", "--turn", "2us", "--columns", "time=when,service=took,task=who", "--batch", "batch")
+    words = ("log", "kv.csv", *how, "--table")
+    said = lab(*words, "named.toml", "--summary")
+    assert said == lab(*words, "named.toml", "--summary", "--names", "kv,batch") and said[0] == 0
+    assert "\ntask 0 came 3 later 0 " in said[1] and said[1].endswith("task 1 has work without end on 4 threads\n")
+    swept = ("sweep", "--log", "kv.csv", *how, "--slo", "kv.p50=1ms", "--vary", "batch.limit=1,2")
+    assert lab(*swept, "named.toml")[0] == 1 and lab(*swept, "named.toml")[1].startswith("load of the log")
+    # A table without words; a word of the log that is no task; and one that is no task of the table.
+    assert lab(*words, "table.toml")[::2] == (
+        2, f"caladan_lab: kv.csv: row 3: `who` is `kv`; wanted: a number below 2\n{UNNAMED}")
+    assert lab(*words, "named.toml", "--batch", "bath")[2].startswith(
+        "caladan_lab: --batch bath: the tasks are called kv, batch")
+    Path("kv.csv").write_text("when;took;who\n9.5;3;kw\n")
+    assert lab(*words, "named.toml")[2] == (
+        "caladan_lab: kv.csv: row 2: `who` is `kw`; wanted: one of kv, batch, or a number below 2\n")
+
+
 def test_the_summary_names_work_without_end(lab: Lab) -> None:
     said = lab("log", "log.csv", *HOW, "--batch", "1", "--summary")[1]
     assert said.endswith("task 1 has work without end on 4 threads\n")

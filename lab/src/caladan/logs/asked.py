@@ -2,7 +2,7 @@
 from __future__ import annotations
 
 from fractions import Fraction
-from typing import Optional
+from typing import Optional, Sequence
 
 from ..labels import counted, names_of
 from ..refusal import Refusal
@@ -36,8 +36,9 @@ def tick_for(asked: Asked, length: Fraction, own: Optional[Fraction], log: Log) 
     return tick
 
 
-def terms_of(asked: Asked, log: Log, own: Optional[Fraction]) -> Terms:
-    """How words make arrivals of a log, for a table that says what a tick is, or says nothing."""
+def terms_of(asked: Asked, log: Log, own: Optional[Fraction], known: Sequence[str] = ()) -> Terms:
+    """How words make arrivals of a log, for a table that says what a tick is, or says nothing. Where no word names the
+    tasks, they go by the names that are known of the table."""
     word = asked.one("turn") or ""
     length = length_of("--turn", word)
     ticks = ticks_in(length, tick_for(asked, length, own, log))
@@ -45,7 +46,8 @@ def terms_of(asked: Asked, log: Log, own: Optional[Fraction]) -> Terms:
     if asked.has("task") and log.rows.tasks is not None:
         raise Refusal(f"--task {asked.found['task'][0]}: {log.name} has a column `{log.columns['task']}` of tasks")
     task = asked.found["task"][0] if asked.has("task") else None
-    return Terms(word, length, ticks, turns, task, names_of(asked.one("names")), tuple(asked.all("batch")),
+    names = names_of(asked.one("names")) or tuple(known)
+    return Terms(word, length, ticks, turns, task, names, tuple(asked.all("batch")),
                  int((asked.all("misses") or ["0"])[0]))
 
 

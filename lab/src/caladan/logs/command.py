@@ -11,7 +11,7 @@ from ..programs import viewer
 from ..refusal import NAME, Refusal
 from ..stamps import stamped, tick_in
 from ..sweeps.command import table_of
-from ..tables import SEPARATOR, table_part
+from ..tables import SEPARATOR, names_in, table_part
 from ..waiting import Waiting
 from ..words.parsing import Asked
 from .arriving import Arrived, by_program
@@ -112,7 +112,7 @@ def log(asked: Asked) -> int:
     table = table_part(source.read())
     view = viewer(asked.one("program"))
     machine = table_of(view, table)
-    terms = terms_of(asked, given, tick_in(table))
+    terms = terms_of(asked, given, tick_in(table), names_in(table))
     known(given, terms, machine)
     text = stamped(table, terms.tick)
     with Waiting(f"making the arrivals of {given.name}", is_shown):

@@ -75,7 +75,7 @@ def task_at(log: Log, terms: Terms, place: int, tasks: int) -> int:
     if rows.tasks is None:
         raise Refusal(f"--task {word}: the table has {tasks} tasks, numbered from 0")
     known = f"one of {', '.join(terms.names)}, or " if terms.names else ""
-    hint = "" if terms.names else "  --names says what the tasks are called, in the order of the table\n"
+    hint = "" if terms.names else UNNAMED
     raise Refusal(f"{log.name}: row {rows.numbers[place]}: `{log.columns['task']}` is `{word}`; wanted: {known}a "
                   f"number below {tasks}", below=hint)
 

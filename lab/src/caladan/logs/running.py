@@ -7,7 +7,7 @@ from typing import Sequence
 
 from ..programs import Viewer
 from ..stamps import stamped, tick_in
-from ..tables import Machine
+from ..tables import Machine, names_in
 from ..words.asked import LAB
 from ..words.parsing import Asked, read_words
 from .arriving import by_program
@@ -42,7 +42,7 @@ def asked_of(log: Log, turn: str, more: Sequence[str]) -> tuple[tuple[str, ...],
 def run_of(view: Viewer, log: Log, table: bytes, machine: Machine, turn: str, more: Sequence[str]) -> LogRun:
     """The run of a log on a table. A warning says that too many requests are left out."""
     words, asked = asked_of(log, turn, more)
-    terms = terms_of(asked, log, tick_in(table))
+    terms = terms_of(asked, log, tick_in(table), names_in(table))
     known(log, terms, machine)
     found = by_program(view, log, terms, table, machine)
     if loses_too_much(found):

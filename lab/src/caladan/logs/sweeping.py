@@ -13,7 +13,7 @@ from ..refusal import Refusal
 from ..stamps import stamped, tick_in
 from ..sweeps.loads import A_SECOND, RATE, Loads, TaskLoad, loads_of, rising
 from ..sweeps.making import Count, Made
-from ..tables import Machine
+from ..tables import Machine, names_in, table_part
 from ..words.parsing import Asked
 from .arriving import Arrived, by_lab, by_program
 from .asked import OF_LOADS, known, log_of, terms_of
@@ -59,7 +59,7 @@ class LogLoads(Loads):
 
     def settled(self, given: bytes, ticks: int, tick: str) -> tuple[Loads, int, str]:
         assert self.asked is not None
-        terms = terms_of(self.asked, self.its_log, tick_in(given))
+        terms = terms_of(self.asked, self.its_log, tick_in(given), names_in(table_part(given)))
         stamped(given, terms.tick)
         return replace(self, terms=terms), terms.ticks, unit_of(terms.tick)
 

@@ -105,8 +105,9 @@ def answer_of(swept: Swept) -> tuple[str, str]:
 
 
 def is_table_asked(asked: Asked) -> bool:
-    """Whether words say what only the table can explain: names of tasks, or times where no word says what a tick is."""
-    return names_needed(asked) or has_times(asked)
+    """Whether words, or a log, say what only the table can explain: names of tasks, or times where no word says what a
+    tick is."""
+    return names_needed(asked) or has_times(asked) or (asked.has("log") and not asked.has("names"))
 
 
 def names_needed(asked: Asked) -> bool:
