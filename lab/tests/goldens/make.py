@@ -6,7 +6,7 @@
     make.py check --program 'WORDS' [--name NAME] [-k WORD] [--some] [-j N] [--answers FOLDER]
                                                               runs the cases, with --some a sample of 60, and compares
                                                               with what is kept
-    make.py anew CASE .. --program 'WORDS'                    keeps what caladan_lab answers to these cases now, in place
+    make.py anew CASE .. --program 'WORDS'                   keeps what caladan_lab answers to these cases now, in place
                                                               of what was kept
     make.py show CASE [--into FOLDER]                         a case with its answer; its files go into a folder
     make.py count [SOURCE..]                                  in how many cases each option is, each status and each
