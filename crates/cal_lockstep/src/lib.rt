@@ -8,11 +8,9 @@
 
 mod checking;
 mod laws;
-mod made;
 
 pub use checking::is_in_step;
 pub use laws::{
     guarantees_are_given_in_lockstep, late_requests_are_helped_in_lockstep,
     left_cores_are_freed_in_lockstep, rings_have_room_in_lockstep,
 };
-pub use made::lockstep_in_step_by;
