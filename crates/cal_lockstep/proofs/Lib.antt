@@ -2,7 +2,6 @@ mod Common
 pub mod Journals
 pub mod Taken
 pub mod Freeing
-pub mod Pages
 pub mod Passes
 pub mod Given
 pub mod Helped

@@ -21,7 +21,6 @@ use Rattle.cal_policy.proofs.HistoryLemmas.OneMore.{kept_push}
 use Rattle.cal_policy.proofs.PolicyLemmas.{pass_at_by, pass_input, pass_actions, steady_by}
 use Rattle.cal_laws.specs.Exclusion.{IsByLastRun, WasRun}
 use Rattle.cal_guarantee.proofs.Freed.{was_left}
-use Rattle.cal_linear.specs.Runs.{page_at}
 use Rattle.cal_run.specs.Outcome.{figures_of}
 use Rattle.cal_lockstep.proofs.Freeing.{pass_frees}
 use Rattle.cal_lockstep.proofs.Journals.{shows_off}
@@ -52,7 +51,7 @@ known headline each policy table arrivals outcome p entry is =
 
 -- what the pass has of a thread, which took all that was sent to it before
 record SeesAll (table : Table) (outcome : Outcome) (k p : ℕ) (entry : PassEntry) : Type 0 where
-  pub sees : SeesLast (page_at outcome.journals k) k p (sent_before outcome.history p k) entry
+  pub sees : SeesLast outcome.journals k p (sent_before outcome.history p k) entry
   pub all : sees.rec.taken ≡ sent_before outcome.history p k
 
 sees_all : ThreadsAreSentOneCommand → (policy : Policy) (table : Table) (arrivals : Arrivals) (outcome : Outcome) (p : ℕ) (entry : PassEntry) → IsLockstepPass policy table arrivals outcome p entry →
@@ -60,8 +59,8 @@ sees_all : ThreadsAreSentOneCommand → (policy : Policy) (table : Table) (arriv
 sees_all once policy table arrivals outcome p entry is has k low =
     let turned = is.turned in
     let least : min p (length arrivals.turns) ≡ p = omega (arith, turned) in
-    let P : ℕ → Type 0 = λ n. SeesLast (page_at outcome.journals k) k n (sent_before outcome.history p k) entry in
-    let sees = subst P least ((is.lockstep.in_step k low).each_pass p entry is.is_pass) in
+    let P : ℕ → Type 0 = λ n. SeesLast outcome.journals k n (sent_before outcome.history p k) entry in
+    let sees = subst P least (is.lockstep.in_step.each_pass p k entry is.is_pass low) in
     record {
       sees = sees;
       all = takes_all once table (length arrivals.turns) outcome.history outcome.journals k has.permitted is.lockstep.in_step low p has.comes turned sees.rec sees.last;

@@ -5,10 +5,6 @@ use Rattle.std.proofs.lemmas.Option.{slice_get_cases}
 use Rattle.cal_laws.proofs.PointLemmas.EachAction.{actions_more}
 use Rattle.cal_policy.proofs.HistoryLemmas.OneMore.{sent_grows}
 use Rattle.cal_signal.specs.Records.{zero_record}
-use Rattle.cal_guard.proofs.Upto.{permitted_upto}
-use Rattle.std.proofs.lemmas.Bool.{cases_lt}
-use Rattle.std.proofs.lemmas.List.{take_all}
-use Rattle.std.specs.Prelude.{min}
 
 -- a pass sends a thread one command at most
 record SendsOne (history : List PassEntry) (k p : ℕ) : Type 0 where
@@ -41,7 +37,7 @@ pub takes_all : ThreadsAreSentOneCommand → (table : Table) (turns : ℕ) (hist
     k < threads_of_table table → (p : ℕ) → p ≤ length history → p ≤ turns → (rec : Record) → IsPublication journals k p rec → rec.taken ≡ sent_before history p k
 takes_all once table turns history journals k permitted in_step low zero le turned rec there = let same : zero_record ≡ rec = cc in sym (ap (λ (q : Record). q.taken) same)
 takes_all once table turns history journals k permitted in_step low (suc p) le turned rec there =
-    let step = (in_step k low).each_turn p (omega (arith, turned)) in
+    let step = in_step.each_turn p k (omega (arith, turned)) low in
     let before = takes_all once table turns history journals k permitted in_step low p (omega (arith, le)) (omega (arith, turned)) step.before step.is_before in
     let one : p + 1 ≡ suc p = omega arith in
     let P : ℕ → Type 0 = λ n. IsPublication journals k n step.after in
@@ -54,16 +50,3 @@ takes_all once table turns history journals k permitted in_step low (suc p) le t
     let takes = step.takes in
     let at = ap (λ n. sent_before history n k) one in
     omega (arith, before, taken, least, most, takes, at)
-
--- the first passes of a permitted history are permitted
-pub permitted_front : (table : Table) (history : List PassEntry) (p : ℕ) → IsPermittedHistory table history → p ≤ length history → IsPermittedHistory table (take p history)
-permitted_front table history p permitted le = permitted_upto table history p le (λ q lt entry at. permitted.passes q entry at)
-
--- there are no passes past the last one
-pub sent_in_all : (history : List PassEntry) (q k : ℕ) → sent_before history (min q (length history)) k ≡ sent_before history q k
-sent_in_all history q k = ⊎_elim
-    (λ (low : q < length history). let least : min q (length history) ≡ q = omega (arith, low) in ap (λ n. sent_before history n k) least)
-    (λ (past : length history ≤ q).
-    let least : min q (length history) ≡ length history = omega (arith, past) in
-    ap (λ n. sent_before history n k) least ∙ ap (λ h. sent_to (actions_of h) k) (take_all (length history) history (omega arith) ∙ sym (take_all q history past)))
-    (cases_lt q (length history))

@@ -12,7 +12,7 @@ use Rattle.cal_policy.specs.declared.history.look.Seen.{Seen}
 use Rattle.cal_policy.specs.History.{actions_of, sent_to}
 use Rattle.cal_policy.specs.History.Looks.{look_of}
 use Rattle.cal_kthread.specs.declared.journal.entry.Entry.{Entry}
-use Rattle.cal_linear.specs.Runs.{page_at}
+use Rattle.cal_linear.specs.Runs.{IsPublication}
 
 -- how many commands the first p passes sent to thread k
 abbrev pub sent_before : List PassEntry → ℕ → ℕ → ℕ
@@ -22,34 +22,32 @@ sent_before history p k = sent_to (actions_of (take p history)) k
 abbrev pub has_place : (sent taken : ℕ) → Bool
 has_place sent taken = nat_lt sent (taken + 4) && nat_lt sent MOST_COMMANDS
 
--- what a pass has of thread k, which has this page, made so many turns and was sent so many commands
--- before it: its look carried the thread's last record, and its answer on room is the ring's. (A thread
--- publishes one record a turn; place 0 of its page has the zero record.)
-pub record SeesLast (page : List Record) (k turns sent : ℕ) (entry : PassEntry) : Type 0 where
+-- what a pass has of thread k, which made so many turns and was sent so many commands before it: its
+-- look carried the thread's last record, and its answer on room is the ring's. (A thread publishes one
+-- record a turn; place 0 of its page has the zero record.)
+pub record SeesLast (journals : List (List Entry)) (k turns sent : ℕ) (entry : PassEntry) : Type 0 where
   pub rec : Record
-  pub last : slice_get page turns ≡ Some rec
+  pub last : IsPublication journals k turns rec
   pub seen : Seen
   pub has : slice_get entry.input.seen k ≡ Some seen
   pub look : look_of seen ≡ found.Whole turns rec
   pub room : slice_index_or entry.input.rooms k false ≡ has_place sent rec.taken
 
--- what turn j takes of a thread that has this page and was sent so many commands before it: the next
--- command, if one of them is left, and no second
-pub record TakesNext (page : List Record) (j sent : ℕ) : Type 0 where
+-- what turn j of thread k takes, which was sent so many commands before it: the next command, if one of
+-- them is left, and no second
+pub record TakesNext (journals : List (List Entry)) (k j sent : ℕ) : Type 0 where
   pub before : Record
   pub after : Record
-  pub is_before : slice_get page j ≡ Some before
-  pub is_after : slice_get page (j + 1) ≡ Some after
+  pub is_before : IsPublication journals k j before
+  pub is_after : IsPublication journals k (j + 1) after
   pub takes : after.taken ≡ min (before.taken + 1) sent
 
--- In round r pass r comes before turn r of the thread, and after all turns of the rounds before. So it is
--- of thread k, which made so many turns and has this page.
-pub record IsThreadInStep (turns : ℕ) (history : List PassEntry) (page : List Record) (k : ℕ) : Type 0 where
-  pub each_pass : (p : ℕ) (entry : PassEntry) → slice_get history p ≡ Some entry →
-      SeesLast page k (min p turns) (sent_before history p k) entry
-  pub each_turn : (j : ℕ) → j < turns → TakesNext page j (sent_before history (j + 1) k)
-
--- and of each thread
-abbrev pub IsInStep : Table → ℕ → List PassEntry → List (List Entry) → Type 0
-IsInStep table turns history journals = (k : ℕ) → k < threads_of_table table →
-    IsThreadInStep turns history (page_at journals k) k
+-- In round r pass r comes before turn r of each thread, and after all turns of the rounds before. So it
+-- is of a run with so many turns, which has this history and these journals.
+pub record IsInStep (table : Table) (turns : ℕ) (history : List PassEntry)
+    (journals : List (List Entry)) : Type 0 where
+  pub each_pass : (p k : ℕ) (entry : PassEntry) → slice_get history p ≡ Some entry →
+      k < threads_of_table table →
+      SeesLast journals k (min p turns) (sent_before history p k) entry
+  pub each_turn : (j k : ℕ) → j < turns → k < threads_of_table table →
+      TakesNext journals k j (sent_before history (j + 1) k)

@@ -2,14 +2,12 @@
 //! pass, and nothing is asked of the threads.
 //!
 //! That passes and turns see one another round by round is a definition (`IsInStep`), and no clause of
-//! `lockstep`: it is tested, and `is_in_step` says it of one run. Each law is the contract of a
-//! function that does nothing, its statement a definition in specs/; to cite a law, call its function.
+//! `lockstep`: it is tested. Each law is the contract of a function that does nothing, its statement a
+//! definition in specs/; to cite a law, call its function.
 #![tactic(auto)]
 
-mod checking;
 mod laws;
 
-pub use checking::is_in_step;
 pub use laws::{
     guarantees_are_given_in_lockstep, late_requests_are_helped_in_lockstep,
     left_cores_are_freed_in_lockstep, rings_have_room_in_lockstep,
