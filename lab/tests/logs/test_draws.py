@@ -10,6 +10,7 @@ from caladan.logs.arriving import by_lab
 from caladan.logs.dealing import Terms, dealt, turns_of
 from caladan.logs.draws import block_of, drawn, scaled
 from caladan.logs.log import Log
+from caladan.numbers import UNNAMED
 from caladan.refusal import Refusal
 from caladan.tables import Machine, Task
 from hypothesis import given
@@ -170,10 +171,10 @@ LONG = "  take a longer turn; is --unit that of its services? For work without e
 @pytest.mark.parametrize("log, said", [
     (made([0, 349523, 349524], [1] * 3), f"log.csv: row 4: `time` is after 174762 turns\n{LATE}"),
     (made([0, 1], [2000000, 2000001]), f"log.csv: row 3: `service` is more than 1000000 turns\n{LONG}"),
-    (made([0, 1], [1, 1], ["0", "kv"]), "log.csv: row 3: `task` is `kv`; wanted: a number below 2\n  --names says what "
-                                        "the tasks are called, in the order of the table"),
-    (made([0, 1], [1, 1], ["1", "2"]), "log.csv: row 3: `task` is `2`; wanted: a number below 2\n  --names says what "
-                                       "the tasks are called, in the order of the table"),
+    (made([0, 1], [1, 1], ["0", "kv"]),
+     f"log.csv: row 3: `task` is `kv`; wanted: a number below 2\n{UNNAMED.rstrip()}"),
+    (made([0, 1], [1, 1], ["1", "2"]),
+     f"log.csv: row 3: `task` is `2`; wanted: a number below 2\n{UNNAMED.rstrip()}"),
 ])
 def test_requests_that_make_no_run(log: Log, said: str) -> None:
     with pytest.raises(Refusal) as it:
