@@ -337,7 +337,7 @@ def test_a_closed_standard_input_is_told(tmp_path: Path) -> None:
 
 
 def test_an_interrupt_leaves_no_picture(tmp_path: Path) -> None:
-    words = ["sweep", "--load", "0.1,0.2,..,0.9", "--turns", "20000", "--seeds", "9", example("sweep/team")]
+    words = ["sweep", "--load", "0.1,0.2,..,0.9", "--turns", "20000", "--seeds", "99", example("sweep/team")]
     with subprocess.Popen([*LAB, *words, "-o", "x.svg"], cwd=tmp_path, start_new_session=True,
                           env={**os.environ, "CALADAN_VIEW": VIEW}) as process:
         time.sleep(2)

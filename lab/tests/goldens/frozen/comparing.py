@@ -20,9 +20,19 @@ TAKEN = {"error: unexpected argument '--table' found\n":
          "error: unexpected argument '--log' found\n": "caladan_lab: --load 0.5: --log is given too, "}
 
 
+# How options were refused of `compare` that take nothing away from its answer now.
+ANSWERED = tuple(f"error: unexpected argument '{it}' found\n" for it in ("--quiet", "-q", "-j"))
+
+
+def is_answered_now(wanted: Answer, given: Answer) -> bool:
+    """Whether an option was refused then, and the words are answered with it now, by a table of numbers."""
+    return (wanted.status == 2 and wanted.said.startswith(ANSWERED) and given.wrote.startswith("measure ")
+            and (given.status, given.said, given.files) == (0, "", {}))
+
+
 def is_taken_now(wanted: Answer, given: Answer) -> bool:
     """Whether all that differs is that an option is taken now, which was refused then."""
-    return (any(wanted.said.startswith(was) and given.said.startswith(now) for was, now in TAKEN.items())
+    return is_answered_now(wanted, given) or (any(wanted.said.startswith(was) and given.said.startswith(now) for was, now in TAKEN.items())
             and (wanted.status, wanted.wrote, wanted.files) == (given.status, given.wrote, given.files) == (2, "", {}))
 
 
