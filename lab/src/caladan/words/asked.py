@@ -35,12 +35,11 @@ TICK = option("tick", "UNIT", "The unit of a tick: ns, us, ms or s", names=UNITS
 OUTPUT = option("output", "FILE", "Where the answer goes [default: standard output]", short="o")
 RUN_OF_LOADS = (
     option("service", "TURNS", "Turns of a request: 3, or 90%:1,10%:20", many=True, default="1"),
-    option("pattern", "PATTERN", "poisson, even or bursts:N", many=True, default="poisson", hidden=True),
+    option("pattern", "PATTERN", "poisson, even or bursts:N", many=True, default="poisson"),
     option("misses", "N", "Cache misses that a turn of a request adds", many=True, default="0", hidden=True),
     option("turns", "N", "Turns of each thread, 1 to 174762", default="1000", number=Number(1, MOST_TURNS)),
-    option("ticks", "N", "Ticks of a turn, 1 to 1000000000", default="10", number=Number(1, MOST_TICKS),
-           hidden=True),
-    number("seed", "SEED", "The seed of the random numbers", default="1", hidden=True),
+    option("ticks", "N", "Ticks of a turn, 1 to 1000000000", default="10", number=Number(1, MOST_TICKS)),
+    number("seed", "SEED", "The seed of the random numbers", default="1"),
 )
 
 
@@ -61,8 +60,8 @@ COMPARE = Command(
     (Arg("tables", "The input; with --arrivals the tables, a file each", value="FILE", many=True),
      option("arrivals", "FILE", "The arrivals of all tables"), BY_EACH, *COUNT,
      option("window", "WINDOW", "Rank what came in the middle of the run, or all [default: middle]",
-            names=("middle", "whole"), hidden=True), PLAN[0], *in_long_help(PLAN[1:]), VARY, CSV, NAMES, TICK,
-     number("write-input", "N", "Write the input of table N's run instead, from 0", conflicts="csv", hidden=True),
+            names=("middle", "whole"), hidden=True), *PLAN, VARY, CSV, NAMES, TICK,
+     number("write-input", "N", "Write the input of table N's run instead, from 0", conflicts="csv"),
      *at_a_time("runs"), OUTPUT),
     extra=PICTURE, own=OWN)
 
@@ -71,7 +70,7 @@ SWEEP = Command(
     (INPUT, option("task", "TASK", "A task that gets requests", many=True, default="0"),
      option("load", "LOAD", "Rising loads, such as 0.1,0.3,..,0.9", many=True,
             unless="offered rate log"),
-     option("offered", "CORES", "The same in cores, whatever its limit, such as 1.5", many=True, hidden=True),
+     option("offered", "CORES", "The same in cores, whatever its limit, such as 1.5", many=True),
      option("rate", "PER_SECOND", "The same in requests a second, such as 80000,100000", many=True, hidden=True),
      *RUN_OF_LOADS, BY_EACH, *in_long_help(PLAN), VARY,
      option("slo", "OBJECTIVE", "What the last load must keep, such as task.0.p99=65", many=True),
@@ -81,7 +80,7 @@ SWEEP = Command(
      option("rules", "VERSION", "Judge as version 4 did, or as 5 [default: 5]", names=("4", "5"), hidden=True),
      flag("by-seed", "A row for each seed in place of three", hidden=True),
      flag("cheapest", "List what keeps every objective, best for best effort first", needs="slo", hidden=True),
-     *at_a_time("loads"), CSV, *in_long_help((NAMES, TICK)), OUTPUT),
+     *at_a_time("loads"), CSV, NAMES, TICK, OUTPUT),
     extra=PICTURE, own=OWN, sections=(SWEPT_LOG,))
 
 TIMELINE = Command(

@@ -1,8 +1,6 @@
 """Help, laid out as the programs lay theirs out."""
 from __future__ import annotations
 
-import textwrap
-
 from .arg import Arg, Command
 from .refusals import usage
 
@@ -44,12 +42,6 @@ def _long(command: Command, args: list[Arg]) -> str:
     return "\n\n".join(map(told, args))
 
 
-def _hidden(command: Command, shown: list[Arg]) -> str:
-    """The options that the short help leaves out, by their names, in lines of up to 80 columns."""
-    names = " ".join(f"--{it.long}" for it in (*shown, *command.apart) if it.hidden or it in command.apart)
-    return textwrap.fill(names, 78, initial_indent="  ", subsequent_indent="  ", break_on_hyphens=False)
-
-
 def help_of(command: Command, is_long: bool) -> str:
     """The short or the long help of a command."""
     told = _long if is_long and command.after else _short
@@ -64,8 +56,6 @@ def help_of(command: Command, is_long: bool) -> str:
     shown = [it for it in command.all_args if not it.is_file and it not in command.apart]
     if shown:
         parts.append("Options:\n" + told(command, [it for it in shown if is_long or not it.hidden]))
-    if not is_long and command.after and (more := _hidden(command, shown)):
-        parts.append(f"With --help also:\n{more}")
     if is_long:
         parts += [f"{it.title}:\n{told(command, list(it.args))}\n\n{it.says.strip()}" for it in command.sections]
     if command.extra and is_long:
