@@ -10,7 +10,7 @@ from caladan.pictures.colours import DARK, LIGHT, Palette
 from caladan.pictures.curves import grid
 from caladan.pictures.paper import SMALL, Paper, heading, words_on, wrapped
 
-from .given import Rows, example, rows_in, text_of, viewed
+from .given import Rows, example, rows_in, table_of, text_of, viewed
 
 RUN = "lockstep/burst_of_eight"
 POLICIES = "caladan", "assured"
@@ -18,7 +18,7 @@ POLICIES = "caladan", "assured"
 FIRST, LAST = 10, 36
 LABELS = {"caladan": (25.3, 4.45), "assured": (16.2, 7.5)}
 TITLE = "Cores that the service holds, by policy"
-LINES = ("Eight requests come at once, one for each thread of a service that is guaranteed eight of ten cores. "
+STORY = ("Eight requests come at once, one for each thread of a service that is guaranteed eight of ten cores. "
          "A batch job held all ten.")
 MARGIN, AXIS, PLOT, BELOW, WIDTH = 14, 34, 230, 48, 800
 
@@ -51,10 +51,10 @@ def draw_steps(axes: Axes, palette: Palette) -> None:
 
 def draw_marks(axes: Axes, palette: Palette) -> None:
     """What the service is guaranteed, and the pass from which on it waits."""
-    late = first_late()
-    axes.plot([FIRST, LAST], [8, 8], linestyle=(0, (4, 3)), color=palette.second, linewidth=1, zorder=2,
+    late, guaranteed = first_late(), table_of(RUN)["task"][0]["guaranteed"]
+    axes.plot([FIRST, LAST], [guaranteed] * 2, linestyle=(0, (4, 3)), color=palette.second, linewidth=1, zorder=2,
               gid="guaranteed")
-    words_on(axes, LAST, 8.5, "guaranteed", SMALL, palette.second, ha="right")
+    words_on(axes, LAST, guaranteed + 0.5, "guaranteed", SMALL, palette.second, ha="right")
     axes.plot([late, late], [0, 9], linestyle=":", color=palette.second, linewidth=1.4, zorder=2, gid="late")
     words_on(axes, late - 0.2, 5, "first late", SMALL, palette.second, ha="right")
 
@@ -63,7 +63,7 @@ def draw_marks(axes: Axes, palette: Palette) -> None:
 def burst(dark: bool = False) -> Paper:
     """The picture."""
     palette, left = DARK if dark else LIGHT, MARGIN + AXIS
-    lines = [(it, True) for it in wrapped(LINES, WIDTH - 2 * MARGIN)]
+    lines = [(it, True) for it in wrapped(STORY, WIDTH - 2 * MARGIN)]
     top, across = 44.0 + 17 * len(lines) + 16, WIDTH - MARGIN - left
     paper = Paper(WIDTH, top + PLOT + BELOW, palette, TITLE)
     heading(paper, MARGIN, TITLE, lines)
