@@ -32,6 +32,8 @@ DELAYS = "task.0.delay=10,30,50"
 KEPT_RUNS = {it: f"{TOP}/bench/interference_runs/{it}.csv" for it in ("memory", "siblings", "pace")}
 FOLDER = tempfile.TemporaryDirectory()
 atexit.register(FOLDER.cleanup)
+# Of a picture that is kept: where a mark of an axis stands, and its number.
+TICK = r'<g id="{}tick_\d+">.*?<path d="M (\S+) (\S+) .*?>([\d.]+)</text>'
 Rows = list[dict[str, str]]
 
 
@@ -127,6 +129,15 @@ def words_of(paper: Paper) -> list[str]:
     """All words of a picture that can be seen."""
     from matplotlib.text import Text
     return [it.get_text() for it in paper.figure.findobj(Text) if it.get_text() and it.get_visible()]
+
+
+def scale_of(picture: str, axis: str) -> tuple[float, float]:
+    """Where 0 stands on an axis, x or y, of a picture that is kept, and how far it is to 1."""
+    place = "xy".index(axis)
+    at = [(float(it[place]), float(it[2])) for it in re.findall(TICK.format(axis), picture, re.S)]
+    (first, least), (last, greatest) = at[0], at[-1]
+    step = (last - first) / (greatest - least)
+    return first - step * least, step
 
 
 def path_of(name: str) -> str:

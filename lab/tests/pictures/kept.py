@@ -1,10 +1,13 @@
-"""The pictures of docs/pictures, each with the words that draw it, but for host.svg: that is of a record of a machine.
+"""The pictures of docs/pictures, but for host.svg, of a record of a machine, and policies.svg, which a script draws.
 
     PYTHONPATH=lab/src:lab/tests /usr/bin/python3 -m pictures.kept
 
 draws them anew; `tools/lab_tests --write` runs it."""
 from __future__ import annotations
 
+from caladan.pictures.paper import Paper
+
+from .burst import burst
 from .given import DELAYS, KEPT_RUNS, TOP, as_csv, drawn, example, file, text_of
 
 FOLDER = f"{TOP}/docs/pictures"
@@ -24,7 +27,12 @@ def pictures() -> dict[str, list[str]]:
     }
 
 
+def papers() -> dict[str, Paper]:
+    """The pictures, drawn: those of words, and the one that has a module of its own."""
+    return {**{name: drawn(*words) for name, words in pictures().items()}, "burst": burst()}
+
+
 if __name__ == "__main__":
     from caladan.pictures.saving import save
-    for name, words in pictures().items():
-        save(drawn(*words), f"{FOLDER}/{name}.svg")
+    for name, paper in papers().items():
+        save(paper, f"{FOLDER}/{name}.svg")

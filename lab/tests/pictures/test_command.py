@@ -14,6 +14,7 @@ from caladan.pictures import old_words
 from caladan.pictures.colours import DARK, LIGHT, colours_of
 from caladan.pictures.saving import as_svg, save
 
+from .burst import burst
 from .given import (DELAYS, KEPT_RUNS, RUNS, TOP, VIEW, as_csv, drawn, example, facts, file, path_of, run_files,
                     text_of, words_of)
 
@@ -99,13 +100,13 @@ class Read(unittest.TestCase):
     """Whether pictures can be read at the width of a README."""
 
     def test_words_are_large_enough_and_do_not_cover_each_other(self):
-        for words in (*(("run", example(it)) for it in RUNS[:3]), ("sweep", example("sweep/team_csv", "output")),
-                      *(("seeds", it) for it in KEPT_RUNS.values()),
-                      ("compare", "--vary", DELAYS, example("lockstep/tour")),
-                      ("compare", example("compare/tour"), "--policy", "caladan,assured"),
-                      ("run", example("audit/tour"), "--from", "4", "--passes", "4", "--width", "480")):
+        asked = (*(("run", example(it)) for it in RUNS[:3]), ("sweep", example("sweep/team_csv", "output")),
+                 *(("seeds", it) for it in KEPT_RUNS.values()),
+                 ("compare", "--vary", DELAYS, example("lockstep/tour")),
+                 ("compare", example("compare/tour"), "--policy", "caladan,assured"),
+                 ("run", example("audit/tour"), "--from", "4", "--passes", "4", "--width", "480"))
+        for words, paper in (*((it, drawn(*it)) for it in asked), ("burst", burst())):
             with self.subTest(words):
-                paper = drawn(*words)
                 from matplotlib.text import Text
                 texts = [it for it in paper.figure.findobj(Text) if it.get_text() and it.get_visible()]
                 self.assertGreaterEqual(min(it.get_fontsize() for it in texts) * 96 / 72, 10)

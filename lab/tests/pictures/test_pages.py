@@ -5,8 +5,8 @@ import os
 import unittest
 import xml.etree.ElementTree as tree
 
-from .given import drawn, parts_of, words_of
-from .kept import FOLDER, pictures
+from .given import parts_of, words_of
+from .kept import FOLDER, papers
 
 SVG = "{http://www.w3.org/2000/svg}"
 
@@ -20,9 +20,9 @@ class Pages(unittest.TestCase):
     """Each picture has the words, the stories and the parts of the one that is drawn."""
 
     def test_each_tells_the_same(self):
-        for name, words in pictures().items():
+        for name, paper in papers().items():
             with self.subTest(name):
-                picture, paper = tree.parse(f"{FOLDER}/{name}.svg"), drawn(*words)
+                picture = tree.parse(f"{FOLDER}/{name}.svg")
                 self.assertEqual(all_words(picture, "text"), sorted(words_of(paper)))
                 self.assertEqual(all_words(picture, "title"), sorted([paper.title, *paper.told.values()]))
                 named = {it.get("id") for it in picture.iter(f"{SVG}g")}
@@ -30,4 +30,4 @@ class Pages(unittest.TestCase):
 
     def test_no_other_is_there(self):
         """The picture of policies is compared by the commands of its page."""
-        self.assertEqual(set(os.listdir(FOLDER)), {f"{it}.svg" for it in (*pictures(), "host", "policies")})
+        self.assertEqual(set(os.listdir(FOLDER)), {f"{it}.svg" for it in (*papers(), "host", "policies")})

@@ -6,12 +6,11 @@ import math
 import re
 import unittest
 
-from .given import TOP, text_of
+from .given import TOP, scale_of, text_of
 from .kept import FOLDER
 
 # The rows of a block of the page: a load, and a number of each policy.
 BLOCK = re.compile(r"^policy +(.*)\nload *\n((?:\d\.\d .*\n)+)", re.M)
-TICK = r'<g id="{}tick_\d+">.*?<path d="M (\S+) (\S+) .*?>([\d.]+)</text>'
 Points = list[tuple[float, float]]
 
 
@@ -27,15 +26,7 @@ class Policies(unittest.TestCase):
 
     def setUp(self) -> None:
         self.picture = text_of(f"{FOLDER}/policies.svg")
-        self.along = {axis: self.scale(axis, place) for place, axis in enumerate("xy")}
-
-    def scale(self, axis: str, place: int) -> tuple[float, float]:
-        """Where nothing stands on an axis, and how far it is to one."""
-        found = re.findall(TICK.format(axis), self.picture, re.S)
-        at = [(float(it[place]), float(it[2])) for it in found]
-        (first, least), (last, greatest) = at[0], at[-1]
-        step = (last - first) / (greatest - least)
-        return first - step * least, step
+        self.along = {axis: scale_of(self.picture, axis) for axis in "xy"}
 
     def marks(self, group: str) -> Points:
         """The points of a group, in the units of the axes."""
