@@ -45,6 +45,66 @@ predecessor() {
     stop $honest
 } 2> /dev/null
 
+# Tasks: 0 is guaranteed a core, 1 is deaf, 2 is honest; both of best effort have a core, and then a request of 0 comes. Sets
+# deaf, and loads.
+deaf_takes() { # deaf_takes COMMAND OPTION..: COMMAND starts the scheduler
+    local granted='actions_total{kind="grant"}'
+    "$1" -g 1000000 --policy assured "${@:2}"
+    go $life "$bin/misbehave" "$name" 1 $life deaf
+    wait_for 20 only_child_of $last && deaf=$child
+    wait_for 20 counts "$granted" 1; timed $? "$what: the deaf one was granted no core"
+    go $life "$bin/load" be -n "$name" -u 2 -k 200 -s $life
+    loads=("$last")
+    wait_for 20 counts "$granted" 2; timed $? "$what: the honest one was granted no core"
+    go $life "$bin/load" lc -n "$name" -u 0 -k 200 -q 2000 -s $life
+    loads+=("$last")
+    wait_for 20 counts 'actions_total{kind="revoke"}' 1; timed $? "$what: nothing was revoked"
+}
+# given_after HISTORY: how far it comes, as STEP MS PASSES: the core of thread 1 is revoked for task 0 (1), and nothing else is
+# revoked or granted until it is free, MS later (2); thread 0 is granted it, PASSES later (3), and is seen on it (4).
+given_after() {
+    awk -F , '
+        $1 == "pass" { pass++; now = $2 }
+        $1 == "grant" && $3 == 1 { core = $2 }
+        step == 0 && $1 == "revoke" { if ($2 != core || $3 != "preempt" || $4 != 0) exit; step = 1; asked = now; next }
+        step == 1 && ($1 == "revoke" || $1 == "grant") { exit }
+        step == 1 && $1 == "free" { if ($2 != core) exit; step = 2; freed = pass; took = now - asked }
+        step == 2 && $1 == "grant" { if ($2 != core || $3 != 0) exit; step = 3; later = pass - freed }
+        step == 3 && $1 == "whole" && $2 == 0 && $6 != 0 { step = 4; exit }
+        END { print step + 0, int(took / 1000000), later + 0 }' "$1"
+}
+given_again() { # a deaf thread takes a guarantee until -k ends its process: the next passes give it; without -k none does
+    local policy=assured judge=note from span step took later loads=()
+    what="a guarantee that a deaf thread takes, with -k"
+    make_table "lc,1,1,$long" be,0,1,0 be,0,1,0
+    deaf_takes begin -k 500 -e
+    from=$SECONDS
+    wait_at_most 4 is_gone "$deaf"; timed $? "$what: its process is not killed in four and a half seconds"
+    wait_for 5 counts 'actions_total{kind="grant"}' 3; timed $? "$what: no core is granted after that"
+    span=$((SECONDS - from + 1))
+    [ ${#late[@]} = 0 ] || judge=timed # what was not there in time is not judged otherwise
+    end "${loads[@]}"
+    exactly 1 killed
+    head -n 1 "$record/table.toml" | grep -q "^# Audit it with --policy assured, rule "; $judge $? "$what: its table does not say who made it"
+    read -r step took later < <(given_after "$record/piece-000001.history")
+    [ "$step" = 4 ] && [ "$took" -ge 450 ] && [ "$later" -le 3 ]
+    $judge $? "$what: the record comes to step $step: a core free after $took ms, and granted $later passes later"
+    [ "$took" -le 4000 ]; timed $? "$what: the core is free after $took ms"
+
+    what="a guarantee that a deaf thread takes, without -k"
+    deaf_takes start
+    sleep $span
+    renewed
+    ! counts 'actions_total{kind="free"}' 1; note $? "$what: a core is left"
+    ! counts 'actions_total{kind="grant"}' 3; note $? "$what: a core is granted"
+    kill -0 "$deaf"; note $? "$what: the process was ended"
+    kill -9 "$deaf"
+    wait_for 20 counts 'actions_total{kind="grant"}' 3; timed $? "$what: nor is one granted when it has ended"
+    stop "${loads[@]}"
+    exactly 0 killed
+    table=$top/host/tables/mix.toml
+} 2> /dev/null
+
 unkillable() { # nobody can be killed: a piece ends without who does not leave, and so does the scheduler
     what="a process that can neither be killed nor leaves"
     can_deny kill || return
