@@ -32,8 +32,9 @@ def is_answered_now(wanted: Answer, given: Answer) -> bool:
 
 def is_taken_now(wanted: Answer, given: Answer) -> bool:
     """Whether all that differs is that an option is taken now, which was refused then."""
-    return is_answered_now(wanted, given) or (any(wanted.said.startswith(was) and given.said.startswith(now) for was, now in TAKEN.items())
-            and (wanted.status, wanted.wrote, wanted.files) == (given.status, given.wrote, given.files) == (2, "", {}))
+    is_refused = any(wanted.said.startswith(was) and given.said.startswith(now) for was, now in TAKEN.items())
+    alike = (wanted.status, wanted.wrote, wanted.files) == (given.status, given.wrote, given.files) == (2, "", {})
+    return is_answered_now(wanted, given) or is_refused and alike
 
 
 def fronts(text: str, name: str) -> str:
