@@ -12,6 +12,8 @@ MOST_PASSES, MOST_TEXT = 1 << 20, 1 << 26
 # The room of a thread's command ring, in commands (caladan_pages.h).
 PLACES = 4
 HISTORY_HEADER = "caladan-history,2"
+# The rule by which the policy assured decides and audits, as records of the host name it.
+ASSURED_RULE = 2
 # The words of a record, as a look has them from `taken` on.
 WORDS = ("taken", "running", "queued", "oldest", "started", "misses", "stamp", "paused", "since")
 
