@@ -99,7 +99,7 @@ Each word makes runs by caladan_view, side by side, and writes what came of
 them. With -o the answer goes to a file, which appears only once the answer is
 complete; a name that ends in .svg, .png or .pdf is that of a picture.
 `caladan_lab WORD --help` says what is read and written, with a whole input to
-copy; docs/VIEWER.md has the rest, which a release has as `man caladan-viewer`.
+copy; `man caladan-viewer` has the rest, in a clone the page VIEWER.md.
 
 Exit status: 0 done, 1 an objective missed, 2 bad arguments or rejected input, 3
 memory or output was refused, or a program is missing. A fault is one line on
