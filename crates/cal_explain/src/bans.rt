@@ -65,7 +65,10 @@ fn gives_way(walk: &PassWalk<'_>, core: u8) -> bool
     requires walk { IsWalk walk.now }
     requires core { core < walk.now.config.now.cores }
 {
-    walk.policy() == Policy::Assured && walk.is_free_and_lacked_beside(core)
+    match walk.policy() {
+        Policy::Caladan => false,
+        Policy::Assured => walk.is_free_and_lacked_beside(core),
+    }
 }
 
 /// Writes for how long a thread's request has run, by its kept record, and how long it may.

@@ -90,13 +90,23 @@ fn write_ban_end<W: Write>(
             "; ends: its record is at a request begun at {}",
             kept.started
         )
-    } else if walk.policy() == Policy::Assured && walk.shortage().are_wanted {
+    } else if is_wanted(walk) {
         write_wanted(walk, writer)
     } else {
         write!(
             writer,
             "; stays: its record is on core {sibling}, at that request"
         )
+    }
+}
+
+/// Whether bans end for short tasks under the walk's policy.
+fn is_wanted(walk: &PassWalk<'_>) -> bool
+    requires { IsWalk walk.now }
+{
+    match walk.policy() {
+        Policy::Caladan => false,
+        Policy::Assured => walk.shortage().are_wanted,
     }
 }
 

@@ -94,8 +94,9 @@ fn tell_thread<W: Write>(
 {
     let state = walk.thread(thread);
     write!(writer, "    thread {thread}: delay {}", state.delay)?;
-    if walk.policy() == Policy::Assured {
-        write_lateness(walk, thread, writer)?;
+    match walk.policy() {
+        Policy::Caladan => {}
+        Policy::Assured => write_lateness(walk, thread, writer)?,
     }
     write!(writer, "; ")?;
     if state.has_core {

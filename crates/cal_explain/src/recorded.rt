@@ -98,26 +98,27 @@ impl Explainer<'_> {
         Ok(verdict)
     }
 
-    /// Of an illegal history, writes that the other policy made it, where the whole of it is legal
+    /// Of an illegal history, writes that another policy made it, where the whole of it is legal
     /// under that one.
     fn tell_maker<W: Write>(&self, writer: &mut W) -> Result<(), ExplainFault> {
-        let other = other_than(self.policy);
-        if audited(self.alloc, self.config, other, self.history)? == Verdict::Legal {
-            let name = other.name();
-            writeln!(
-                writer,
-                "the policy {name} made this history: the whole of it is legal under that one"
-            )?;
+        for other in others_than(self.policy) {
+            if audited(self.alloc, self.config, *other, self.history)? == Verdict::Legal {
+                let name = other.name();
+                writeln!(
+                    writer,
+                    "the policy {name} made this history: the whole of it is legal under that one"
+                )?;
+            }
         }
         Ok(())
     }
 }
 
-/// The other policy.
-fn other_than(policy: Policy) -> Policy {
+/// The other policies.
+fn others_than(policy: Policy) -> &'static [Policy] {
     match policy {
-        Policy::Caladan => Policy::Assured,
-        Policy::Assured => Policy::Caladan,
+        Policy::Caladan => &[Policy::Assured],
+        Policy::Assured => &[Policy::Caladan],
     }
 }
 
