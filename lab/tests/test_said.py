@@ -132,13 +132,12 @@ def test_a_picture_goes_by_them_too(lab: Run, view: str, tmp_path: Path) -> None
     assert lab("compare", "-j", "0", given=run, view=view).status == 2
 
 
-def test_the_short_help_names_what_the_long_one_has_more() -> None:
+def test_the_long_help_names_every_option_and_the_short_one_fits_a_screen() -> None:
     for command in LAB.commands:
         short, long = (help_of(command, it) for it in (False, True))
-        told = {it for it in short.replace("\n", " ").split() if it.startswith("--")}
-        assert {f"--{it.long}" for it in command.all_args if it.long} <= told
         assert all(f"  {it.shown()}" in long or f", {it.shown()}" in long for it in command.all_args if it.long)
-        assert max(map(len, short.splitlines())) <= 80
+        assert short.count("\n") <= 24 and max(map(len, short.splitlines())) <= 80
+        assert "see more with '--help'" in short
 
 
 def test_which_was_meant() -> None:
