@@ -2,7 +2,8 @@
 use Rattle.cal_guard.proofs.Common.{◌≡◌, ℕ, ◌+◌, ◌≤◌, Bool, true, false, cond, eqb, List, [], ◌∷◌, ◌++◌, length, take, Some, sym, ap, ◌∙◌, arith, subst, append_assoc, ⊎_elim, slice_get, take-length, nat_tests, slice_get_within, Command, Run, Park, Table, IsTable, Action, Free, Unban, Ban, Revoke, Cap, Grant, PassEntry, actions_of, command_to, sends, sent_to, is_latency_critical, held_by, cap_of, placement_of, so_far, LegalIsSound, LastThreadIsPlaced, Point, IsPoint, made_at, actions_at, next_at, NoneHeld, NoBannedIsGranted, BannedAreEmptyAfterPasses, BannedAreEmptiedAtOnce, BansAreDue, BansEndUnshown, GrantsKeepToCaps, RevocationsLeaveGuarantees, TasksKeepToCaps, last_loser, actions_more, sound_at, MayBeSent, MayBeMade, IsPermitted, core_revoked, LegalIsPermitted, sent_push, sent_grows}
 use Rattle.cal_policy.specs.declared.history.action.Cause.TheVariants as causes
 use Rattle.cal_policy.specs.Pass.{IsLegal}
-use Rattle.cal_policy.proofs.PassLemmas.Legality.{legal_upto}
+use Rattle.cal_policy.specs.declared.policy.Policy.TheVariants.{Caladan}
+use Rattle.cal_policy.proofs.PassLemmas.Legality.{legal_upto_by}
 use Rattle.cal_laws.specs.Point.{setting_at}
 use Rattle.cal_laws.specs.Caps.{CapsAreDue}
 use Rattle.cal_laws.specs.Cause.{RevocationsHaveCause}
@@ -101,7 +102,7 @@ pub legal_permitted : Safety → LegalIsPermitted
 legal_permitted laws table history ok legal = record {
   passes = λ p entry e.
       let low = slice_get_within history p entry e in
-      let upto : IsLegal table (take (p + 1) history) = legal_upto table history (p + 1) (omega (arith, low)) (λ q lt other f. legal.passes q other f) in record {
+      let upto : IsLegal table (take (p + 1) history) = legal_upto_by Caladan table history (p + 1) (omega (arith, low)) (λ q lt other f. legal.passes q other f) in record {
         input = (legal.passes p entry e).input;
         actions = record {
           each = λ i a f. permitted laws (record { table = table; history = history; pass = p; entry = entry; made = i })

@@ -56,13 +56,6 @@ InOpenPass table guard now bandwidth looks is =
     let s = setting table h (judged_input table h now bandwidth found) in
     IsWithin guard s acts → is s acts
 
--- what a guard took of a pass it keeps as that pass's entry
-abbrev pub PassesAreKept : Type 0
-PassesAreKept = (guard : Guard) (table : Table) (history : List PassEntry) (input : Input)
-    (acts : List Action) →
-    IsWithin guard (setting table history input) acts →
-    IsStateAfter (board_in guard) (and_then history input acts)
-
 -- after a permitted pass a group of actions may follow just where with them it is a permitted pass
 abbrev pub GroupsMakeAPass : Type 0
 GroupsMakeAPass = (s : Setting) (acts group : List Action) → ArePermitted s acts →

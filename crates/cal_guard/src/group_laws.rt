@@ -1,11 +1,6 @@
 //! What a guard takes of a pass, group by group, is one pass.
 
-ghost use Rattle.cal_guard.specs.Guarded.{PassesAreKept, GroupsMakeAPass};
-
-/// What a guard took of a pass it keeps as that pass's entry: so the next pass may begin.
-pub fn passes_are_kept()
-    ensures { PassesAreKept }
-{}
+ghost use Rattle.cal_guard.specs.Guarded.{GroupsMakeAPass};
 
 /// After a permitted pass a group of actions may follow just where with them it is a permitted
 /// pass. So what a guard took group by group, from no action on, is a permitted pass.

@@ -22,7 +22,7 @@ mod spare;
 
 pub use checking::{is_permitted, is_permitted_pass, permits};
 pub use gone::{gone_may_be_freed, permitted_gone_is_kept};
-pub use group_laws::{groups_make_a_pass, passes_are_kept};
+pub use group_laws::groups_make_a_pass;
 pub use guard::Guard;
 pub use histories::{
     doing_nothing_is_permitted, permitted_goes_on, permitted_is_orderly, permitted_is_safe,

@@ -20,11 +20,6 @@ pub record HasNoneSuspended (rec : Record) : Type 0 where
   pub paused : rec.paused ≡ 0
   pub since : rec.since ≡ 0
 
--- the delay that such a record shows is that of the queue
-abbrev pub RecordDelayIsOfQueue : Type 0
-RecordDelayIsOfQueue = (now : ℕ) (rec : Record) → HasNoneSuspended rec →
-    record_delay now rec ≡ queue_delay now rec
-
 -- all records that looks let be kept are such
 abbrev pub ShowNoneSuspended : List (List Seen) → Type 0
 ShowNoneSuspended looks = All (λ seen. (k : ℕ) (rec : Record) → to_keep_at seen k ≡ Some rec →

@@ -29,7 +29,7 @@ pub use cause::{revocations_have_cause, revocations_have_cause_by};
 pub use choice::{classes_are_told, grants_are_best, preemptions_have_thread};
 pub use ends::ends_are_points;
 pub use limits::{grants_keep_to_caps, revocations_leave_guarantees, tasks_keep_to_caps};
-pub use old_delay::{delays_are_of_queues, record_delay_is_of_queue};
+pub use old_delay::delays_are_of_queues;
 pub use one_each::{
     actions_come_in_turn, commands_go_where_is_room, passes_are_short, tasks_are_served_once,
     threads_are_sent_one_command,

@@ -9,7 +9,6 @@ pub mod FreesFirst
 pub mod Keeping
 pub mod LastHeld
 pub mod LegalOrderly
-pub mod Legality
 pub mod Lengths
 pub mod NextTurn
 pub mod NoneToTake

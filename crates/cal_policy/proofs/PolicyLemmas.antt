@@ -7,12 +7,12 @@ use Rattle.cal_policy.specs.Assured.Pass as definitions
 use Rattle.cal_policy.proofs.AssuredLemmas.Done.{IsDone, pass_done}
 use Rattle.cal_policy.proofs.AssuredLemmas.FreesFirst as second
 use Rattle.cal_policy.proofs.AssuredLemmas.LegalOrderly as assured
-use Rattle.cal_policy.proofs.AssuredLemmas.Legality as own
 use Rattle.cal_policy.proofs.AssuredLemmas.Lengths as lengths
 use Rattle.cal_policy.proofs.ListLemmas.EachAfter.{each_at}
 use Rattle.cal_policy.proofs.PassLemmas.Commands.{IsFitPass}
 use Rattle.cal_policy.proofs.PassLemmas.LegalOrderly.{legal_orderly, legal_made, legal_sound, legal_steady, sound_fits}
-use Rattle.cal_policy.proofs.PassLemmas.Legality.{legal_upto, legal_none, legal_more, illegal_stays, illegal_here, never_illegal}
+pub use Rattle.cal_policy.proofs.PassLemmas.Legality.{legal_more_by, legal_none_by, legal_upto_by, never_illegal_by, pass_at_by, verdict_illegal, verdict_stays}
+use Rattle.cal_policy.proofs.PassLemmas.Legality.{illegal_here}
 use Rattle.cal_policy.proofs.PassLemmas.Length.{legal_short}
 use Rattle.cal_policy.proofs.PassLemmas.RevokedStay.{FreesFirst, pass_frees_first}
 
@@ -45,20 +45,6 @@ pass_from Assured table before entry input actions = record { input = input; act
 pub orderly_by : (policy : Policy) (table : Table) (h : List PassEntry) → IsTable table → IsLegalBy policy table h → IsOrderly table h
 orderly_by Caladan table h accepted legal = legal_orderly table h accepted legal
 orderly_by Assured table h accepted legal = assured.legal_orderly table h accepted legal
-
-pub legal_upto_by : (policy : Policy) (table : Table) (h : List PassEntry) (n : ℕ) → n ≤ length h →
-    ((q : ℕ) → q < n → (entry : PassEntry) → slice_get h q ≡ Some entry → IsPassBy policy table (take q h) entry) → IsLegalBy policy table (take n h)
-legal_upto_by Caladan table h n within each = legal_upto table h n within each
-legal_upto_by Assured table h n within each = own.legal_upto table h n within each
-
--- each entry of a history is a pass of its policy after those before it, and one pass more is
-pub pass_at_by : (policy : Policy) (table : Table) (h : List PassEntry) → IsLegalBy policy table h → (p : ℕ) (entry : PassEntry) → slice_get h p ≡ Some entry → IsPassBy policy table (take p h) entry
-pass_at_by Caladan table h legal = legal.passes
-pass_at_by Assured table h legal = legal.passes
-
-pub legal_more_by : (policy : Policy) (table : Table) (h : List PassEntry) (entry : PassEntry) → IsLegalBy policy table h → IsPassBy policy table h entry → IsLegalBy policy table (h ++ entry ∷ [])
-legal_more_by Caladan table h entry legal next = legal_more table h entry legal next
-legal_more_by Assured table h entry legal next = own.legal_more table h entry legal next
 
 -- after each number of its passes it is steady
 pub steady_by : (policy : Policy) (table : Table) (h : List PassEntry) → IsTable table → IsLegalBy policy table h → (p : ℕ) → p ≤ length h → IsSteady table (actions_of (take p h))
@@ -123,37 +109,19 @@ pub verdict_legal : (policy : Policy) (table : Table) (h : List PassEntry) → I
 verdict_legal Caladan table h legal = legal
 verdict_legal Assured table h legal = legal
 
-pub verdict_illegal : (policy : Policy) (table : Table) (h : List PassEntry) (p : ℕ) → p < length h → IsLegalBy policy table (take p h) →
-    ((entry : PassEntry) → slice_get h p ≡ Some entry → ¬ IsPassBy policy table (take p h) entry) → IsVerdictBy policy table h (Illegal p)
-verdict_illegal Caladan table h p within before none = record { within = within; before = before; illegal = none }
-verdict_illegal Assured table h p within before none = record { within = within; before = before; illegal = none }
-
--- nothing is a history of each policy
-pub legal_none_by : (policy : Policy) (table : Table) → IsLegalBy policy table []
-legal_none_by Caladan table = legal_none table
-legal_none_by Assured table = own.legal_none table
-
 -- what one entry more makes of what an audit says
-pub verdict_stays : (policy : Policy) (table : Table) (h : List PassEntry) (entry : PassEntry) (p : ℕ) → IsVerdictBy policy table h (Illegal p) → IsVerdictBy policy table (h ++ entry ∷ []) (Illegal p)
-verdict_stays Caladan table h entry p first = illegal_stays table h entry p first
-verdict_stays Assured table h entry p first = own.illegal_stays table h entry p first
-
 pub verdict_more : (policy : Policy) (table : Table) (h : List PassEntry) (entry : PassEntry) → IsVerdictBy policy table h Legal → IsPassBy policy table h entry → IsVerdictBy policy table (h ++ entry ∷ []) Legal
-verdict_more Caladan table h entry legal next = legal_more table h entry legal next
-verdict_more Assured table h entry legal next = own.legal_more table h entry legal next
+verdict_more Caladan table h entry legal next = legal_more_by Caladan table h entry legal next
+verdict_more Assured table h entry legal next = legal_more_by Assured table h entry legal next
 
 pub verdict_here : (policy : Policy) (table : Table) (h : List PassEntry) (entry : PassEntry) → IsVerdictBy policy table h Legal → (IsPassBy policy table h entry → ⊥) →
     IsVerdictBy policy table (h ++ entry ∷ []) (Illegal (length h))
-verdict_here Caladan table h entry legal none = illegal_here table h entry legal none
-verdict_here Assured table h entry legal none = own.illegal_here table h entry legal none
+verdict_here Caladan table h entry legal none = illegal_here Caladan table h entry legal none
+verdict_here Assured table h entry legal none = illegal_here Assured table h entry legal none
 
 pub legal_of : (policy : Policy) (table : Table) (h : List PassEntry) → IsVerdictBy policy table h Legal → IsLegalBy policy table h
 legal_of Caladan table h legal = legal
 legal_of Assured table h legal = legal
-
-pub never_illegal_by : (policy : Policy) (table : Table) (h : List PassEntry) (p : ℕ) → IsLegalBy policy table h → IsVerdictBy policy table h (Illegal p) → ⊥
-never_illegal_by Caladan table h p legal first = never_illegal table h p legal first
-never_illegal_by Assured table h p legal first = own.never_illegal table h p legal first
 
 -- what an audit is, whatever its policy
 pub record AuditParts (policy : Policy) (table : Table) (h : List PassEntry) (auditor : Auditor) : Type 0 where

@@ -106,17 +106,6 @@ abbrev pub LookIsOneMore : Type 0
 LookIsOneMore = (looks : List (List Seen)) (seen : List Seen) (k : ℕ) →
     kept_by (looks ++ seen ∷ []) k ≡ unwrap_or (to_keep_at seen k) (kept_by looks k)
 
--- after one more pass's looks what was last shown is what they carried, and without a record in
--- them it is as it was
-abbrev pub ShownIsOneMore : Type 0
-ShownIsOneMore = (looks : List (List Seen)) (seen : List Seen) (k : ℕ) →
-    last_shown (looks ++ seen ∷ []) k ≡ unwrap_or (shown_at seen k) (last_shown looks k)
-
--- the judgement of a look is of that very look
-abbrev pub JudgedIsOfItsLook : Type 0
-JudgedIsOfItsLook = (cores : ℕ) (x : List Action) (k : ℕ) (look : Look) →
-    look_of (judged cores x k look) ≡ look
-
 -- a look that is judged Whole acknowledges no more than was sent, and a core that it shows is its
 -- thread's by a Run that it acknowledges
 pub record FitsCommands (cores : ℕ) (x : List Action) (k number : ℕ) (rec : Record)
@@ -124,10 +113,6 @@ pub record FitsCommands (cores : ℕ) (x : List Action) (k number : ℕ) (rec : 
   pub whole : look ≡ found.Whole number rec
   pub sent : rec.taken ≤ sent_to x k
   pub own : is_foreign cores x k rec ≡ false
-
-abbrev pub WholeIsAllowed : Type 0
-WholeIsAllowed = (cores : ℕ) (x : List Action) (k number : ℕ) (rec : Record) (look : Look) →
-    judged cores x k look ≡ Whole number rec → FitsCommands cores x k number rec look
 
 -- nothing is a legal history
 abbrev pub NothingIsLegal : Type 0
@@ -143,11 +128,6 @@ PrefixesAreLegal = (table : Table) (history : List PassEntry) (p : ℕ) → IsLe
 abbrev pub OnePassMoreIsLegal : Type 0
 OnePassMoreIsLegal = (table : Table) (history : List PassEntry) (entry : PassEntry) →
     IsLegal table (history ++ entry ∷ []) ↔ (IsLegal table history × IsPass table history entry)
-
--- what more actions send a thread comes after all that was sent to it before
-abbrev pub CommandsFollow : Type 0
-CommandsFollow = (x more : List Action) (k : ℕ) →
-    commands_to (x ++ more) k ≡ commands_to x k ++ each_after (sends k) x more
 
 -- the commands of a history are the first ones of those of each longer history
 abbrev pub CommandsBeginAlike : Type 0
@@ -170,12 +150,6 @@ abbrev pub VictimHasMostMisses : Type 0
 VictimHasMostMisses = (s : Setting) (x : List Action) → MatchOption (victim_of s x)
     ((t : ℕ) → t < length s.table.tasks → victim_rank s x t ≡ None)
     (HasMostMisses s x)
-
--- at each place inside each pass of a legal history no core is banned while its sibling is
-abbrev pub LegalIsApart : Type 0
-LegalIsApart = (table : Table) (history : List PassEntry) → IsTable table → IsLegal table history →
-    (p : ℕ) (entry : PassEntry) → slice_get history p ≡ Some entry →
-    (i : ℕ) → NoPairBanned (so_far (setting_of table (take p history) entry) (take i entry.actions))
 
 -- a pass of a legal history has at most MOST_ACTIONS actions
 abbrev pub LegalIsShort : Type 0

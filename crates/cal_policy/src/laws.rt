@@ -2,12 +2,11 @@
 //! own contract follows from one calls it.
 
 ghost use Rattle.cal_policy.specs.Laws.{LegalIsOrderly, LegalIsSteady, LegalIsSound};
-ghost use Rattle.cal_policy.specs.Laws.{LegalIsShort, LegalIsApart, ChosenHasWaitedLongest};
+ghost use Rattle.cal_policy.specs.Laws.{LegalIsShort, ChosenHasWaitedLongest};
 ghost use Rattle.cal_policy.specs.Laws.{ChosenIsOfLeastClass, VictimHasMostMisses};
 ghost use Rattle.cal_policy.specs.Laws.{ActionIsOneMore, LastThreadIsPlaced, LookIsOneMore};
-ghost use Rattle.cal_policy.specs.Laws.{ShownIsOneMore, JudgedIsOfItsLook, WholeIsAllowed};
 ghost use Rattle.cal_policy.specs.Laws.{NothingIsLegal, PrefixesAreLegal, OnePassMoreIsLegal};
-ghost use Rattle.cal_policy.specs.Laws.{CommandsFollow, CommandsBeginAlike};
+ghost use Rattle.cal_policy.specs.Laws.{CommandsBeginAlike};
 
 pub use crate::judgement::look_laws::{
     gone_frees_its_cores, gone_is_kept, kept_is_whole, misfits_do_not_fit, only_faults_are_refused,
@@ -71,31 +70,9 @@ pub fn victim_has_most_misses()
     ensures { VictimHasMostMisses }
 {}
 
-/// At each place inside each pass of a legal history no core is banned while its sibling is.
-pub fn legal_is_apart()
-    ensures { LegalIsApart }
-{}
-
 /// Each pass of a legal history has at most `MOST_ACTIONS`.
 pub fn legal_is_short()
     ensures { LegalIsShort }
-{}
-
-/// After one more pass's looks what was last shown of a thread is what its look carried; where that
-/// carried no record it is as it was.
-pub fn shown_is_one_more()
-    ensures { ShownIsOneMore }
-{}
-
-/// The judgement of a look is of that very look.
-pub fn judged_is_of_its_look()
-    ensures { JudgedIsOfItsLook }
-{}
-
-/// A look that is judged Whole acknowledges no more commands than were sent, and a core that it
-/// shows is its thread's by a Run that it acknowledges.
-pub fn whole_is_allowed()
-    ensures { WholeIsAllowed }
 {}
 
 /// Nothing is a legal history.
@@ -112,11 +89,6 @@ pub fn prefixes_are_legal()
 /// it.
 pub fn one_pass_more_is_legal()
     ensures { OnePassMoreIsLegal }
-{}
-
-/// What more actions send a thread comes after all that was sent to it before.
-pub fn commands_follow()
-    ensures { CommandsFollow }
 {}
 
 /// The commands that a history sent a thread are the first ones of those of each longer history.

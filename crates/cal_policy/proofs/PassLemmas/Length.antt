@@ -5,7 +5,7 @@ use Rattle.cal_policy.specs.declared.history.action.Cause.TheVariants as causes
 use Rattle.cal_machine.specs.declared.task.Kind.TheVariants as kinds
 use Rattle.cal_policy.proofs.PassLemmas.Apart.{orderly_apart, frees_apart}
 use Rattle.cal_policy.proofs.PassLemmas.LegalOrderly.{legal_orderly}
-use Rattle.cal_policy.proofs.PassLemmas.Legality.{legal_upto}
+use Rattle.cal_policy.proofs.PassLemmas.Legality.{legal_upto_by}
 use Rattle.cal_policy.proofs.PassLemmas.Pairs.{in_turn_pairs, unban_pair_keeps, unban_lower, pair_upper, ban_lower}
 
 -- where each place has at most so many actions while P holds, and leaves P as it was
@@ -161,6 +161,6 @@ pub legal_short : (table : Table) (history : List PassEntry) → IsTable table �
     → length entry.actions ≤ 338
 legal_short table history ok legal p entry e =
     let lt = slice_get_within history p entry e in
-    let before = legal_upto table history p (omega arith) (λ q low earlier is. legal.passes q earlier is) in
+    let before = legal_upto_by Caladan table history p (omega arith) (λ q low earlier is. legal.passes q earlier is) in
     let most = pass_most (setting_of table (take p history) entry) ok (orderly_apart table (take p history) (legal_orderly table (take p history) ok before)) in
     subst (λ (l : List Action). length l ≤ 338) (sym (legal.passes p entry e).actions) most

@@ -1,5 +1,6 @@
-use Rattle.cal_policy.proofs.PassLemmas.Legality.{legal_none}
+use Rattle.cal_policy.specs.declared.policy.Policy.TheVariants.{Caladan}
+use Rattle.cal_policy.proofs.PassLemmas.Legality.{legal_none_by}
 use Rattle.cal_policy.proofs.laws.nothing_is_legal.Goals as goal
 
 pub returns : goal.returns
-returns c = legal_none
+returns c = legal_none_by Caladan
