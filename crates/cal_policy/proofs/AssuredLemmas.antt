@@ -2,11 +2,13 @@
 pub mod Acts
 pub mod AsKept
 pub mod BooksNoMore
+pub mod ByHolders
 pub mod Counting
 pub mod Done
 pub mod Fits
 pub mod FreesFirst
 pub mod Keeping
+pub mod Lacking
 pub mod LastHeld
 pub mod LegalOrderly
 pub mod Lengths

@@ -5,6 +5,7 @@ pub mod Bandwidth
 pub mod Bans
 pub mod BansBy
 pub mod Choice
+pub mod Counted
 pub mod Coupled
 pub mod Frees
 pub mod Grants

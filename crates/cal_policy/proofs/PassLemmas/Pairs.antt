@@ -1,5 +1,5 @@
 -- A part that goes over the cores pair by pair, and bans of cores beside each other.
-use Rattle.cal_policy.proofs.Common.{◌≡◌, ℕ, ◌+◌, ◌*◌, suc, zero, Bool, true, false, cond, List, [], ◌∷◌, ◌++◌, Option, Some, None, refl, ap, sym, ◌∙◌, arith, append_assoc, eqb, ◌⊎◌, inl, inr, ⊎_elim, is_some, append-nil, and-true, not, ◌&&◌, nat_tests, Record, sibling_of, Action, Unban, Ban, Revoke, Cause, BannedFor, in_turn, in_pair, holder_of, ban_of, is_banned, is_held, Setting, so_far, kept_now, NoPairBanned, still_shows, ban_for, ban_due, unwrap_if, Policy, Caladan, Assured, give_way, unban_for_by, unban_at_by, stays_open, ban_due_by, bans_at_by}
+use Rattle.cal_policy.proofs.Common.{◌≡◌, ℕ, ◌+◌, ◌*◌, ◌/◌, subst, cases_lt, suc, zero, Bool, true, false, cond, List, [], ◌∷◌, ◌++◌, Option, Some, None, refl, ap, sym, ◌∙◌, arith, append_assoc, eqb, ◌⊎◌, inl, inr, ⊎_elim, is_some, append-nil, and-false, and-true, not, ◌&&◌, nat_tests, Record, sibling_of, Action, Unban, Ban, Revoke, Cause, BannedFor, in_turn, in_pair, holder_of, ban_of, is_banned, is_held, Setting, so_far, kept_now, NoPairBanned, still_shows, ban_for, ban_due, unwrap_if, Policy, Caladan, Assured, give_way, unban_for_by, unban_at_by, stays_open, ban_due_by, bans_at_by}
 use Rattle.cal_policy.specs.declared.history.action.Cause.TheVariants as causes
 use Rattle.cal_policy.proofs.HistoryLemmas.OneMore.{ban_push}
 use Rattle.cal_policy.proofs.PassLemmas.PartSoFar.{in_turn_more}
@@ -45,6 +45,14 @@ pub one_ends : (p : Policy) (s : Setting) (x : List Action) (c : ℕ) (ban : Ban
     unban_for_by p s x c (Some ban) ≡ cond (still_shows (kept_now s ban.thread) (sibling_of c) ban.started && not (give_way p s x)) [] (Unban c ∷ [])
 one_ends Caladan s x c ban = ap (λ b. cond b [] (Unban c ∷ [])) (sym (and-true (still_shows (kept_now s ban.thread) (sibling_of c) ban.started)))
 one_ends Assured s x c ban = refl
+
+-- a ban that gives way ends
+pub ends_giving : (p : Policy) (s : Setting) (x : List Action) (c : ℕ) (ban : BannedFor) (o : Option BannedFor) → o ≡ Some ban → give_way p s x ≡ true → Unban c ∷ [] ≡ unban_for_by p s x c o
+ends_giving p s x c ban o e gives =
+    let shows : Bool = still_shows (kept_now s ban.thread) (sibling_of c) ban.started in
+    sym (ap (unban_for_by p s x c) e ∙ one_ends p s x c ban
+    ∙ ap (λ g. cond (shows && not g) [] (Unban c ∷ [])) gives
+    ∙ ap (λ b. cond b [] (Unban c ∷ [])) (and-false shows))
 
 -- what one Unban changes: the ban of its core ends
 unban_some : (b : Bool) (o : Option BannedFor) → is_some (cond b None o) ≡ cond b false (is_some o)
@@ -100,6 +108,30 @@ unban_lower p s acts n a h e =
 pub pair_upper : {X : Type 0} (f : List X → ℕ → List X) (acts : List X) (n : ℕ) → [] ≡ f acts (2 * n) → f acts (2 * n + 1) ≡ in_pair f acts n
 pair_upper f acts n e =
     ap (λ l. f l (2 * n + 1)) (sym (append-nil acts)) ∙ ap (λ l. l ++ f (acts ++ l) (2 * n + 1)) e
+
+-- of a pair whose one core is banned only that one's ban may end
+alone_lower : (p : Policy) (s : Setting) (acts : List Action) (n : ℕ) → NoPairBanned (so_far s acts) → is_banned (so_far s acts) (2 * n) ≡ true →
+    unban_at_by p s acts (2 * n) ≡ in_pair (unban_at_by p s) acts n
+alone_lower p s acts n h banned =
+    let lone : ban_of (so_far s acts) (2 * n + 1) ≡ None = none_if_unbanned _ (ap (is_banned (so_far s acts)) (sym (beside_lower n)) ∙ h.apart (2 * n) banned) in
+    let none = none_to_end p s (acts ++ unban_at_by p s acts (2 * n)) (2 * n + 1) (still_none p s acts (2 * n) (2 * n + 1) lone) in
+    sym (append-nil (unban_at_by p s acts (2 * n))) ∙ ap (λ l. unban_at_by p s acts (2 * n) ++ l) (sym none)
+
+alone_upper : (p : Policy) (s : Setting) (acts : List Action) (n : ℕ) → NoPairBanned (so_far s acts) → is_banned (so_far s acts) (2 * n + 1) ≡ true →
+    unban_at_by p s acts (2 * n + 1) ≡ in_pair (unban_at_by p s) acts n
+alone_upper p s acts n h banned =
+    let lone : ban_of (so_far s acts) (2 * n) ≡ None = none_if_unbanned _ (ap (is_banned (so_far s acts)) (sym (beside_upper n)) ∙ h.apart (2 * n + 1) banned) in
+    pair_upper (unban_at_by p s) acts n (sym (none_to_end p s acts (2 * n) lone))
+
+pub unban_alone : (p : Policy) (s : Setting) (acts : List Action) (core : ℕ) → NoPairBanned (so_far s acts) → is_banned (so_far s acts) core ≡ true →
+    unban_at_by p s acts core ≡ in_pair (unban_at_by p s) acts (core / 2)
+unban_alone p s acts core h banned =
+    let n = core / 2 in
+    let Alone : ℕ → Type 0 = λ c. is_banned (so_far s acts) c ≡ true → unban_at_by p s acts c ≡ in_pair (unban_at_by p s) acts n in
+    ⊎_elim
+    (λ low. let same : 2 * n ≡ core = omega (arith, low) in subst Alone same (alone_lower p s acts n h) banned)
+    (λ high. let same : 2 * n + 1 ≡ core = omega (arith, high) in subst Alone same (alone_upper p s acts n h) banned)
+    (cases_lt core (2 * n + 1))
 
 -- a ban, and perhaps a revocation, leaves the banned core banned
 after_revocation : (x : List Action) (d : ℕ) (b : Bool) (cause : Cause) → ban_of (x ++ cond b (Revoke d cause ∷ []) []) d ≡ ban_of x d

@@ -10,6 +10,7 @@ ghost use Rattle.cal_policy.specs.Setting.{Begun, so_far};
 ghost use Rattle.cal_policy.specs.Pass.Bans.{NoPairBanned, still_shows};
 ghost use Rattle.cal_policy.specs.Pass.BansBy as rules;
 ghost use Rattle.cal_policy.specs.Pass.BansBy.{unban_at_by, unbans_by};
+ghost use Rattle.cal_policy.specs.Pass.Counted.{Counts};
 ghost use Rattle.cal_policy.specs.Board.{NamesTable};
 ghost use Rattle.cal_policy.specs.State.{IsReady, IsOfTable, Stands};
 ghost use Rattle.cal_policy.specs.Pass.AtHand.{setting_in, Within};
@@ -31,15 +32,41 @@ pub fn shows_still(rec: &Record, core: u8, started: u64) -> bool
 
 impl Pass<'_> {
     /// Whether bans give way to short tasks: those of `Policy::Assured` do, while open cores are
-    /// wanted.
-    fn give_way(&self, board: &Board) -> bool
+    /// wanted. How many are lacking is counted where `counted` has no count yet.
+    fn give_way(&self, board: &Board, counted: &mut Option<usize>) -> bool
         requires at_hand { IsOfTable self.now.config.now board.now }
-        ensures { Within self.now board.now (λ s acts. result
-            ≡ rules.give_way self.now.terms.now.policy s (so_far s acts)) }
+        ensures way { Within self.now board.now (λ s acts. Counts s (so_far s acts) counted.old →
+            result ≡ rules.give_way self.now.terms.now.policy s (so_far s acts)) }
+        ensures counted { Within self.now board.now (λ s acts.
+            Counts s (so_far s acts) counted.old → Counts s (so_far s acts) counted.new) }
     {
         match self.terms.policy {
             Policy::Caladan => false,
-            Policy::Assured => self.are_wanted(board),
+            Policy::Assured => self.are_wanted_counting(board, counted),
+        }
+    }
+
+    /// The end of the core's ban, where it has one that ends. How many cores are lacking is counted
+    /// where `counted` has no count yet, and only where it has to be known.
+    fn unban_due_counting(&self, board: &Board, core: u8, counted: &mut Option<usize>) -> Option<Action>
+        requires at_hand { IsOfTable self.now.config.now board.now }
+        requires core { core < self.now.config.now.cores }
+        ensures due { Within self.now board.now (λ s acts. Counts s (so_far s acts) counted.old →
+            option_to_list result ≡ unban_at_by self.now.terms.now.policy s acts core) }
+        ensures names { IfSome result (NamesTable self.now.config.now) }
+        ensures counted { Within self.now board.now (λ s acts.
+            Counts s (so_far s acts) counted.old → Counts s (so_far s acts) counted.new) }
+    {
+        let beside = self.config.machine().sibling(core);
+        let ban = board.bans.bans[core as usize]?;
+        let rec = &board.keeping.kept[ban.thread as usize];
+        if !shows_still(rec, beside, ban.started) {
+            return Some(Action::Unban { core });
+        }
+        if self.give_way(board, counted) {
+            Some(Action::Unban { core })
+        } else {
+            None
         }
     }
 
@@ -51,35 +78,12 @@ impl Pass<'_> {
             ≡ unban_at_by self.now.terms.now.policy s acts core) }
         ensures names { IfSome result (NamesTable self.now.config.now) }
     {
-        let beside = self.config.machine().sibling(core);
-        let ban = board.bans.bans[core as usize]?;
-        let rec = &board.keeping.kept[ban.thread as usize];
-        if shows_still(rec, beside, ban.started) && !self.give_way(board) {
-            None
-        } else {
-            Some(Action::Unban { core })
-        }
-    }
-
-    /// The end of the ban on a core of this pair. At most one of the two cores is banned.
-    fn unban_in_pair(&self, board: &Board, pair: u8) -> Option<Action>
-        requires at_hand { IsOfTable self.now.config.now board.now }
-        requires pair { 2 * pair + 1 < self.now.config.now.cores }
-        ensures due { (h : Begun) (acts : List Action) →
-            let s = setting_in self.now h in
-            NoPairBanned (so_far s acts) → Stands board.now (setting_in self.now h) acts →
-            option_to_list result ≡ in_pair (unban_at_by self.now.terms.now.policy s) acts pair }
-        ensures names { IfSome result (NamesTable self.now.config.now) }
-    {
-        match self.unban_due(board, 2 * pair) {
-            Some(action) => Some(action),
-            None => self.unban_due(board, 2 * pair + 1),
-        }
+        self.unban_due_counting(board, core, &mut None)
     }
 
     /// Ends each ban whose thread no longer shows the core beside and the request that it was for,
-    /// and each while bans give way. The banned cores are visited upwards, pair by pair, and a pair
-    /// gives at most one action.
+    /// and each while bans give way. The banned cores are visited upwards; at most one of a pair is
+    /// banned. How many cores are lacking is counted once, since no end of a ban changes it.
     pub fn end_bans(&self, board: &mut Board, out: &mut Actions)
         requires of_table { IsOfTable self.now.config.now board.old }
         requires room { length out.old + MOST_PAIRS ≤ MOST_ACTIONS }
@@ -90,12 +94,12 @@ impl Pass<'_> {
         ensures ready { IsReady self.now.config.now board.new }
         ensures length { length out.new ≤ length out.old + MOST_PAIRS }
     {
+        let mut counted = None;
         let mut next = 0;
         while let Some(core) = next_core(self.config, &board.sets.banned, 2 * next) {
-            let pair = core / 2;
-            let action = self.unban_in_pair(board, pair);
+            let action = self.unban_due_counting(board, core, &mut counted);
             self.make(board, out, action);
-            next = pair + 1;
+            next = core / 2 + 1;
         }
     }
 }

@@ -1,11 +1,12 @@
 //! Tasks that book less than they are guaranteed, what they lack, and which tasks wait.
 
-ghost use Rattle.std.specs.Prelude.{◌≡◌, ◌-◌, ◌<◌, ◌≤◌, nat_lt, List, length};
+ghost use Rattle.std.specs.Prelude.{◌≡◌, ◌-◌, ◌<◌, ◌≤◌, nat_lt, List, length, Some};
 ghost use Rattle.cal_machine.specs.declared.numbering.TheConstants.{MOST_THREADS};
 ghost use Rattle.cal_policy.specs.declared.history.action.Action.{Action};
 ghost use Rattle.cal_policy.specs.Assured.InFlight.{pressing};
 ghost use Rattle.cal_policy.specs.Assured.Short as rules;
 ghost use Rattle.cal_policy.specs.Pass.AtHand.{Within};
+ghost use Rattle.cal_policy.specs.Pass.Counted.{Counts};
 ghost use Rattle.cal_policy.specs.Setting.{so_far};
 ghost use Rattle.cal_policy.specs.State.{IsOfTable, Agrees};
 
@@ -58,15 +59,55 @@ impl Pass<'_> {
         if self.waits(board, task) { lacks } else { 0 }
     }
 
+    /// How many cores all short tasks lack that wait; where they lack `enough` or more, it may be
+    /// fewer, but no fewer than `enough`. Only tasks with a thread that waits are asked.
+    fn lacking_to(&self, board: &Board, enough: usize) -> usize
+        requires at_hand { IsOfTable self.now.config.now board.now }
+        ensures all { Within self.now board.now (λ s acts. result < enough →
+            result ≡ rules.lacking s (so_far s acts)) }
+        ensures fewer { Within self.now board.now (λ s acts. result
+            ≤ rules.lacking s (so_far s acts)) }
+        ensures few { result < 65536 }
+    {
+        let threads = self.config.threads();
+        let mut lacking = 0;
+        // The threads of the tasks below `reached` are those below `first`.
+        let mut reached = 0;
+        let mut first = 0;
+        while let Some(waiting) = board.keeping.waiting.next(first, threads) {
+            let task = self.config.task_of(waiting);
+            lacking += self.lacks_waiting(board, task);
+            if enough <= lacking {
+                return lacking;
+            }
+            let (begin, count) = self.config.threads_of(task);
+            reached = task + 1;
+            first = begin + count;
+        }
+        let _ = reached;
+        lacking
+    }
+
     /// How many cores all short tasks lack that wait.
     pub fn lacking(&self, board: &Board) -> usize
         requires at_hand { IsOfTable self.now.config.now board.now }
         ensures { Within self.now board.now (λ s acts. result ≡ rules.lacking s (so_far s acts)) }
     {
-        let mut lacking = 0;
-        for task in 0..self.config.tasks() {
-            lacking += self.lacks_waiting(board, task);
+        self.lacking_to(board, usize::MAX)
+    }
+
+    /// The same, counted where `counted` has no count yet: it has it from then on.
+    fn lacking_counted(&self, board: &Board, counted: &mut Option<usize>) -> usize
+        requires at_hand { IsOfTable self.now.config.now board.now }
+        ensures lacking { Within self.now board.now (λ s acts.
+            Counts s (so_far s acts) counted.old → result ≡ rules.lacking s (so_far s acts)) }
+        ensures counted { counted.new ≡ Some result }
+    {
+        if let Some(lacking) = *counted {
+            return lacking;
         }
+        let lacking = self.lacking(board);
+        *counted = Some(lacking);
         lacking
     }
 
@@ -166,62 +207,48 @@ impl Pass<'_> {
         self.is_short(board, task) && self.waits(board, task)
     }
 
-    /// Whether some short task waits. Only tasks with a thread that waits are asked.
+    /// Whether some short task waits: then it lacks a core.
     pub fn some_waits_short(&self, board: &Board) -> bool
         requires at_hand { IsOfTable self.now.config.now board.now }
         ensures { Within self.now board.now (λ s acts. result
             ≡ rules.some_waits_short s (so_far s acts)) }
     {
-        let threads = self.config.threads();
-        // The threads of the tasks below `reached` are those below `first`.
-        let mut reached = 0;
-        let mut first = 0;
-        while let Some(waiting) = board.keeping.waiting.next(first, threads) {
-            let task = self.config.task_of(waiting);
-            if self.waits_short(board, task) {
-                return true;
-            }
-            let (begin, count) = self.config.threads_of(task);
-            reached = task + 1;
-            first = begin + count;
-        }
-        let _ = reached;
-        false
+        self.lacking(board) > 0
     }
 
     /// Whether open cores are lacked: some short task waits, and no more cores are open than are
-    /// lacking. The tasks are asked last.
+    /// lacking. No more are counted than tell.
     pub fn are_lacked(&self, board: &Board) -> bool
         requires at_hand { IsOfTable self.now.config.now board.now }
         ensures { Within self.now board.now (λ s acts. result
             ≡ rules.are_lacked s (so_far s acts)) }
     {
-        if self.none_waits(board) {
-            return false;
-        }
-        let lacking = self.lacking(board);
-        let open_now = self.open_cores(board);
-        if lacking < open_now {
-            return false;
-        }
-        self.some_waits_short(board)
+        let enough = self.open_cores(board).max(1);
+        enough <= self.lacking_to(board, enough)
     }
 
     /// Whether open cores are wanted: some short task waits, and fewer cores are open than are
-    /// lacking.
+    /// lacking. How many are lacking is counted where `counted` has no count yet.
+    pub fn are_wanted_counting(&self, board: &Board, counted: &mut Option<usize>) -> bool
+        requires at_hand { IsOfTable self.now.config.now board.now }
+        ensures wanted { Within self.now board.now (λ s acts. Counts s (so_far s acts) counted.old →
+            result ≡ rules.are_wanted s (so_far s acts)) }
+        ensures counted { Within self.now board.now (λ s acts.
+            Counts s (so_far s acts) counted.old → Counts s (so_far s acts) counted.new) }
+    {
+        let lacking = self.lacking_counted(board, counted);
+        if lacking == 0 {
+            return false;
+        }
+        self.open_cores(board) < lacking
+    }
+
+    /// Whether open cores are wanted.
     pub fn are_wanted(&self, board: &Board) -> bool
         requires at_hand { IsOfTable self.now.config.now board.now }
         ensures { Within self.now board.now (λ s acts. result
             ≡ rules.are_wanted s (so_far s acts)) }
     {
-        if self.none_waits(board) {
-            return false;
-        }
-        let lacking = self.lacking(board);
-        let open_now = self.open_cores(board);
-        if lacking <= open_now {
-            return false;
-        }
-        self.some_waits_short(board)
+        self.are_wanted_counting(board, &mut None)
     }
 }
