@@ -14,10 +14,11 @@ mod difference;
 mod explaining;
 mod fault;
 mod grants;
+mod reached;
 mod recorded;
 mod scope;
 mod telling;
 
 pub use fault::ExplainFault;
-pub use recorded::{Explained, Explainer};
+pub use recorded::{Ended, Explained, Explainer};
 pub use scope::Scope;

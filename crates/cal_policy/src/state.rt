@@ -9,7 +9,7 @@ pub use crate::board::holders::{Holder, Placement, core_changed_by};
 pub use crate::board::replay::{board_of, replay};
 pub use crate::board::survey::{Survey, survey_of};
 pub use crate::history::sending::command_for;
-pub use crate::judgement::orderly::is_fit;
+pub use crate::judgement::orderly::{is_fit, replay_fitting};
 pub use crate::pass::delays::record_delay;
 pub use crate::pass::frees::is_left;
 pub use crate::pass::terms::Terms;

@@ -1,10 +1,10 @@
 //! A pass made turn by turn, which can be asked at each turn how things stand.
 
-ghost use Rattle.std.specs.Prelude.{◌≡◌, ℕ, ◌<◌, ◌++◌, [], IfOk, OnOk, length, option_to_list};
+ghost use Rattle.std.specs.Prelude.{◌≡◌, ℕ, ◌<◌, ◌++◌, [], IfOk, List, OnOk, length, option_to_list};
 ghost use Rattle.std.specs.Option.{IfSome};
 ghost use Rattle.cal_machine.specs.Table.{IsTable};
-ghost use Rattle.cal_policy.specs.Board.{NamesTable};
-ghost use Rattle.cal_policy.specs.State.{IsReady, IsOfTable, Stands};
+ghost use Rattle.cal_policy.specs.Board.{HasSizes, NamesTable};
+ghost use Rattle.cal_policy.specs.State.{IsReady, IsOfTable, IsStateAfter, Stands};
 ghost use Rattle.cal_policy.specs.Explain.PolicyTurns.{next_turn_by};
 ghost use Rattle.cal_policy.specs.Explain.Turns.{IsTurn, first_turn};
 ghost use Rattle.cal_policy.specs.Explain.Walks.{IsWalk, Walks, begun_on, setting_of};
@@ -14,6 +14,7 @@ ghost use Rattle.cal_policy.specs.Pass.AtHand.{setting_in};
 ghost use Rattle.cal_policy.specs.Pass.Coupled.{both_of, BothName};
 ghost use Rattle.cal_policy.specs.Policies.{pass_by};
 ghost use Rattle.cal_policy.specs.Setting.{Begun, Setting, setting, setting_at};
+ghost use Rattle.cal_policy.specs.declared.history.entry.PassEntry.{PassEntry};
 ghost use Rattle.cal_policy.specs.declared.pass.terms.Terms.{Terms};
 ghost use Rattle.cal_policy.specs.declared.explain.turn.Turn.TheVariants.{Placed, End};
 ghost use Rattle.cal_policy.specs.declared.policy.Policy.TheVariants.{Caladan, Assured};
@@ -89,21 +90,22 @@ fn make_both(
     Ok(())
 }
 
-/// The state where the pass on this input begins.
+/// The state where the pass on this input begins, after passes that leave this state.
 fn begun_board(
     alloc: Global,
     config: &Config,
-    history: &[PassEntry],
+    state: &Board,
     input: &Input,
 ) -> Result<Box<Board>, AllocError>
-    requires orderly { IsOrderly config.now history.now }
-    requires input { IsInput config.now history.now input.now }
-    ensures stands { IfOk result (λ board. (terms : Terms) → Stands board.value
-        (setting_at config.now terms (begun_on history.now input.entry.now)) []) }
+    requires ready { IsReady config.now state.now }
+    requires sizes { HasSizes config.now input.now }
+    ensures stands { IfOk result (λ board. (h : List PassEntry) → IsStateAfter state.now h →
+        IsInput config.now h input.entry.now → (terms : Terms) → Stands board.value
+        (setting_at config.now terms (begun_on h input.entry.now)) []) }
     ensures ready { IfOk result (λ board. IsReady config.now board.value) }
 {
     config.limits();
-    let mut board = Box::new(alloc, board_of(config, history))?;
+    let mut board = Box::new(alloc, state.duplicate())?;
     board.begin_fit(input.seen.as_slice());
     Ok(board)
 }
@@ -129,7 +131,32 @@ impl<'a> PassWalk<'a> {
             input.entry.now) ≡ setting config.now history.now input.entry.now) }
     {
         config.limits();
-        let board = begun_board(alloc, config, history, input)?;
+        let state = board_of(config, history);
+        PassWalk::begin_after(alloc, config, policy, &state, input)
+    }
+
+    /// `begin_by` on the state that those passes leave: they are not gone over again. Fails only when
+    /// out of memory.
+    pub fn begin_after(
+        alloc: Global,
+        config: &'a Config,
+        policy: Policy,
+        state: &Board,
+        input: &Input,
+    ) -> Result<PassWalk<'a>, AllocError>
+        requires ready { IsReady config.now state.now }
+        requires sizes { HasSizes config.now input.now }
+        ensures walk { IfOk result IsWalk }
+        ensures policy { IfOk result (λ walk. walk.terms.policy ≡ policy) }
+        ensures first { IfOk result (λ walk. walk.turn ≡ first_turn) }
+        ensures begun { IfOk result (λ walk. (h : List PassEntry) → IsStateAfter state.now h →
+            IsInput config.now h input.entry.now → Walks walk (begun_on h input.entry.now)) }
+        // The pass that it goes over is the one on that input after those passes.
+        ensures setting { IfOk result (λ walk. (h : List PassEntry) →
+            setting_of walk (begun_on h input.entry.now) ≡ setting config.now h input.entry.now) }
+    {
+        config.limits();
+        let board = begun_board(alloc, config, state, input)?;
         Ok(PassWalk {
             config,
             terms: Terms::of(config, input).by(policy),

@@ -140,7 +140,7 @@ fn step_fitting(config: &Config, board: &mut Board, actions: &[Action]) -> bool
 }
 
 /// Brings the board up to one more pass, as far as it is orderly, and says whether it is.
-fn replay_fitting(config: &Config, board: &mut Board, entry: &PassEntry) -> bool
+pub fn replay_fitting(config: &Config, board: &mut Board, entry: &PassEntry) -> bool
     requires { IsReady config.now board.old }
     ensures fits { (h : List PassEntry) → Agrees board.old (actions_of h) →
         KeepingAgrees board.old.keeping (looks_of h) →

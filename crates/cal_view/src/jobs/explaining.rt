@@ -213,8 +213,8 @@ fn scope_of(config: &Config, asked: Asked) -> Result<Scope, Unexplained> {
     })
 }
 
-/// Explains these passes of a history up to the first that cannot be explained; answers the exit
-/// status.
+/// Explains these passes of a history up to the first that cannot be explained, and says why it cannot
+/// be; answers the exit status.
 fn explain_each<W: Write, E: Write>(
     explainer: &Explainer<'_>,
     first: usize,
@@ -222,29 +222,17 @@ fn explain_each<W: Write, E: Write>(
     writer: &mut W,
     errors: &mut E,
 ) -> Result<u8, RunFault> {
-    for pass in first..last {
-        let status = explain_one(explainer, pass, writer, errors)?;
-        if status != 0 {
-            return Ok(status);
-        }
-    }
-    explain_one(explainer, last, writer, errors)
-}
-
-/// Explains this pass of a history, or says why it cannot be; answers the exit status.
-fn explain_one<W: Write, E: Write>(
-    explainer: &Explainer<'_>,
-    pass: usize,
-    writer: &mut W,
-    errors: &mut E,
-) -> Result<u8, RunFault> {
     let passes = explainer.history.len();
-    let reason = match explainer.explain_pass(pass, writer) {
-        Ok(Explained::Done) => return Ok(0),
-        Ok(Explained::NoPass) => Unexplained::NoPass { pass, passes },
-        Ok(Explained::NotOrderly) => Unexplained::NotOrderly { pass },
-        Ok(Explained::NoInput) => Unexplained::NoInput { pass },
+    let ended = match explainer.explain_passes(first, last, writer) {
+        Ok(ended) => ended,
         Err(fault) => return Err(run_fault(fault)),
+    };
+    let pass = ended.pass;
+    let reason = match ended.came {
+        Explained::Done => return Ok(0),
+        Explained::NoPass => Unexplained::NoPass { pass, passes },
+        Explained::NotOrderly => Unexplained::NotOrderly { pass },
+        Explained::NoInput => Unexplained::NoInput { pass },
     };
     Ok(refuse(reason, errors))
 }
