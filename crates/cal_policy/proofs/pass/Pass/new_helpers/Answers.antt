@@ -1,4 +1,4 @@
-use Rattle.cal_policy.proofs.Common.{◌≡◌, ◌+◌, ◌<◌, ◌&&◌, ℕ, Bool, false, not, eqb, refl, sym, ap, ◌∙◌, arith, thread_of, limit_of, holder_of, is_granted_in, is_late, is_untaken, kept_now, made_now, helps_newly, setting_in, count_below, Setting, Action, List, so_far}
+use Rattle.cal_policy.proofs.Common.{◌≡◌, ◌+◌, ◌<◌, ◌&&◌, ℕ, false, not, refl, sym, ap, ◌∙◌, arith, thread_of, limit_of, holder_of, is_granted_in, is_late, is_untaken, kept_now, made_now, helps_newly, setting_in, count_below, Setting, Action, List, so_far}
 use Rattle.cal_policy.proofs.AssuredLemmas.Acts.{made_are}
 use Rattle.cal_policy.proofs.AssuredLemmas.Counting.{count_skip, counted_more, none_passes}
 use Rattle.cal_policy.proofs.pass.Pass.new_helpers.Goals as goal
