@@ -1,5 +1,5 @@
 -- What is lacking goes by who has each core, by the caps and by the grants of the pass; so no end of a ban changes it.
-use Rattle.cal_policy.proofs.Common.{◌≡◌, ℕ, ◌-◌, ◌&&◌, ◌||◌, Bool, true, false, not, cond, eqb, nat_lt, List, [], ◌∷◌, ◌++◌, length, Option, Some, None, refl, sym, ap, subst, ◌∙◌, append-nil, IfSome, unwrap_or, is_some, Table, thread_of, limit_of, guaranteed_of, is_latency_critical, Action, Unban, BannedFor, Candidate, Policy, ban_of, still_shows, sibling_of, give_way, unban_at_by, unban_for_by, holder_of, is_booked_for, is_with, cap_of, count_below, sum_below, best_below, thread_delay, is_granted_in, Setting, so_far, kept_now, has_room, is_untaken, is_late, made_now, lacking}
+use Rattle.cal_policy.proofs.Common.{◌≡◌, ℕ, ◌-◌, ◌&&◌, ◌||◌, Bool, true, false, not, cond, eqb, nat_lt, List, [], ◌∷◌, ◌++◌, length, Option, Some, None, sym, ap, subst, ◌∙◌, append-nil, IfSome, unwrap_or, is_some, Table, thread_of, limit_of, guaranteed_of, is_latency_critical, Action, Unban, BannedFor, Candidate, Policy, ban_of, still_shows, sibling_of, give_way, unban_at_by, unban_for_by, holder_of, is_booked_for, is_with, cap_of, count_below, sum_below, best_below, thread_delay, is_granted_in, Setting, so_far, kept_now, has_room, is_untaken, is_late, made_now, lacking}
 use Rattle.cal_policy.specs.declared.board.holders.Holder.{Holder}
 use Rattle.cal_policy.specs.Pass.Counted.{Counts}
 use Rattle.cal_policy.proofs.AssuredLemmas.Acts.{made_are}

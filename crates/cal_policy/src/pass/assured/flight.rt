@@ -213,6 +213,9 @@ impl Pass<'_> {
             ≡ rules.new_helpers s (so_far s acts) task) }
         ensures few { result ≤ MOST_THREADS }
     {
+        let Some(_) = next_core(self.config, &board.fresh, 0) else {
+            return 0;
+        };
         let (first, count) = self.config.threads_of(task);
         let mut helpers = 0;
         for j in 0..count {

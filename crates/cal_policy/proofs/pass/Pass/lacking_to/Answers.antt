@@ -1,5 +1,5 @@
 -- The tasks between those with a thread that waits add nothing.
-use Rattle.cal_policy.proofs.Common.{◌≡◌, ◌+◌, ◌≤◌, length, sym, ◌∙◌, arith, first_next, first_thread, task_at, lacks_waiting, setting_in, so_far}
+use Rattle.cal_policy.proofs.Common.{◌≡◌, ◌+◌, ◌≤◌, length, ◌∙◌, arith, first_next, first_thread, task_at, lacks_waiting, setting_in, so_far}
 use Rattle.cal_machine.proofs.ThreadNumbers.{first_le}
 use Rattle.cal_policy.proofs.AssuredLemmas.Lacking.{sum_grows, lacks_between}
 use Rattle.cal_policy.proofs.PassLemmas.Bandwidth.{sum_more}
