@@ -48,7 +48,12 @@ impl Pass<'_> {
 
     /// The end of the core's ban, where it has one that ends. How many cores are lacking is counted
     /// where `counted` has no count yet, and only where it has to be known.
-    fn unban_due_counting(&self, board: &Board, core: u8, counted: &mut Option<usize>) -> Option<Action>
+    fn unban_due_counting(
+        &self,
+        board: &Board,
+        core: u8,
+        counted: &mut Option<usize>,
+    ) -> Option<Action>
         requires at_hand { IsOfTable self.now.config.now board.now }
         requires core { core < self.now.config.now.cores }
         ensures due { Within self.now board.now (λ s acts. Counts s (so_far s acts) counted.old →

@@ -27,8 +27,11 @@ loop-core-preserved c =
           ∙ unban_alone p s c.loop-core.out core (i.apart h apart st) (sym (r.1.agrees.banned.banned core low) ∙ c.in-Some.ensures.member))
           c.make.ensures.out (c.make.ensures.stands s);
       apart = λ h apart st. let s = setting_in c.args.self.now h in let r = i.acts h apart st in
-          rw (c.make.ensures.out, c.unban_due_counting-action.ensures.due h _ r.1 (i.counted h apart st),
-          unban_alone p s c.loop-core.out core (i.apart h apart st) (sym (r.1.agrees.banned.banned core low) ∙ c.in-Some.ensures.member))
+          rw (
+            c.make.ensures.out,
+            c.unban_due_counting-action.ensures.due h _ r.1 (i.counted h apart st),
+            unban_alone p s c.loop-core.out core (i.apart h apart st) (sym (r.1.agrees.banned.banned core low) ∙ c.in-Some.ensures.member),
+          )
           (unban_pair_keeps p s c.loop-core.out (core / 2) (i.apart h apart st));
       counted = λ h apart st. let s = setting_in c.args.self.now h in let r = i.acts h apart st in
           rw (c.make.ensures.out, c.unban_due_counting-action.ensures.due h _ r.1 (i.counted h apart st))
