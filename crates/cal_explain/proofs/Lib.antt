@@ -1,1 +1,2 @@
 pub mod FoundLooks
+pub mod OnePassMore

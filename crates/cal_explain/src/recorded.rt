@@ -40,14 +40,6 @@ pub struct Ended {
     pub came: Explained,
 }
 
-/// The end at this pass.
-fn ended_at(pass: usize, came: Explained) -> Ended
-    ensures pass { result.pass ≡ pass }
-    ensures came { result.came ≡ came }
-{
-    Ended { pass, came }
-}
-
 /// Explains passes of a history.
 #[derive(Clone, Copy)]
 pub struct Explainer<'a> {
@@ -114,19 +106,23 @@ impl Explainer<'_> {
             ComesOf self.now.config.now self.now.history.now first Explained.Done) }
     {
         if first >= self.history.len() {
-            return Ok(ended_at(first, Explained::NoPass));
+            return Ok(Ended {
+                pass: first,
+                came: Explained::NoPass,
+            });
         }
         let mut state = reached_by(self.config, &self.history[..first]);
-        for pass in first..last {
+        let mut pass = first;
+        while pass < last {
             match self.explain_after(&state, pass, writer)? {
                 Explained::Done => {}
-                came => return Ok(ended_at(pass, came)),
+                came => return Ok(Ended { pass, came }),
             }
             state = reached_after(self.config, state, self.history, pass);
+            pass += 1;
         }
-        let pass = first.max(last);
         let came = self.explain_after(&state, pass, writer)?;
-        Ok(ended_at(pass, came))
+        Ok(Ended { pass, came })
     }
 
     /// Writes the explanation of a pass on the state that those before it leave, if they are orderly.
