@@ -74,7 +74,7 @@ small_stacks() {
     name=stack$$
     refuses "ulimit -s: the scheduler needs a stack of 128 KiB" prlimit --stack=65536: $(daemon "$managed")
     wrap=(prlimit --stack=131072:)
-    begin -k 2000 -g 20000 -u 1
+    begin -k 2000 -g 1000000 -u 1
     wrap=()
     works
     end
@@ -110,7 +110,7 @@ make_cpuset() { # make_cpuset PID: it is in a cpuset of its own, which can be ma
     mkdir "$at" || return 1
     cpuset=$at
     [ "$at" = "/sys/fs/cgroup/$name" ] || cat "/sys/fs/cgroup/cpuset/$mems" > "$at/$mems"
-    narrow "$(IFS=,; echo "${allowed[*]}")" && echo "$1" > "$at/cgroup.procs"
+    narrow "$(all_of)" && echo "$1" > "$at/cgroup.procs"
 }
 narrow() { echo "$1" > "$cpuset/cpuset.cpus"; }
 drop_cpuset() {
