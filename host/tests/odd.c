@@ -7,7 +7,7 @@
  *   vexec    the same, and then it calls exec
  *   alarms   each of its threads gets thousands of signals a second, from before it attaches until it has ended;
  *            their handler has no SA_RESTART. Without requests, it takes no more time than the handlers
- *   files    it attaches, starts threads and children, and attaches again, with few files left: each is done, or refused
+ *   files    it attaches, starts threads and children, and attaches again, with few files left: done, or refused
  *            with EMFILE, and no file is lost. Meanwhile somebody has to end the scheduler and begin the next one
  *   small    all of its threads have the least stack, and requests stacks of 2 KiB, from which others take cores
  *   both     it has a second runtime, as the task after TASK, at the same time */

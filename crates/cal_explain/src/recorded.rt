@@ -172,8 +172,13 @@ impl Explainer<'_> {
         let (now, bandwidth) = (entry.input.now, entry.input.bandwidth);
         writeln!(writer, "pass {pass} now {now} bandwidth {bandwidth}")?;
         write_kept(entry.input.seen.as_slice(), writer)?;
-        let walk =
-            PassWalk::begin_after(self.alloc, self.config, self.policy, board, &entry.input)?;
+        let walk = PassWalk::begin_after(
+            self.alloc,
+            self.config,
+            self.policy,
+            board,
+            &entry.input,
+        )?;
         tell_pass(walk, self.scope, writer)?;
         Ok(Explained::Done)
     }

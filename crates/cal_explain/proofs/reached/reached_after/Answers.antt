@@ -55,5 +55,5 @@ returns-else-replay_fitting c = λ o.
     let s : IsOrderlyState table h c.in-Some.board = subst R c.in-Some.is c.requires.before in
     let here = slice_get_read history (length history) n entry refl lt c.index-history-pass.is in
     let no : false ≡ true = (c.if-replay_fitting.ensures.fits h s.after.actions s.after.looks).1
-        (each_of table history (n + 1) (omega (arith, lt)) o n (omega arith) entry here) in
+    (each_of table history (n + 1) (omega (arith, lt)) o n (omega arith) entry here) in
     cc
