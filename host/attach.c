@@ -8,8 +8,6 @@
 #include <sys/stat.h>
 #include "host.h"
 
-#define PATIENCE ((uint64_t)10000000000) /* how long one answer is waited for, in nanoseconds */
-
 const char *host_why(int error) {
     switch (error) {
     case EBUSY: return "the task is taken";
@@ -60,38 +58,15 @@ static bool is_own_user(int connection) {
     return false;
 }
 
-static void limit(int connection, uint64_t ns) {
-    uint64_t us = ns / 1000 + 1; /* 0 would be no limit */
-    struct timeval most = {(time_t)(us / 1000000), (suseconds_t)(us % 1000000)};
-    setsockopt(connection, SOL_SOCKET, SO_RCVTIMEO, &most, sizeof most);
-    setsockopt(connection, SOL_SOCKET, SO_SNDTIMEO, &most, sizeof most);
-}
-
-/* A call on the socket has so long from now on. */
-static uint64_t begin_call(int connection) {
-    limit(connection, PATIENCE);
-    return host_clock();
-}
-
-/* Any handler of a signal interrupts a call with a time limit, whatever its flags. True: the call is to be made again,
- * for what is left of its time. */
-static bool was_interrupted(int connection, uint64_t from) {
-    if (errno != EINTR) return false;
-    uint64_t passed = host_clock() - from;
-    if (passed < PATIENCE) return limit(connection, PATIENCE - passed), true;
-    errno = EAGAIN;
-    return false;
-}
-
 static int connect_to(int folder, unsigned task) {
     struct sockaddr_un address;
+    struct timeval patience = {10, 0};
     socklen_t length = host_address(&address, folder, task);
-    int failed, connection = socket(AF_UNIX, SOCK_SEQPACKET | SOCK_CLOEXEC, 0);
+    int connection = socket(AF_UNIX, SOCK_SEQPACKET | SOCK_CLOEXEC, 0);
     if (connection < 0) return -1;
-    uint64_t from = begin_call(connection);
-    do failed = connect(connection, (struct sockaddr *)&address, length);
-    while (failed && was_interrupted(connection, from));
-    if (!failed && is_own_user(connection)) return connection;
+    setsockopt(connection, SOL_SOCKET, SO_RCVTIMEO, &patience, sizeof patience);
+    setsockopt(connection, SOL_SOCKET, SO_SNDTIMEO, &patience, sizeof patience);
+    if (connect(connection, (struct sockaddr *)&address, length) == 0 && is_own_user(connection)) return connection;
     int error = errno;
     close(connection);
     errno = error;
@@ -100,15 +75,10 @@ static int connect_to(int folder, unsigned task) {
 
 static bool say(int connection, uint32_t word) {
     host_word said = {HOST_VERSION, word, getpid()};
-    uint64_t from = begin_call(connection);
-    ssize_t sent;
-    do sent = send(connection, &said, sizeof said, MSG_NOSIGNAL);
-    while (sent < 0 && was_interrupted(connection, from));
-    return sent == sizeof said;
+    return send(connection, &said, sizeof said, MSG_NOSIGNAL) == sizeof said;
 }
 
-/* One answer, with the segment's file or -1. There is room for one file: the kernel keeps any other, and also the only
- * one where the process may open no more. */
+/* One answer, with the segment's file or -1. There is room for one file: the kernel keeps any other. */
 static bool receive(int connection, host_answer *answer, int *file) {
     union {
         struct cmsghdr head;
@@ -117,20 +87,15 @@ static bool receive(int connection, host_answer *answer, int *file) {
     struct iovec part = {answer, sizeof *answer};
     struct msghdr message = {
         .msg_iov = &part, .msg_iovlen = 1, .msg_control = &control, .msg_controllen = CMSG_LEN(sizeof(int))};
-    uint64_t from = begin_call(connection);
-    ssize_t got;
     *file = -1;
-    do got = recvmsg(connection, &message, MSG_CMSG_CLOEXEC);
-    while (got < 0 && was_interrupted(connection, from));
+    ssize_t got = recvmsg(connection, &message, MSG_CMSG_CLOEXEC);
     if (got < 0) return false;
     struct cmsghdr *head = CMSG_FIRSTHDR(&message);
     if (head && head->cmsg_level == SOL_SOCKET && head->cmsg_type == SCM_RIGHTS &&
         head->cmsg_len == CMSG_LEN(sizeof *file))
         memcpy(file, CMSG_DATA(head), sizeof *file);
     errno = got == 0 ? ECONNREFUSED : EPROTO;
-    if (got != sizeof *answer || answer->version != HOST_VERSION) return false;
-    errno = EMFILE;
-    return *file >= 0 || (message.msg_flags & MSG_CTRUNC) == 0;
+    return got == sizeof *answer && answer->version == HOST_VERSION;
 }
 
 /* ---- the segment ---- */

@@ -583,18 +583,10 @@ static bool has_to_end(const kernel_thread *k) {
     return atomic_load(&k->rt->stops) && atomic_load(&k->rt->is_over);
 }
 
-/* A request may have a small stack of its own, where a handler's frame alone, of some kilobytes, has no room. */
-static stack_t use_signal_stack(const kernel_thread *k) {
-    stack_t its = {.ss_sp = k->stack + GUARD, .ss_size = SIGNAL_STACK}, before = {.ss_flags = SS_DISABLE};
-    sigaltstack(&its, &before);
-    return before;
-}
-
 static void *live(void *argument) {
     kernel_thread *k = argument;
     sigset_t ours;
     if (!may_begin(k)) return NULL;
-    stack_t before = use_signal_stack(k);
     k->held = 1;
     self = k;
     sigemptyset(&ours);
@@ -613,7 +605,6 @@ static void *live(void *argument) {
         }
     }
     self = NULL; /* a signal from here on is nobody's */
-    sigaltstack(&before, NULL); /* a sanitizer has one of its own, and takes it away */
     return NULL;
 }
 
@@ -652,18 +643,6 @@ int caladan_rt_spawn(caladan_rt *rt, pid_t *pid, const char *path, const posix_s
 
 /* ---- the start ---- */
 
-static bool make_room(kernel_thread *k) {
-    k->queue = calloc(QUEUE, sizeof *k->queue);
-    char *stack = mmap(NULL, GUARD + SIGNAL_STACK, PROT_READ | PROT_WRITE, MAP_PRIVATE | MAP_ANONYMOUS, -1, 0);
-    k->stack = stack == MAP_FAILED ? NULL : stack;
-    return k->queue && k->stack && mprotect(stack, GUARD, PROT_NONE) == 0;
-}
-
-static void free_room(kernel_thread *k) {
-    free(k->queue);
-    if (k->stack) munmap(k->stack, GUARD + SIGNAL_STACK);
-}
-
 static caladan_rt *make_rt(host_segment *segment) {
     size_t size = sizeof(caladan_rt) + segment->threads * sizeof(kernel_thread);
     caladan_rt *rt = aligned_alloc(CALADAN_LINE, (size + CALADAN_LINE - 1) / CALADAN_LINE * CALADAN_LINE);
@@ -679,7 +658,8 @@ static caladan_rt *make_rt(host_segment *segment) {
     for (unsigned i = 0; i < rt->threads; i++) {
         kernel_thread *k = &rt->thread[i];
         *k = (kernel_thread){.rt = rt, .number = i, .slot = &segment->slot[i]};
-        rt->lacks_room |= !make_room(k);
+        k->queue = calloc(QUEUE, sizeof *k->queue);
+        if (k->queue == NULL) errno = ENOMEM;
     }
     return rt;
 }
@@ -689,17 +669,18 @@ static void unmake(caladan_rt *rt, unsigned started) {
     atomic_store(&rt->begun, GIVEN_UP);
     futex_wake_all(&rt->begun);
     for (unsigned i = 0; i < started; i++) pthread_join(rt->thread[i].thread, NULL);
-    for (unsigned i = 0; i < rt->threads; i++) free_room(&rt->thread[i]);
+    for (unsigned i = 0; i < rt->threads; i++) free(rt->thread[i].queue);
     helper_end(rt->helper);
     free(rt);
 }
 
 static caladan_rt *start_threads(caladan_rt *rt) {
-    struct sigaction action = {.sa_handler = on_signal, .sa_flags = SA_RESTART | SA_ONSTACK};
+    struct sigaction action = {.sa_handler = on_signal, .sa_flags = SA_RESTART};
     static pthread_once_t once = PTHREAD_ONCE_INIT;
     unsigned started = 0;
     pthread_once(&once, notice_forks);
-    int error = rt->lacks_room ? ENOMEM : not_noticed;
+    int error = not_noticed;
+    for (unsigned i = 0; i < rt->threads && !error; i++) error = rt->thread[i].queue ? 0 : ENOMEM;
     for (; started < rt->threads && !error; started += !error)
         error = pthread_create(&rt->thread[started].thread, NULL, live, &rt->thread[started]);
     if (!error) rt->helper = helper_begin(), error = rt->helper ? 0 : errno;
@@ -720,7 +701,7 @@ static caladan_rt *start_threads(caladan_rt *rt) {
 /* Its threads have ended. */
 static size_t dismantle(caladan_rt *rt) {
     size_t left = 0;
-    for (unsigned i = 0; i < rt->threads; i++) left += rt->thread[i].count, free_room(&rt->thread[i]);
+    for (unsigned i = 0; i < rt->threads; i++) left += rt->thread[i].count, free(rt->thread[i].queue);
     helper_end(rt->helper);
     munmap(rt->segment, sizeof *rt->segment);
     close(rt->connection);

@@ -14,12 +14,7 @@
  * killed. A thread that blocks in the kernel keeps its core.
  *
  * A call that blocks in the kernel may return EINTR if the thread had to leave meanwhile: the
- * handler has SA_RESTART, which poll, nanosleep and futex waits ignore. It runs on a stack of its
- * own, of 64 KiB (sigaltstack), so requests may have small ones; whoever gives a kernel thread
- * another signal stack leaves room there. A handler of the process's own that is called while the thread
- * waits there runs on it too, and on a processor that may be another thread's by then: kernel
- * threads have the signal mask of the thread that starts the runtime, but for SIGURG, so block
- * there what they are not to hear.
+ * handler has SA_RESTART, which poll, nanosleep and futex waits ignore.
  *
  * The runtime needs the signal SIGURG for itself: caladan_rt_start refuses to start if the process
  * already has a handler of it, and a handler installed later cuts the runtime off from its
@@ -35,14 +30,11 @@
  * request, and is not attached again; it may start one of its own, as another task. A child by
  * another call than fork, such as vfork, may call none of these functions, only exec or exit. (The
  * requests of one that a kernel thread made are refused.) While a child by vfork has not called exec or
- * ended, the thread that made it hears no Park, and keeps its core, at most for the scheduler's patience:
- * then its process is killed. Call vfork from no kernel thread.
+ * ended, the thread that made it hears no Park: call vfork from no kernel thread.
  *
  * A process that closes all its files (closefrom, as daemons do) closes the connection too: it may
  * lose its task, and a file that it opens next may get the connection's number. So close files
  * before caladan_rt_start.
- *
- * A process may have several runtimes at once, each as another task.
  *
  * A process leaves by ending: then its cores are free, and another may attach as its task. When
  * the scheduler ends, or gives the task up, threads leave their processors within milliseconds,

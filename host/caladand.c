@@ -6,9 +6,7 @@
 #include <errno.h>
 #include <stdlib.h>
 #include <string.h>
-#include <sys/resource.h>
 
-#define LEAST_STACK (128u << 10) /* in bytes */
 #define HOUSE 1000000u    /* how often processes are looked after, in nanoseconds */
 #define SHORT 100000u     /* what is not slept, in nanoseconds */
 #define SPINS (2 * SHORT) /* a rest that is not slept at all */
@@ -104,15 +102,7 @@ static void open_record(scheduler *s) {
     fflush(stdout);
 }
 
-/* Clerks have stacks of their own; passes have what the limit leaves. */
-static void check_stack(void) {
-    struct rlimit most;
-    if (getrlimit(RLIMIT_STACK, &most) == 0 && most.rlim_cur < LEAST_STACK)
-        fail("ulimit -s", "the scheduler needs a stack of 128 KiB");
-}
-
 static void begin(scheduler *s) {
-    check_stack();
     s->epoch = host_clock();
     s->table = text_of(s->options.table);
     uint8_t answer = open_table(s);

@@ -152,8 +152,6 @@ typedef struct scheduler {
     caladan handle;
     caladan_machine machine;
     host_task task[HOST_TASKS];
-    /* where there is no memory to share, a task has one of these, which nobody else sees, and nobody is let in */
-    host_segment unshared[HOST_TASKS];
     host_thread thread[HOST_THREADS];
     latency_thread shown[HOST_THREADS];
     caladan_look look[HOST_THREADS];
@@ -182,7 +180,6 @@ typedef struct scheduler {
     record *opened; /* also one that was given up; NULL: none was asked for */
     strays *strays; /* NULL: nobody looks for them */
     uint64_t strays_told, strays_told_at; /* how many it has told of, and when */
-    uint64_t strays_kept; /* and of how many processes that something cannot be put elsewhere */
     /* of each kernel thread of a task, the thread that was pinned; 0: none */
     _Atomic int32_t seated[HOST_TASKS][HOST_LIMIT];
     uint64_t passes; /* that are recorded of this piece */
@@ -248,7 +245,7 @@ void kill_process(scheduler *s, host_task *task, const char *why);
 void write_off(scheduler *s, host_task *task);
 
 /* proc.c: what the kernel tells of processes */
-uint64_t run_delay(void); /* how long the calling thread waited for its processor so far, in nanoseconds */
+uint64_t run_delay(void); /* how long the calling thread, always the same, waited for its processor so far, in ns */
 uint64_t on_cpu_time(pid_t pid, pid_t tid); /* in nanoseconds; 0: it does not tell */
 bool is_runnable(pid_t pid, pid_t tid);     /* it runs, or waits for its processor */
 const char *what_stops(pid_t pid, pid_t tid); /* the end of a line; "" where nothing does */

@@ -14,7 +14,7 @@ enum { LINES = 64, LINE = HOST_PATH + 512 }; /* a line has room for a path, and 
 
 /* ---- any clerk ---- */
 
-enum { CLERKS = 8, STACK = 1 << 20 };
+enum { CLERKS = 8 };
 
 typedef struct clerk {
     clerk_work *work;
@@ -37,23 +37,13 @@ static void *live(void *argument) {
     return NULL;
 }
 
-/* On a stack of this size, whatever the limit on stacks is. */
-static bool begin_thread(clerk *it) {
-    pthread_attr_t attributes;
-    pthread_t thread;
-    if (pthread_attr_init(&attributes)) return false;
-    pthread_attr_setdetachstate(&attributes, PTHREAD_CREATE_DETACHED);
-    bool has_begun = pthread_attr_setstacksize(&attributes, STACK) == 0 &&
-                     pthread_create(&thread, &attributes, live, it) == 0;
-    pthread_attr_destroy(&attributes);
-    return has_begun;
-}
-
 bool start_clerk(clerk_work *work, void *with, const cpu_set_t *where) {
     clerk *it = &clerks[begun];
+    pthread_t thread;
     if (begun == CLERKS) return false;
     it->work = work, it->with = with, it->where = *where;
-    if (!begin_thread(it)) return false;
+    if (pthread_create(&thread, NULL, live, it)) return false;
+    pthread_detach(thread);
     begun++;
     return true;
 }

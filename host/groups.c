@@ -138,7 +138,7 @@ static int child_is_idle(const group *g, size_t part) {
 }
 
 bool gives_way(pid_t under, pid_t to) {
-    group a, b;
+    static group a, b;
     if (!group_of(under, &a) || !group_of(to, &b)) return false;
     size_t part = shared_part(a.path, b.path);
     return child_is_idle(&a, part) != 0 && child_is_idle(&b, part) != 1;

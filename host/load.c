@@ -12,8 +12,8 @@
  * a loop, so that what does not run does not count as work. With -x whoever hands requests in
  * spins on that processor, else he sleeps. The first half second is not measured. -w: of each
  * two periods of so many milliseconds the first one, or with -MS the second one, is a burst, in
- * which TIMES as many come; requests of bursts are ranked by themselves too, and so are the quiet
- * ones, of the second half of each other period, when a burst's queue should be served. be: work
+ * which TIMES as many come; the quiet requests, which came in no burst, are ranked by themselves
+ * too. be: work
  * without end, in pieces of 10 microseconds, which are counted in the file COUNTER, by
  * processor; -b: each piece reads 64 KiB of 256 MiB; -h: no core is left within a chunk of 100
  * pieces; -e: when the scheduler is over, its threads wait, run, or attach again (wait, run,
@@ -48,7 +48,6 @@
 #include <stdlib.h>
 #include <string.h>
 #include <sys/mman.h>
-#include <sys/prctl.h>
 #include <sys/wait.h>
 #include <time.h>
 #include <unistd.h>
@@ -238,14 +237,11 @@ static void submit(unsigned thread, caladan_request request, bool is_measured) {
     if (is_measured) handed.nanoseconds[handed.count++] = clock_ns() - from;
 }
 
-/* How many periods ago a burst began last, below 2, by the clock that the processes of a run share; 2: there are no
- * bursts. */
-static double since_burst(double at) {
-    double periods = options.burst != 0 ? at / (fabs(options.burst) * 1e6) : 0;
-    return options.burst != 0 ? fmod(periods + (options.burst < 0), 2) : 2;
+/* By the clock that the processes of a run share. */
+static bool is_in_burst(double at) {
+    double period = fabs(options.burst) * 1e6, place = period > 0 ? fmod(at, 2 * period) : 0;
+    return period > 0 && (place < period) == (options.burst > 0);
 }
-static bool is_in_burst(double at) { return since_burst(at) < 1; }
-static bool is_quiet(double at) { return since_burst(at) >= 1.5; }
 
 /* Requests from `from` on: arrived[i] of each, `until` they end. Answers how many; *first: the first after `begin`. */
 static size_t hand_in(uint64_t *arrived, size_t room, uint64_t begin, uint64_t end, size_t *first, uint64_t *work) {
@@ -280,37 +276,35 @@ static double below(const uint64_t *times, size_t count, double share) {
     return count ? (double)times[(size_t)((double)(count - 1) * share)] / 1000 : 0;
 }
 
-/* Those whose arrival is so, ranked: how long half of them took at most, and 99 of 100. */
-static void print_some(const char *what, bool is_so(double at), const uint64_t *arrived, const uint64_t *times,
-                       size_t count) {
-    uint64_t *some = malloc(count * sizeof *some + 8);
+/* The quiet ones' times, put at the front in their order of arrival, and how many they are. */
+static size_t quiet_ones(const uint64_t *arrived, const uint64_t *times, size_t count, uint64_t *quiet) {
     size_t many = 0;
-    for (size_t i = 0; i < count && some; i++)
-        if (is_so((double)arrived[i])) some[many++] = times[i];
-    qsort(some, many, sizeof *some, compare);
-    printf("\"%s_p50\": %.1f, \"%s_p99\": %.1f, ", what, below(some, many, 0.5), what, below(some, many, 0.99));
-    free(some);
+    for (size_t i = 0; i < count; i++)
+        if (!is_in_burst((double)arrived[i])) quiet[many++] = times[i];
+    qsort(quiet, many, sizeof *quiet, compare);
+    return many;
 }
 
 /* Requests that are not served by now count with the time that they have waited. */
 static void report(const uint64_t *arrived, size_t first, size_t count, uint64_t work) {
     size_t unserved = 0, n = count - first;
-    uint64_t now = caladan_rt_now(rt), *times = malloc(n * sizeof *times + 8);
+    uint64_t now = caladan_rt_now(rt), *times = malloc(n * sizeof *times + 8), *quiet = malloc(n * sizeof *quiet + 8);
     for (size_t i = 0; i < n; i++) {
         times[i] = took[first + i];
         if (times[i] == 0) times[i] = now - arrived[first + i], unserved++;
     }
-    printf("{\"requests\": %zu, \"unserved\": %zu, ", n, unserved);
-    print_some("burst", is_in_burst, arrived + first, times, n);
-    print_some("quiet", is_quiet, arrived + first, times, n);
+    size_t many = quiet_ones(arrived + first, times, n, quiet);
     qsort(times, n, sizeof *times, compare);
     qsort(handed.nanoseconds, handed.count, sizeof *handed.nanoseconds, compare);
+    printf("{\"requests\": %zu, \"unserved\": %zu, ", n, unserved);
     printf("\"p50\": %.1f, \"p90\": %.1f, \"p99\": %.1f, ", below(times, n, 0.5),
            below(times, n, 0.9), below(times, n, 0.99));
     printf("\"p999\": %.1f, \"max\": %.1f, ", below(times, n, 0.999), below(times, n, 1));
+    printf("\"quiet_p50\": %.1f, \"quiet_p99\": %.1f, ", below(quiet, many, 0.5), below(quiet, many, 0.99));
     printf("\"be_cores\": %.4f, \"submit_ns\": %.0f}\n", (double)work * 1e-5 / options.seconds,
            mean_of_most(handed.nanoseconds, handed.count));
     free(times);
+    free(quiet);
 }
 
 static int latency_critical(void) {
@@ -322,7 +316,6 @@ static int latency_critical(void) {
     if (!took || !arrived || !handed.nanoseconds) die("requests", strerror(errno));
     memset(arrived, 0, room * sizeof *arrived);
     start(serve_request);
-    prctl(PR_SET_TIMERSLACK, 1); /* who hands requests in sleeps for as long as he says */
     CPU_ZERO(&cpus);
     if (options.cpu >= 0) CPU_SET((size_t)options.cpu, &cpus), sched_setaffinity(0, sizeof cpus, &cpus);
     uint64_t begin = caladan_rt_now(rt) + WARM_UP, end = begin + (uint64_t)(options.seconds * 1e9);

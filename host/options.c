@@ -123,9 +123,9 @@ options read_options(int count, char **words) {
 }
 
 char *text_of(const char *path) {
-    char *text = calloc(1, MOST_TABLE);
+    static char text[MOST_TABLE];
     FILE *file = fopen(path, "re");
-    if (text == NULL || file == NULL) fail(path, strerror(errno));
+    if (file == NULL) fail(path, strerror(errno));
     size_t length = fread(text, 1, MOST_TABLE - 1, file);
     if (ferror(file)) fail(path, strerror(errno));
     fclose(file);

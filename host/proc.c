@@ -19,7 +19,7 @@ static const char *text_of_thread(pid_t pid, pid_t tid, const char *name, char t
 
 /* The file stays open: this is asked in passes. */
 uint64_t run_delay(void) {
-    static _Thread_local int file = -1;
+    static int file = -1;
     char text[256], *rest;
     if (file < 0) file = open("/proc/thread-self/schedstat", O_RDONLY | O_CLOEXEC);
     ssize_t length = file < 0 ? 0 : pread(file, text, sizeof text - 1, 0);
@@ -47,9 +47,7 @@ const char *what_stops(pid_t pid, pid_t tid) {
     if (state == 'T' || state == 't') return "; it is stopped, by SIGSTOP or a debugger";
     text_of_thread(pid, tid, "wchan", text);
     if (strstr(text, "freez") || strstr(text, "refrigerator")) return "; it is frozen, as docker pause does it";
-    if (state != 'D') return "";
-    if (!strcmp(text, "kernel_clone") || strstr(text, "vfork")) return "; it waits for a child by vfork";
-    return "; it waits in the kernel, where no signal reaches it";
+    return "";
 }
 
 bool is_dumping_core(pid_t pid) {

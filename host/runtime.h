@@ -16,9 +16,6 @@
 /* How long threads that are to wait may hold their Park off, in nanoseconds: less than a scheduler waits. */
 #define GATHER ((uint64_t)3000000000)
 enum { QUEUE = 1 << 13 };
-/* of the stack on which a kernel thread's handlers run, and of what lies below it and cannot be written, in bytes: no
- * page is larger */
-enum { SIGNAL_STACK = 1 << 16, GUARD = 1 << 16 };
 enum { NOT_YET, BEGUN, GIVEN_UP }; /* whether kernel threads may begin */
 
 typedef struct kernel_thread {
@@ -42,7 +39,6 @@ typedef struct kernel_thread {
     caladan_request current;
     uint32_t phase;
     pthread_t thread;
-    char *stack; /* for its handlers, with the guard below it */
     bool is_away, was_open; /* it does without the scheduler, and whether its page was open before */
     bool pins_itself;       /* it was away, and the scheduler may take it to be pinned */
     _Atomic uint32_t waits; /* the turn that it waits for, and until then it looks at nothing else */
@@ -64,7 +60,6 @@ struct caladan_rt {
     caladan_serve *serve;
     void *with;
     unsigned threads;
-    bool lacks_room; /* memory was refused */
     /* where its threads may run while no scheduler says otherwise, and in which class */
     cpu_set_t allowed;
     int class;

@@ -5,6 +5,9 @@
 #include <sys/mman.h>
 #include "caladand.h"
 
+/* Where there is no memory to share, a task has a segment that nobody else sees, and nobody is let in. */
+static host_segment unshared[HOST_TASKS];
+
 static host_segment *share(host_task *task) {
     size_t size = sizeof *task->segment;
     task->memory = memfd_create("caladan", MFD_CLOEXEC | MFD_ALLOW_SEALING);
@@ -21,7 +24,7 @@ static host_segment *share(host_task *task) {
 
 bool make_segment(scheduler *s, host_task *task) {
     task->segment = share(task);
-    if (task->segment == NULL) task->segment = memset(&s->unshared[number_of(s, task)], 0, sizeof s->unshared[0]);
+    if (task->segment == NULL) task->segment = memset(&unshared[number_of(s, task)], 0, sizeof unshared[0]);
     task->segment->version = HOST_VERSION;
     task->segment->epoch = s->epoch;
     task->segment->threads = task->limit;

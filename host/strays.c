@@ -3,7 +3,6 @@
  * gives its task up, and puts them back on the processors that are not managed. */
 #define _GNU_SOURCE
 #include <dirent.h>
-#include <errno.h>
 #include <poll.h>
 #include <semaphore.h>
 #include <stdlib.h>
@@ -18,7 +17,7 @@ enum { NOTES = 256, DEEPEST = 4, MOST_LOOKS = 8192 };
 typedef struct suspect {
     pid_t pid;
     int file;
-    bool is_attached, is_told; /* it was said that something of it cannot be put elsewhere */
+    bool is_attached;
     unsigned task, looks;
 } suspect;
 
@@ -34,14 +33,11 @@ struct strays {
     cpu_set_t managed;
     suspect suspect[2 * HOST_TASKS];
     unsigned looks; /* of this process, so far */
-    pid_t stuck;    /* and what of it can be put nowhere else; 0: nothing */
     note note[NOTES];
     atomic_size_t put, taken;
     sem_t bell;
     _Atomic uint64_t put_back;
     _Atomic int32_t last; /* the last that was put back */
-    _Atomic uint64_t kept; /* processes of which something could not be */
-    _Atomic int32_t last_kept;
 };
 
 /* ---- one thread ---- */
@@ -62,10 +58,7 @@ static bool is_stray(const strays *it, pid_t tid) {
 
 static void put_back(strays *it, pid_t tid) {
     struct sched_param none = {0};
-    if (sched_setaffinity(tid, sizeof it->of->others, &it->of->others)) {
-        if (errno == EINVAL) it->stuck = tid;
-        return;
-    }
+    if (sched_setaffinity(tid, sizeof it->of->others, &it->of->others)) return;
     if (it->of->options.under && sched_getscheduler(tid) == SCHED_IDLE) sched_setscheduler(tid, SCHED_OTHER, &none);
     atomic_store(&it->last, tid);
     atomic_fetch_add(&it->put_back, 1);
@@ -110,18 +103,11 @@ static void forget(suspect *one) {
     *one = (suspect){0};
 }
 
-static void tell_of_stuck(strays *it, suspect *one) {
-    one->is_told = true;
-    atomic_store(&it->last_kept, it->stuck);
-    atomic_fetch_add(&it->kept, 1);
-}
-
 static void look_at(strays *it, suspect *one) {
     if (one->pid == 0) return;
     if (has_gone(one)) return forget(one);
-    it->looks = 0, it->stuck = 0;
+    it->looks = 0;
     look_at_process(it, one->pid, 0);
-    if (it->stuck && !one->is_told) tell_of_stuck(it, one);
     if (!one->is_attached && ++one->looks == 2) forget(one);
 }
 
@@ -194,19 +180,9 @@ void strays_give_up(scheduler *s, const host_task *task) {
     if (s->strays && task->pid) put_note(s->strays, (note){.task = number_of(s, task)});
 }
 
-/* Once of each process. */
-static void say_kept(scheduler *s) {
-    uint64_t all = s->strays ? atomic_load(&s->strays->kept) : 0;
-    if (all == s->strays_kept) return;
-    s->strays_kept = all;
-    complain("thread %d has managed processors alone, and no core, and cannot be put elsewhere: its cpuset has no "
-             "other", atomic_load(&s->strays->last_kept));
-}
-
 /* At most one line a second. */
 void strays_say(scheduler *s) {
     uint64_t all = s->strays ? atomic_load(&s->strays->put_back) : 0, now = now_of(s);
-    say_kept(s);
     s->counts.put_back = all;
     if (all == s->strays_told || (s->strays_told && now - s->strays_told_at < 1000000000u)) return;
     complain("%llu threads or children that had a managed processor and no core were put elsewhere, the last one %d",

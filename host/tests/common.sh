@@ -61,7 +61,7 @@ renewed() { # the counters are those of a moment after this one: they are writte
 
 no_reports() { # in the run, whose processes have ended, no sanitizer has found anything, and no thread another processor than its core's
     local each
-    each=$(grep -lE "Sanitizer|runtime error|a thread runs on processor" "$build"/process.* "$build/said" 2> /dev/null | head -n 1)
+    each=$(grep -lE "Sanitizer|runtime error|runs on processor" "$build"/process.* "$build/said" 2> /dev/null | head -n 1)
     [ -z "$each" ]; note $? "$what: $(head -n 40 "${each:-/dev/null}")"
     rm -f "$build"/process.*
     running=()
