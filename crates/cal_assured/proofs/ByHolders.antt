@@ -1,5 +1,5 @@
 -- Who waits and what is lacking go by who has each core, and by the caps.
-use Rattle.cal_assured.proofs.Common.{◌≡◌, ℕ, ◌-◌, ◌&&◌, ◌||◌, Bool, not, cond, eqb, nat_lt, List, length, Option, Some, None, is_some, Table, thread_of, limit_of, guaranteed_of, is_latency_critical, Action, Candidate, holder_of, is_booked_for, is_with, cap_of, count_below, sum_below, best_below, thread_delay, is_granted_in, Setting, kept_now, has_room, is_untaken, is_late, made_now, lacking, waits, some_waits_short}
+use Rattle.cal_assured.proofs.Common.{◌≡◌, ℕ, ◌-◌, ◌&&◌, ◌||◌, Bool, not, cond, eqb, nat_lt, List, length, Option, Some, None, is_some, Table, thread_of, limit_of, guaranteed_of, is_latency_critical, Action, Candidate, holder_of, is_booked_for, is_with, cap_of, count_below, sum_below, best_below, thread_delay, is_granted_in, Setting, kept_now, has_room, is_untaken, is_late, made_now, lacking, some_waits_short}
 use Rattle.cal_policy.specs.declared.board.holders.Holder.{Holder}
 
 -- the words of who waits, of each core's holder and each task's cap
@@ -58,10 +58,6 @@ new_in s x c = is_granted_in (made_now s x) c
 pub lacking_same : (s : Setting) (x y : List Action) → ((c : ℕ) → holder_of y c ≡ holder_of x c) → ((t : ℕ) → cap_of s.table y t ≡ cap_of s.table x t) → ((c : ℕ) → new_in s y c ≡ new_in s x c) →
     lacking s y ≡ lacking s x
 lacking_same s x y e f g = λ i. lacking_by s (λ c. e c i) (λ c. g c i) (λ u. f u i)
-
-pub waits_same : (s : Setting) (x y : List Action) → ((c : ℕ) → holder_of y c ≡ holder_of x c) → ((t : ℕ) → cap_of s.table y t ≡ cap_of s.table x t) → ((c : ℕ) → new_in s y c ≡ new_in s x c) →
-    (t : ℕ) → waits s y t ≡ waits s x t
-waits_same s x y e f g t = λ i. waits_by s (λ c. e c i) (λ c. g c i) (λ u. f u i) t
 
 pub some_waits_same : (s : Setting) (x y : List Action) → ((c : ℕ) → holder_of y c ≡ holder_of x c) → ((t : ℕ) → cap_of s.table y t ≡ cap_of s.table x t) → ((c : ℕ) → new_in s y c ≡ new_in s x c) →
     some_waits_short s y ≡ some_waits_short s x

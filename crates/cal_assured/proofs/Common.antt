@@ -12,7 +12,7 @@ pub use Rattle.cal_policy.proofs.PassLemmas.Fits.{so_far_push, thread_facts}
 pub use Rattle.cal_policy.specs.Assured.Grants.{act_in_place, act_of, acts_in_place, grants_of_first, may_act, turn_in_place}
 pub use Rattle.cal_policy.specs.Assured.InFlight.{coming, helps_newly, is_in_flight, is_late, is_new_in_flight, is_untaken, made_now, new_helpers, presses, pressing}
 pub use Rattle.cal_policy.specs.Assured.Owed.{is_task, owed_below, owed_to}
-pub use Rattle.cal_policy.specs.Assured.Pass.{IsLegal, IsPass, bounded_of, unbanned_of}
+pub use Rattle.cal_policy.specs.Assured.Pass.{bounded_of, unbanned_of}
 pub use Rattle.cal_policy.specs.Assured.Short.{are_lacked, are_wanted, is_open, is_short, lacking, lacks, needs, open_cores, some_waits_short, spare, surplus, waits, waits_short}
 pub use Rattle.cal_policy.specs.Assured.Taking.{choice_for, fewer_come, held_choice, held_class, is_kept, is_kept_for, is_kept_for_short, may_preempt, may_take, may_take_from, more_press, open_choice, open_class, owed_class}
 pub use Rattle.cal_policy.specs.Board.Counts.{booked_by, cap_of, is_booked_for, is_free, is_held, is_with}
@@ -28,6 +28,6 @@ pub use Rattle.cal_policy.specs.declared.history.action.Action.{Action}
 pub use Rattle.cal_policy.specs.declared.history.action.Action.TheVariants.{Ban, Cap, Free, Grant, Revoke, Unban}
 pub use Rattle.cal_policy.specs.declared.history.core_class.CoreClass.{CoreClass}
 pub use Rattle.cal_policy.specs.declared.pass.choice.Candidate.{Candidate}
-pub use Rattle.std.proofs.Common.{All, Bool, List, None, Option, Some, [], ap, append-nil, append_assoc, arith, cond, eqb, false, get_or, inl, inr, leb, length, length-append, ltb, nat_le, nat_lt, not, refl, slice_get, subst, suc, sym, take, true, zero, ℕ, ⊎_elim, ◌&&◌, ◌++◌, ◌+◌, ◌-◌, ◌<◌, ◌||◌, ◌∙◌, ◌∷◌, ◌≡◌, ◌≢◌, ◌≤◌, ◌⊎◌}
+pub use Rattle.std.proofs.Common.{All, Bool, List, None, Option, Some, [], ap, append-nil, append_assoc, arith, cond, eqb, false, inl, inr, leb, length, ltb, nat_le, nat_lt, not, refl, subst, suc, sym, take, true, zero, ℕ, ⊎_elim, ◌&&◌, ◌++◌, ◌+◌, ◌-◌, ◌<◌, ◌||◌, ◌∙◌, ◌∷◌, ◌≡◌, ◌≢◌, ◌≤◌, ◌⊎◌}
 pub use Rattle.std.proofs.lemmas.Bool.{and_cases, and_from, and_parts, both_ways, cases_eq, cases_lt, eq-eqb, eqb-true, leb-false, leb-true, lt-ltb, ltb-false, ltb-true, ne_eqb, not-true, not_from_false}
 pub use Rattle.std.specs.Option.{is_some, option_or}

@@ -2,7 +2,6 @@ mod Common
 pub mod ByHolders
 pub mod Ending
 pub mod KeptTaken
-pub mod Legality
 pub mod OwedTaken
 pub mod OwnTurn
 pub mod PassLaws

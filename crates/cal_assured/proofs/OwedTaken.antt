@@ -102,7 +102,7 @@ best_missing beats f (suc n) k e lt =
     let both = better_none beats (best_below beats f n) (f n) n e in
     ⊎_elim (λ (l : k < n). best_missing beats f n k both.0 l) (λ (g : n ≤ k). let same : k ≡ n = omega (arith, g, lt) in rw same both.1) (cases_lt k n)
 
-task_some : (t : ℕ) (o : Option ℕ) → is_task t o ≡ true → o ≡ Some t
+pub task_some : (t : ℕ) (o : Option ℕ) → is_task t o ≡ true → o ≡ Some t
 task_some t None e = cc
 task_some t (Some u) e = ap (λ n. Some n) (eqb-true u t e)
 

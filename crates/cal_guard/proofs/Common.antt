@@ -54,8 +54,8 @@ pub use Rattle.std.proofs.Common.{Bool, Err, List, None, Ok, Option, Result, Som
 pub use Rattle.std.proofs.Math.Seq.{take-append_seam, take-length}
 pub use Rattle.std.proofs.lemmas.Bool.{and_from, and_parts, both_ways, cases_lt, eq-eqb, eqb-true, le-leb, le-ltb, leb-true, lt-ltb, ltb-false, ltb-true, ne_eqb, not-true, not_from_false}
 pub use Rattle.std.proofs.lemmas.Bool.Decides.{nat_tests}
-pub use Rattle.std.proofs.lemmas.List.{append-nil, get_or-take, get_or_past, length-take-le, nil_from_length, take-append-le, take-take, take_all}
-pub use Rattle.std.proofs.lemmas.Option.{get_or_from_slice_get, slice_get-get_or, slice_get-map, slice_get_cases, slice_get_past, slice_get_read, slice_get_within}
+pub use Rattle.std.proofs.lemmas.List.{append-nil, get_or_past, length-take-le, nil_from_length, take-append-le, take_all}
+pub use Rattle.std.proofs.lemmas.Option.{slice_get-get_or, slice_get-map, slice_get_cases, slice_get_past, slice_get_read, slice_get_within}
 pub use Rattle.std.specs.List.{slice_get}
 pub use Rattle.std.specs.Option.{IfSome, is_some, option_and_then, option_map, option_or, unwrap_or}
 pub use Rattle.std.specs.Prelude.{IfErr, IsOk}

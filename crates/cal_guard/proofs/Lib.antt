@@ -11,7 +11,6 @@ pub mod Standing
 pub mod Twins
 pub mod Wrong
 pub mod Taking
-pub mod Upto
 pub mod Groups
 pub mod Between
 pub mod Results

@@ -8,7 +8,6 @@ pub mod Fits
 pub mod FreesFirst
 pub mod Keeping
 pub mod LastHeld
-pub mod LegalOrderly
 pub mod Lengths
 pub mod NextTurn
 pub mod NoneToTake

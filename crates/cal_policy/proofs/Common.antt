@@ -36,7 +36,7 @@ pub use Rattle.cal_policy.specs.Board.Unshown.{IsShownOn, Shows}
 pub use Rattle.cal_policy.specs.Explain.Asked.{IsBanReason, IsCoreState, IsTaskState, IsThreadState}
 pub use Rattle.cal_policy.specs.Explain.AssuredTurns.{IsOrder, first_act, made_before, next_turn, placed_task}
 pub use Rattle.cal_policy.specs.Explain.Claims.{IsClaim, IsKeeping, IsLateness, IsShortage}
-pub use Rattle.cal_policy.specs.Explain.Turns.{IsTurn, first_turn, freed_of, granted_of, made_in, next_in_part}
+pub use Rattle.cal_policy.specs.Explain.Turns.{IsTurn, first_turn, freed_of, granted_of, next_in_part}
 pub use Rattle.cal_policy.specs.Explain.Walks.{begun_on}
 pub use Rattle.cal_policy.specs.History.{actions_of, addressed_to, ban_made, ban_of, cap_made, command_to, commands_to, holder_made, holder_of, is_banned, last_cap, last_placement, last_thread, left_by, looks_of, placed, placement_made, sends, sent_to, thread_granted}
 pub use Rattle.cal_policy.specs.History.CoreClasses.{class_number, comes_before, is_idle}
@@ -60,7 +60,7 @@ pub use Rattle.cal_policy.specs.Pass.Grants.{choice_of, class_by, class_of, gran
 pub use Rattle.cal_policy.specs.Pass.Made.{EachAfter, IsBanned, IsCapCut, IsCapRise, IsChosen, IsCut, IsFreed, IsGranted, IsMade, IsPreempted, IsRevokedForBan, IsUnbanned}
 pub use Rattle.cal_policy.specs.Pass.Steady.{IsSound, IsSteady}
 pub use Rattle.cal_policy.specs.Pass.ToBan.{NoneOver, cores_to_ban}
-pub use Rattle.cal_policy.specs.Policies.{IsAuditBy, IsFirstOther, IsLegalBy, IsPassBy, IsVerdictBy, pass_by}
+pub use Rattle.cal_policy.specs.Policies.{IsAuditBy, IsLegalBy, IsPassBy, IsVerdictBy, pass_by}
 pub use Rattle.cal_policy.specs.Setting.{Begun, Setting, has_room, is_held_with_room, kept_now, rooms_from, setting, setting_at, setting_of, so_far}
 pub use Rattle.cal_policy.specs.State.{Agrees, IsOfTable, IsReady, IsStateAfter, KeepingAgrees, Stands}
 pub use Rattle.cal_policy.specs.declared.board.Board.{Board}
@@ -96,6 +96,6 @@ pub use Rattle.std.proofs.lemmas.Grind.{common_steps, flat_map-append}
 pub use Rattle.std.proofs.lemmas.List.{append-nil, get_or-take, get_or_past, length-map, length-set, length-take-le, map-append, take-append-le, take-take, take_all, take_more}
 pub use Rattle.std.proofs.lemmas.List.MinMax.{IsStrictWeakOrder-by_number, IsStrictWeakOrder-flip}
 pub use Rattle.std.proofs.lemmas.Option.{get_or_from_slice_get, slice_get-get_or, slice_get-map, slice_get_cases, slice_get_past, slice_get_read, slice_get_within}
-pub use Rattle.std.specs.List.{Contains, enumerate_from, flat_map}
+pub use Rattle.std.specs.List.{Contains, enumerate_from}
 pub use Rattle.std.specs.Option.{IfSome, MatchOption, is_some, option_and_then, option_map, option_or, unwrap_or}
 pub use mathlib.Core.Bool.{true≢false}

@@ -1,6 +1,5 @@
 -- Passes and their parts, and legal histories.
 pub mod Apart
-pub mod ApartInside
 pub mod Bandwidth
 pub mod Best
 pub mod Branches

@@ -1,19 +1,20 @@
 -- What is so of each policy, whatever it makes of a pass. All that looks into the definitions of a
 -- policy is here.
-use Rattle.cal_policy.proofs.Common.{◌≡◌, ◌<◌, ◌≤◌, ℕ, List, [], ◌∷◌, ◌++◌, length, take, Some, slice_get, refl, sym, subst, arith, take-append_seam, slice_get-last, Table, IsTable, Action, Grant, CoreClass, PassEntry, Policy, Caladan, Assured, Legal, Illegal, actions_of, class_number, IsInput, IsOrderly, pass_of, EachAfter, IsSteady, KeepsUp, pass_by, IsPassBy, IsLegalBy, IsVerdictBy, IsAuditBy, Setting, setting_of}
+use Rattle.cal_policy.proofs.Common.{◌≡◌, ◌≤◌, ℕ, List, [], ◌∷◌, ◌++◌, length, take, Some, slice_get, refl, sym, subst, arith, take-append_seam, slice_get-last, slice_get_within, Table, IsTable, Action, Grant, CoreClass, PassEntry, Policy, Caladan, Assured, Legal, Illegal, actions_of, class_number, IsInput, pass_of, EachAfter, KeepsUp, pass_by, IsPassBy, IsLegalBy, IsVerdictBy, IsAuditBy, Setting, setting_of, NoPairBanned}
 use Rattle.cal_policy.specs.declared.auditor.Auditor.{Auditor}
 use Rattle.cal_policy.specs.declared.history.core_class.CoreClass.TheVariants as classes
 use Rattle.cal_policy.specs.Assured.Pass as definitions
 use Rattle.cal_policy.proofs.AssuredLemmas.Done.{IsDone, pass_done}
 use Rattle.cal_policy.proofs.AssuredLemmas.FreesFirst as second
-use Rattle.cal_policy.proofs.AssuredLemmas.LegalOrderly as assured
-use Rattle.cal_policy.proofs.AssuredLemmas.Lengths as lengths
+use Rattle.cal_policy.proofs.AssuredLemmas.Lengths.{pass_short}
 use Rattle.cal_policy.proofs.ListLemmas.EachAfter.{each_at}
+use Rattle.cal_policy.proofs.PassLemmas.Apart.{orderly_apart}
 use Rattle.cal_policy.proofs.PassLemmas.Commands.{IsFitPass}
-use Rattle.cal_policy.proofs.PassLemmas.LegalOrderly.{legal_orderly, legal_made, legal_sound, legal_steady, sound_fits}
-pub use Rattle.cal_policy.proofs.PassLemmas.Legality.{legal_more_by, legal_none_by, legal_upto_by, never_illegal_by, pass_at_by, verdict_illegal, verdict_stays}
-use Rattle.cal_policy.proofs.PassLemmas.Legality.{illegal_here}
-use Rattle.cal_policy.proofs.PassLemmas.Length.{legal_short}
+pub use Rattle.cal_policy.proofs.PassLemmas.LegalOrderly.{orderly_by, steady_by}
+use Rattle.cal_policy.proofs.PassLemmas.LegalOrderly.{legal_fits, legal_made}
+pub use Rattle.cal_policy.proofs.PassLemmas.Legality.{legal_more_by, legal_none_by, legal_upto_by, never_illegal_by, pass_actions, pass_at_by, pass_input, verdict_illegal, verdict_stays}
+use Rattle.cal_policy.proofs.PassLemmas.Legality.{illegal_here, legal_first}
+use Rattle.cal_policy.proofs.PassLemmas.Length.{pass_most}
 use Rattle.cal_policy.proofs.PassLemmas.RevokedStay.{FreesFirst, pass_frees_first}
 
 -- of Caladan's policy
@@ -26,40 +27,20 @@ pub assured_by : (policy : Policy) (s : Setting) → policy ≡ Assured → pass
 assured_by Caladan s is = cc
 assured_by Assured s is = refl
 
--- a pass is an input that may be given and the policy's actions on it
-pub pass_input : (policy : Policy) (table : Table) (before : List PassEntry) (entry : PassEntry) → IsPassBy policy table before entry → IsInput table before entry.input
-pass_input Caladan table before entry pass = pass.input
-pass_input Assured table before entry pass = pass.input
-
-pub pass_actions : (policy : Policy) (table : Table) (before : List PassEntry) (entry : PassEntry) → IsPassBy policy table before entry
-    → entry.actions ≡ pass_by policy (setting_of table before entry)
-pass_actions Caladan table before entry pass = pass.actions
-pass_actions Assured table before entry pass = pass.actions
-
 pub pass_from : (policy : Policy) (table : Table) (before : List PassEntry) (entry : PassEntry) → IsInput table before entry.input →
     entry.actions ≡ pass_by policy (setting_of table before entry) → IsPassBy policy table before entry
 pass_from Caladan table before entry input actions = record { input = input; actions = actions }
 pass_from Assured table before entry input actions = record { input = input; actions = actions }
 
--- a history of the policy is orderly, and made of its passes
-pub orderly_by : (policy : Policy) (table : Table) (h : List PassEntry) → IsTable table → IsLegalBy policy table h → IsOrderly table h
-orderly_by Caladan table h accepted legal = legal_orderly table h accepted legal
-orderly_by Assured table h accepted legal = assured.legal_orderly table h accepted legal
-
--- after each number of its passes it is steady
-pub steady_by : (policy : Policy) (table : Table) (h : List PassEntry) → IsTable table → IsLegalBy policy table h → (p : ℕ) → p ≤ length h → IsSteady table (actions_of (take p h))
-steady_by Caladan table h ok legal p within = legal_steady table h ok legal p within
-steady_by Assured table h ok legal p within = assured.legal_steady table h ok legal p within
-
 -- each of its passes fits, and frees cores first
+frees_first_by : (policy : Policy) (s : Setting) → FreesFirst (pass_by policy s)
+frees_first_by Caladan s = pass_frees_first s
+frees_first_by Assured s = second.pass_frees_first s
+
 fit_pass_at : (policy : Policy) (table : Table) (h : List PassEntry) (p : ℕ) (entry : PassEntry) → IsTable table → IsLegalBy policy table h → slice_get h p ≡ Some entry → IsFitPass table (take p h) entry
-fit_pass_at Caladan table h p entry ok legal at = record {
-  each = sound_fits (setting_of table (take p h) entry) [] entry.actions (legal_sound table h ok legal p entry at).each;
-  first = subst FreesFirst (sym (legal.passes p entry at).actions) (pass_frees_first (setting_of table (take p h) entry));
-}
-fit_pass_at Assured table h p entry ok legal at = record {
-  each = (assured.legal_fits table h ok legal p entry at).each;
-  first = subst FreesFirst (sym (legal.passes p entry at).actions) (second.pass_frees_first (setting_of table (take p h) entry));
+fit_pass_at policy table h p entry ok legal at = record {
+  each = (legal_fits policy table h ok legal p entry at).each;
+  first = subst FreesFirst (sym (pass_actions policy table (take p h) entry (pass_at_by policy table h legal p entry at))) (frees_first_by policy (setting_of table (take p h) entry));
 }
 
 pub last_fits : (policy : Policy) (table : Table) (h : List PassEntry) (entry : PassEntry) → IsTable table → IsLegalBy policy table (h ++ entry ∷ []) → IsFitPass table h entry
@@ -68,9 +49,17 @@ last_fits policy table h entry ok legal =
     (fit_pass_at policy table (h ++ entry ∷ []) (length h) entry ok legal (slice_get-last h entry))
 
 -- each of its passes has at most 338 actions
+pass_short_by : (policy : Policy) (s : Setting) → IsTable s.table → NoPairBanned (actions_of s.history) → length (pass_by policy s) ≤ 338
+pass_short_by Caladan s ok apart = pass_most s ok apart
+pass_short_by Assured s ok apart = pass_short s ok apart
+
 pub short_by : (policy : Policy) (table : Table) (h : List PassEntry) → IsTable table → IsLegalBy policy table h → (p : ℕ) (entry : PassEntry) → slice_get h p ≡ Some entry → length entry.actions ≤ 338
-short_by Caladan table h ok legal p entry at = legal_short table h ok legal p entry at
-short_by Assured table h ok legal p entry at = lengths.legal_short table h ok legal p entry at
+short_by policy table h ok legal p entry at =
+    let low = slice_get_within h p entry at in
+    let before = legal_first policy table h p (omega (arith, low)) legal in
+    let apart = orderly_apart table (take p h) (orderly_by policy table (take p h) ok before) in
+    subst (λ (l : List Action). length l ≤ 338) (sym (pass_actions policy table (take p h) entry (pass_at_by policy table h legal p entry at)))
+    (pass_short_by policy (setting_of table (take p h) entry) ok apart)
 
 -- each of its grants names a class by its number
 record IsOfClass (number : ℕ) : Type 0 where

@@ -10,12 +10,11 @@ use Rattle.cal_signal.specs.declared.look.Look.{Look}
 use Rattle.cal_signal.specs.declared.look.Look.TheVariants as found
 use Rattle.cal_policy.specs.declared.history.look.Seen.{Seen}
 use Rattle.cal_policy.specs.declared.history.look.Seen.TheVariants.{Whole}
-use Rattle.cal_policy.specs.History.Lists.{each_after}
 use Rattle.cal_policy.specs.History.{actions_of, holder_of, holder_made, last_placement}
 use Rattle.cal_policy.specs.History.{placement_made, last_thread, commands_to, sent_to}
 use Rattle.cal_policy.specs.History.{sends, ban_of, ban_made, last_cap, cap_made}
-use Rattle.cal_policy.specs.History.Looks.{kept_by, to_keep_at, last_shown, shown_at, look_of}
-use Rattle.cal_policy.specs.Judgement.Judging.{judged, is_foreign}
+use Rattle.cal_policy.specs.History.Looks.{kept_by, to_keep_at}
+use Rattle.cal_policy.specs.Judgement.Judging.{is_foreign}
 use Rattle.cal_policy.specs.Pass.Steady.{IsSteady, IsSound}
 use Rattle.cal_machine.specs.Table.{Table, IsTable}
 use Rattle.cal_policy.specs.declared.history.entry.PassEntry.{PassEntry}
@@ -23,8 +22,7 @@ use Rattle.cal_policy.specs.declared.pass.choice.Candidate.{Candidate}
 use Rattle.cal_policy.specs.declared.history.core_class.CoreClass.{CoreClass}
 use Rattle.cal_policy.specs.History.CoreClasses.{class_number}
 use Rattle.cal_machine.specs.TableTasks.{limit_of, thread_of}
-use Rattle.cal_policy.specs.Setting.{Setting, setting_of, so_far}
-use Rattle.cal_policy.specs.Pass.Bans.{NoPairBanned}
+use Rattle.cal_policy.specs.Setting.{Setting, setting_of}
 use Rattle.cal_policy.specs.Pass.Bandwidth.{victim_rank, victim_of}
 use Rattle.cal_policy.specs.Pass.Grants.{thread_rank, thread_choice, class_of, choice_of}
 use Rattle.cal_policy.specs.Judgement.Orderly.{IsOrderly}

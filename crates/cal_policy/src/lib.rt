@@ -36,4 +36,4 @@ pub use judgement::open_pass::OpenPass;
 pub use judgement::orderly::orderly;
 pub use pass::plain::{plain_pass, plain_pass_by};
 pub use policy::Policy;
-pub use verdict::{Verdict, audit, audit_by, is_pass, is_pass_by, same_actions};
+pub use verdict::{Verdict, audit, audit_by, is_pass_by, same_actions};

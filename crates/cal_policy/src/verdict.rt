@@ -4,7 +4,6 @@ ghost use Rattle.std.specs.Prelude.{◌≡◌, ◌↔◌, IfOk, IsTrue};
 ghost use Rattle.cal_policy.specs.Setting.{setting};
 ghost use Rattle.cal_policy.specs.Judgement.Judging.{IsInput};
 ghost use Rattle.cal_policy.specs.Judgement.Orderly.{IsOrderly};
-ghost use Rattle.cal_policy.specs.Pass.{IsPass};
 ghost use Rattle.cal_policy.specs.Policies.{pass_by, IsPassBy, IsVerdictBy};
 ghost use Rattle.cal_policy.specs.Verdict.{IsVerdict};
 
@@ -67,19 +66,6 @@ pub fn is_pass_by(
         return false;
     }
     does_so(policy, config, before, entry, actions)
-}
-
-/// `is_pass_by` of `Policy::Caladan`.
-pub fn is_pass(
-    config: &Config,
-    before: &[PassEntry],
-    entry: &PassEntry,
-    actions: &mut Actions,
-) -> bool
-    requires { IsOrderly config.now before.now }
-    ensures { IsTrue result ↔ IsPass config.now before.now entry.now }
-{
-    is_pass_by(Policy::Caladan, config, before, entry, actions)
 }
 
 /// Whether a history is the policy's: `Legal` exactly where each pass may be given its input and

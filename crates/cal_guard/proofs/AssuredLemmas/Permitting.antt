@@ -66,9 +66,6 @@ stage_more laws s acts a stage base spares lowers =
       lowered = subst Q at (none_over_more laws.more s (so_far s acts) a lowers stage.lowered);
     }
 
-early_more : (s : Setting) (acts : List Action) (a : Action) → Early s acts → Stage s (acts ++ a ∷ []) → NoneGranted (acts ++ a ∷ []) → Early s (acts ++ a ∷ [])
-early_more s acts a early stage none = record { stage = stage; ungranted = none }
-
 -- Frees
 
 free_leads : Laws → (s : Setting) (acts : List Action) (core : ℕ) → IsTable s.table → IsFreed s acts core → First s acts → IsPermitted s acts (Free core) × First s (acts ++ Free core ∷ [])

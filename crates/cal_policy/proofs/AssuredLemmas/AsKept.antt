@@ -1,5 +1,5 @@
 -- What is asked of a core under the second policy, as the board keeps it.
-use Rattle.cal_policy.proofs.Common.{◌≡◌, ℕ, ◌<◌, Bool, true, false, not, cond, ◌&&◌, eqb, nat_lt, List, Option, None, refl, ap, sym, ◌∙◌, arith, and_parts, eqb-true, has, Table, Record, Action, Cause, Board, Holder, Held, Leaving, is_untaken, is_open, CoreClass, is_task, owed_to, held_class, open_class, owed_class, class_to_take, kept_holder, kept_number, kept_placement, holder_in, is_free, is_with, Sorts, holder_of, count_below, Setting, so_far, Agrees, IsReady, Stands}
+use Rattle.cal_policy.proofs.Common.{◌≡◌, ℕ, ◌<◌, Bool, true, false, not, cond, ◌&&◌, eqb, nat_lt, List, Option, None, refl, ap, sym, ◌∙◌, arith, and_parts, eqb-true, has, Table, Record, Action, Board, Holder, Held, Leaving, is_untaken, is_open, CoreClass, is_task, owed_to, held_class, open_class, owed_class, class_to_take, kept_holder, kept_number, kept_placement, holder_in, is_free, is_with, Sorts, holder_of, count_below, Setting, so_far, Agrees, IsReady, Stands}
 use Rattle.cal_policy.specs.declared.board.holders.Placement as placements
 use Rattle.cal_policy.specs.declared.board.holders.Holder.TheVariants.{Free}
 use Rattle.cal_policy.proofs.BoardLemmas.StateKept.{free_kept}
@@ -16,16 +16,6 @@ untaken_held rec k (Held q) p b e f =
     let thread : p.thread ≡ q.thread = ap (λ (r : placements.Placement). r.thread) (sym is) in
     let number : p.number ≡ kept_number q.number = ap (λ (r : placements.Placement). r.number) (sym is) in
     ap (λ n. eqb n k && b) thread ∙ ap (λ w. eqb q.thread k && w) (f q.number number)
-
-pub untaken_free : (rec : Record) (k : ℕ) (h : Holder) → kept_holder h ≡ Free → false ≡ is_untaken rec k h
-untaken_free rec k Free e = refl
-untaken_free rec k (Held q) e = cc
-untaken_free rec k (Leaving q cause) e = cc
-
-pub untaken_left : (rec : Record) (k : ℕ) (h : Holder) (p : placements.Placement) (cause : Cause) → kept_holder h ≡ Leaving p cause → false ≡ is_untaken rec k h
-untaken_left rec k Free p cause e = cc
-untaken_left rec k (Held q) p cause e = cc
-untaken_left rec k (Leaving q why) p cause e = refl
 
 -- the idle cores are the open ones
 pub open_as_kept : (table : Table) (b : Board) (x : List Action) → IsReady table b → Agrees b x → (c : ℕ) → c < 128 → has b.open_cores.idle c ≡ is_open x c

@@ -120,7 +120,8 @@ stays_booked table x (Grant core thread class) t c m is =
         absurd (cc)
     by_core false e = is
 
-same_cap : (table : Table) (x : List Action) (a : Action) (t : ℕ) → Moves x a → cap_of table (x ++ a ∷ []) t ≡ cap_of table x t
+-- the caps stay in the grants
+pub same_cap : (table : Table) (x : List Action) (a : Action) (t : ℕ) → Moves x a → cap_of table (x ++ a ∷ []) t ≡ cap_of table x t
 same_cap table x (Free core) t m = absurd m
 same_cap table x (Unban core) t m = absurd m
 same_cap table x (Ban core thread started) t m = absurd m

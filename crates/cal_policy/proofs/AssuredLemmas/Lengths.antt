@@ -1,16 +1,14 @@
 -- How many actions a pass has at most.
-use Rattle.cal_policy.proofs.Common.{◌≡◌, ℕ, ◌+◌, ◌*◌, ◌/◌, ◌≤◌, zero, suc, Bool, true, false, cond, eqb, List, [], ◌∷◌, ◌++◌, length, take, Some, slice_get, refl, sym, ap, ◌∙◌, arith, subst, append_assoc, length-append, eq-eqb, slice_get_within, sibling_of, Table, IsTable, Action, Free, Unban, Ban, Revoke, Cap, Grant, PassEntry, actions_of, holder_of, is_banned, is_free, is_held, count_below, frees, NoPairBanned, bandwidth_part, EachAfter, followed, Setting, setting_of, so_far, grants, unbanned_of, bounded_of, Assured}
+use Rattle.cal_policy.proofs.Common.{◌≡◌, ℕ, ◌+◌, ◌*◌, ◌/◌, ◌≤◌, zero, suc, Bool, true, false, cond, eqb, List, [], ◌∷◌, ◌++◌, length, refl, sym, ap, ◌∙◌, arith, subst, append_assoc, length-append, eq-eqb, sibling_of, Table, IsTable, Action, Free, Unban, Ban, Revoke, Cap, Grant, actions_of, holder_of, is_banned, is_free, is_held, count_below, frees, NoPairBanned, bandwidth_part, EachAfter, followed, Setting, so_far, grants, unbanned_of, bounded_of}
 use Rattle.std.proofs.Common.{append-nil}
-use Rattle.cal_policy.proofs.PassLemmas.Apart.{orderly_apart, frees_apart}
+use Rattle.cal_policy.proofs.PassLemmas.Apart.{frees_apart}
 use Rattle.cal_policy.proofs.PassLemmas.Fits.{so_far_push}
 use Rattle.cal_policy.proofs.PassLemmas.Length.{bandwidth_most}
 use Rattle.cal_policy.proofs.PassLemmas.Pairs.{beside_lower, unbanned_at}
 use Rattle.cal_policy.proofs.ListLemmas.Counted.{count_less, count_le}
 use Rattle.cal_policy.specs.Assured.Hyperthreads.{unbans, bans}
-use Rattle.cal_policy.specs.Assured.Pass.{pass_of, IsLegal}
+use Rattle.cal_policy.specs.Assured.Pass.{pass_of}
 use Rattle.cal_policy.proofs.AssuredLemmas.Done.{IsUnbanned, IsUnbanning, frees_made, unbans_made, grants_made}
-use Rattle.cal_policy.proofs.AssuredLemmas.LegalOrderly.{legal_orderly}
-use Rattle.cal_policy.proofs.PassLemmas.Legality.{legal_upto_by}
 use Rattle.cal_policy.proofs.AssuredLemmas.Room.{frees_few, unbans_take, bans_take, bans_room, bandwidth_takes, serves_few, unused_few, takes_free, takes_held, count_others, count_apart}
 
 -- how many cores are banned
@@ -116,13 +114,3 @@ pass_short s ok apart =
       length-append banned (bandwidth_part s banned),
       length-append bounded (grants s bounded),
     )
-
--- a pass of a legal history has at most 338 actions
-pub legal_short : (table : Table) (history : List PassEntry) → IsTable table → IsLegal table history → (p : ℕ) (entry : PassEntry) → slice_get history p ≡ Some entry
-    → length entry.actions ≤ 338
-legal_short table history ok legal p entry e =
-    let lt = slice_get_within history p entry e in
-    let before = legal_upto_by Assured table history p (omega (arith, lt)) (λ q low earlier is. legal.passes q earlier is) in
-    let apart = orderly_apart table (take p history) (legal_orderly table (take p history) ok before) in
-    let Q : List Action → Type 0 = λ l. length l ≤ 338 in
-    subst Q (sym (legal.passes p entry e).actions) (pass_short (setting_of table (take p history) entry) ok apart)

@@ -1,5 +1,5 @@
 -- One more member at the end.
-use Rattle.cal_policy.proofs.Common.{◌≡◌, ℕ, ◌+◌, ◌<◌, suc, zero, Bool, true, false, cond, List, [], ◌∷◌, ◌++◌, length, get_or, set, take, replicate, length-append, ◌≤◌, Option, Some, None, refl, ap, sym, ◌∙◌, arith, append_assoc, eqb, flat_map, option_or, unwrap_or, option_map, is_some, append-nil, common_steps, last_after, last_of, each_after, each_of}
+use Rattle.cal_policy.proofs.Common.{◌≡◌, ℕ, ◌+◌, ◌<◌, suc, zero, Bool, true, false, cond, List, [], ◌∷◌, ◌++◌, length, get_or, set, replicate, Option, Some, None, refl, ap, sym, ◌∙◌, arith, append_assoc, eqb, option_or, unwrap_or, option_map, is_some, append-nil, common_steps, last_after, last_of, each_after, each_of}
 
 pub or_none : {Y : Type 0} (o : Option Y) → o ≡ option_or o None
 or_none None = refl
@@ -87,11 +87,3 @@ last_after_map f g h e before (x ∷ xs) =
 pub last_of_map : {X Y Z : Type 0} (f : List X → X → Option Y) (g : List X → X → Option Z) (h : Y → Z) →
     ((b : List X) (x : X) → g b x ≡ option_map h (f b x)) → (xs : List X) → last_of g xs ≡ option_map h (last_of f xs)
 last_of_map f g h e xs = last_after_map f g h e [] xs
-
--- what one member gives is part of what all give
-pub length_part : {X Y : Type 0} (f : X → List Y) (xs : List X) (i : ℕ) (d : X) → i < length xs →
-    length (flat_map f (take i xs)) + length (f (get_or xs i d)) ≤ length (flat_map f xs)
-length_part f [] i d lt = absurd (omega arith)
-length_part f (x ∷ xs) zero d lt = omega (arith, length-append (f x) (flat_map f xs))
-length_part f (x ∷ xs) (suc i) d lt =
-    omega (arith, length_part f xs i d (omega arith), length-append (f x) (flat_map f (take i xs)), length-append (f x) (flat_map f xs))

@@ -1,5 +1,16 @@
 -- Legal histories of each policy, pass by pass.
-use Rattle.cal_policy.proofs.Common.{◌≡◌, ℕ, ◌<◌, ◌≤◌, Bool, true, false, nat_lt, List, [], ◌∷◌, ◌++◌, length, get_or, take, Some, slice_get, inl, inr, sym, subst, ◌∙◌, arith, refl, length-append, length-take-le, get_or-take, take-take, take-append-le, take_all, slice_get_within, slice_get_read, get_or_from_slice_get, take-append_seam, slice_get_at, some_same, slice_get-last, slice_get-other, last_or_before, Table, PassEntry, Policy, Caladan, Assured, Illegal, IsPassBy, IsLegalBy, IsVerdictBy}
+use Rattle.cal_policy.proofs.Common.{◌≡◌, ℕ, ◌<◌, ◌≤◌, Bool, true, false, nat_lt, List, [], ◌∷◌, ◌++◌, length, get_or, take, Some, slice_get, inl, inr, sym, subst, ◌∙◌, arith, refl, length-append, length-take-le, get_or-take, take-take, take-append-le, take_all, slice_get_within, slice_get_read, get_or_from_slice_get, take-append_seam, slice_get_at, some_same, slice_get-last, slice_get-other, last_or_before, Table, PassEntry, Policy, Caladan, Assured, Illegal, IsPassBy, IsLegalBy, IsVerdictBy, IsInput, pass_by, setting_of}
+use Rattle.std.specs.Prelude.{◌↔◌}
+
+-- a pass is an input that may be given and the policy's actions on it
+pub pass_input : (policy : Policy) (table : Table) (before : List PassEntry) (entry : PassEntry) → IsPassBy policy table before entry → IsInput table before entry.input
+pass_input Caladan table before entry pass = pass.input
+pass_input Assured table before entry pass = pass.input
+
+pub pass_actions : (policy : Policy) (table : Table) (before : List PassEntry) (entry : PassEntry) → IsPassBy policy table before entry
+    → entry.actions ≡ pass_by policy (setting_of table before entry)
+pass_actions Caladan table before entry pass = pass.actions
+pass_actions Assured table before entry pass = pass.actions
 
 -- a history is legal where each entry is a pass of the policy after those before it
 pub pass_at_by : (policy : Policy) (table : Table) (h : List PassEntry) → IsLegalBy policy table h → (p : ℕ) (entry : PassEntry) → slice_get h p ≡ Some entry → IsPassBy policy table (take p h) entry
@@ -10,10 +21,11 @@ legal_by : (policy : Policy) (table : Table) (h : List PassEntry) → ((p : ℕ)
 legal_by Caladan table h each = record { passes = each }
 legal_by Assured table h each = record { passes = each }
 
--- where each of the first n entries is one, they are a legal history
-pub legal_upto_by : (policy : Policy) (table : Table) (history : List PassEntry) (n : ℕ) → n ≤ length history →
-    ((p : ℕ) → p < n → (entry : PassEntry) → slice_get history p ≡ Some entry → IsPassBy policy table (take p history) entry) → IsLegalBy policy table (take n history)
-legal_upto_by policy table history n le each = legal_by policy table (take n history) (λ p entry e.
+-- what is so of each of the first n entries, told what came before it, is so in their list alone
+pub each_upto : (P : List PassEntry → PassEntry → Type 0) (history : List PassEntry) (n : ℕ) → n ≤ length history →
+    ((p : ℕ) → p < n → (entry : PassEntry) → slice_get history p ≡ Some entry → P (take p history) entry) →
+    (p : ℕ) (entry : PassEntry) → slice_get (take n history) p ≡ Some entry → P (take p (take n history)) entry
+each_upto P history n le each p entry e =
     let len = length-take-le n history le in
     let within = slice_get_within (take n history) p entry e in
     let lt : p < n = omega arith in
@@ -21,8 +33,12 @@ legal_upto_by policy table history n le each = legal_by policy table (take n his
     let here : get_or history p entry ≡ entry = sym (get_or-take n history p entry lt) ∙ get_or_from_slice_get (take n history) p entry entry e in
     let there : slice_get history p ≡ Some entry = slice_get_read history (length history) p entry refl low (sym here) in
     let same = take-take p n history (omega arith) in
-    let P : List PassEntry → Type 0 = λ before. IsPassBy policy table before entry in
-    subst P (sym same) (each p lt entry there))
+    subst (λ (before : List PassEntry). P before entry) (sym same) (each p lt entry there)
+
+-- where each of the first n entries is one, they are a legal history
+pub legal_upto_by : (policy : Policy) (table : Table) (history : List PassEntry) (n : ℕ) → n ≤ length history →
+    ((p : ℕ) → p < n → (entry : PassEntry) → slice_get history p ≡ Some entry → IsPassBy policy table (take p history) entry) → IsLegalBy policy table (take n history)
+legal_upto_by policy table history n le each = legal_by policy table (take n history) (each_upto (λ before entry. IsPassBy policy table before entry) history n le each)
 
 -- a legal history that is cut off at any pass is legal
 pub legal_first : (policy : Policy) (table : Table) (history : List PassEntry) (n : ℕ) → n ≤ length history → IsLegalBy policy table history → IsLegalBy policy table (take n history)
@@ -50,15 +66,20 @@ legal_more_by policy table history entry legal next = legal_by policy table (his
 ])
 
 -- and of a legal history the last pass is one after those before it, which are legal
-pub legal_last : (policy : Policy) (table : Table) (history : List PassEntry) (entry : PassEntry) → IsLegalBy policy table (history ++ entry ∷ []) → IsPassBy policy table history entry
+legal_last : (policy : Policy) (table : Table) (history : List PassEntry) (entry : PassEntry) → IsLegalBy policy table (history ++ entry ∷ []) → IsPassBy policy table history entry
 legal_last policy table history entry legal =
     subst (λ (before : List PassEntry). IsPassBy policy table before entry) (take-append_seam history (entry ∷ []))
     (pass_at_by policy table (history ++ entry ∷ []) legal (length history) entry (slice_get-last history entry))
 
-pub legal_before : (policy : Policy) (table : Table) (history : List PassEntry) (entry : PassEntry) → IsLegalBy policy table (history ++ entry ∷ []) → IsLegalBy policy table history
+legal_before : (policy : Policy) (table : Table) (history : List PassEntry) (entry : PassEntry) → IsLegalBy policy table (history ++ entry ∷ []) → IsLegalBy policy table history
 legal_before policy table history entry legal =
     let le : length history ≤ length (history ++ entry ∷ []) = omega (arith, length-append history (entry ∷ [])) in
     subst (λ (before : List PassEntry). IsLegalBy policy table before) (take-append_seam history (entry ∷ [])) (legal_first policy table (history ++ entry ∷ []) (length history) le legal)
+
+pub legal_one_more : (policy : Policy) (table : Table) (history : List PassEntry) (entry : PassEntry) →
+    IsLegalBy policy table (history ++ entry ∷ []) ↔ (IsLegalBy policy table history × IsPassBy policy table history entry)
+legal_one_more policy table history entry =
+    (λ legal. (legal_before policy table history entry legal, legal_last policy table history entry legal), λ both. legal_more_by policy table history entry both.0 both.1)
 
 -- what an audit says of the first entry that is none
 pub record FirstIllegal (policy : Policy) (table : Table) (history : List PassEntry) (p : ℕ) : Type 0 where

@@ -1,11 +1,9 @@
 -- How many actions a pass of a legal history has at most.
-use Rattle.cal_policy.proofs.Common.{◌≡◌, ℕ, zero, suc, ◌+◌, ◌*◌, ◌/◌, ◌≤◌, ◌&&◌, nat_lt, Bool, true, false, List, [], ◌∷◌, ◌++◌, length, take, Option, Some, None, slice_get, if◌then◌else◌, refl, sym, subst, arith, append_assoc, length-append, suc-mul, slice_get_within, sibling_of, Table, IsTable, BannedFor, Candidate, CoreClass, class_number, is_idle, Action, Free, Unban, Ban, Revoke, Grant, PassEntry, bandwidth_part, core_to_lose, victim_of, is_capped, cut_at, cut_of, rise_of, NoPairBanned, still_shows, unban_for, unban_at, unbans, ban_due, ban_for, bans_at, bans, lowest_below, is_held, shows_left, free_at, frees, is_congested, may_book, thread_choice, choice_of, grant_of, grant_at, grant_of_kind_at, grants_of_kind, actions_of, holder_of, ban_of, in_turn, in_pair, pass_of, IsLegal, Setting, setting_of, so_far, kept_now, Caladan, is_latency_critical, thread_of}
+use Rattle.cal_policy.proofs.Common.{◌≡◌, ℕ, zero, suc, ◌+◌, ◌*◌, ◌/◌, ◌≤◌, ◌&&◌, nat_lt, Bool, true, false, List, [], ◌∷◌, ◌++◌, length, Option, Some, None, if◌then◌else◌, refl, sym, subst, arith, append_assoc, length-append, suc-mul, sibling_of, IsTable, BannedFor, Candidate, CoreClass, class_number, is_idle, Action, Free, Unban, Ban, Revoke, Grant, bandwidth_part, core_to_lose, victim_of, is_capped, cut_at, cut_of, rise_of, NoPairBanned, still_shows, unban_for, unban_at, unbans, ban_due, ban_for, bans_at, bans, lowest_below, is_held, shows_left, free_at, frees, is_congested, may_book, thread_choice, choice_of, grant_of, grant_at, grant_of_kind_at, grants_of_kind, actions_of, holder_of, ban_of, in_turn, in_pair, pass_of, Setting, so_far, kept_now, Caladan, is_latency_critical, thread_of}
 use Rattle.std.proofs.Common.{append-nil}
 use Rattle.cal_policy.specs.declared.history.action.Cause.TheVariants as causes
 use Rattle.cal_machine.specs.declared.task.Kind.TheVariants as kinds
-use Rattle.cal_policy.proofs.PassLemmas.Apart.{orderly_apart, frees_apart}
-use Rattle.cal_policy.proofs.PassLemmas.LegalOrderly.{legal_orderly}
-use Rattle.cal_policy.proofs.PassLemmas.Legality.{legal_upto_by}
+use Rattle.cal_policy.proofs.PassLemmas.Apart.{frees_apart}
 use Rattle.cal_policy.proofs.PassLemmas.Pairs.{in_turn_pairs, unban_pair_keeps, unban_lower, pair_upper, ban_lower}
 
 -- where each place has at most so many actions while P holds, and leaves P as it was
@@ -130,7 +128,7 @@ grants_most s a b (suc n) =
     omega (arith, grants_most s a b n, length-append x (grant_of_kind_at kinds.LatencyCritical s (a ++ x) n), length-append y (grant_of_kind_at kinds.BestEffort s (b ++ y) n))
 
 -- a pass
-pass_most : (s : Setting) → IsTable s.table → NoPairBanned (actions_of s.history) → length (pass_of s) ≤ 338
+pub pass_most : (s : Setting) → IsTable s.table → NoPairBanned (actions_of s.history) → length (pass_of s) ≤ 338
 pass_most s ok apart =
     let half = s.table.cores / 2 in
     let cores = ok.machine.most in
@@ -155,12 +153,3 @@ pass_most s ok apart =
       length-append bounded (grants_of_kind kinds.LatencyCritical s bounded),
       length-append granted (grants_of_kind kinds.BestEffort s granted),
     )
-
--- a pass of a legal history has at most 338 actions
-pub legal_short : (table : Table) (history : List PassEntry) → IsTable table → IsLegal table history → (p : ℕ) (entry : PassEntry) → slice_get history p ≡ Some entry
-    → length entry.actions ≤ 338
-legal_short table history ok legal p entry e =
-    let lt = slice_get_within history p entry e in
-    let before = legal_upto_by Caladan table history p (omega arith) (λ q low earlier is. legal.passes q earlier is) in
-    let most = pass_most (setting_of table (take p history) entry) ok (orderly_apart table (take p history) (legal_orderly table (take p history) ok before)) in
-    subst (λ (l : List Action). length l ≤ 338) (sym (legal.passes p entry e).actions) most

@@ -1,5 +1,6 @@
-use Rattle.cal_assured.proofs.Legality.{one_more}
+use Rattle.cal_policy.specs.declared.policy.Policy.TheVariants.{Assured}
+use Rattle.cal_policy.proofs.PassLemmas.Legality.{legal_one_more}
 use Rattle.cal_assured.proofs.histories.one_pass_more_is_legal.Goals as goal
 
 pub returns : goal.returns
-returns c = one_more
+returns c = legal_one_more Assured

@@ -1,12 +1,12 @@
 use Rattle.cal_guard.proofs.Common.{◌≡◌, ℕ, ◌≤◌, List, length, take, sym, subst, ◌∙◌, arith, refl, true, false, take_all, slice_get_read, PassEntry, IsPermittedPass, IsPermittedHistory, each_more_item}
-use Rattle.cal_guard.proofs.Upto.{permitted_upto}
+use Rattle.cal_policy.proofs.PassLemmas.Legality.{each_upto}
 use Rattle.cal_guard.proofs.checking.is_permitted.Goals as goal
 
 pub is_permitted_pass-requires : goal.is_permitted_pass-requires
 is_permitted_pass-requires c =
     let history = c.args.history.now in
     let here : c.loop-p.p ≤ length history = omega arith in
-    permitted_upto c.args.config.now history c.loop-p.p here c.loop-p.invariant
+    record { passes = each_upto (λ before entry. IsPermittedPass c.args.config.now before entry) history c.loop-p.p here c.loop-p.invariant }
 
 pub loop-p-preserved : goal.loop-p-preserved
 loop-p-preserved c =
@@ -27,4 +27,5 @@ returns c =
     let history = c.args.history.now in
     let here : c.loop-p.p ≤ length history = omega arith in
     let L : List PassEntry → Type 0 = λ h. IsPermittedHistory c.args.config.now h in
-    (λ yes. subst L (take_all c.loop-p.p history c.loop-p-test.false) (permitted_upto c.args.config.now history c.loop-p.p here c.loop-p.invariant), λ all. refl)
+    let first : IsPermittedHistory c.args.config.now (take c.loop-p.p history) = record { passes = each_upto (λ before entry. IsPermittedPass c.args.config.now before entry) history c.loop-p.p here c.loop-p.invariant } in
+    (λ yes. subst L (take_all c.loop-p.p history c.loop-p-test.false) first, λ all. refl)

@@ -1,5 +1,5 @@
 -- Each part begins where the one before ended.
-use Rattle.cal_policy.proofs.Common.{◌≡◌, ◌++◌, ◌≤◌, ◌∙◌, List, length, sym, subst, Action, grants, Setting, setting_in, Stands}
+use Rattle.cal_policy.proofs.Common.{◌≤◌, ◌∙◌, List, length, sym, subst, Action, Setting, setting_in, Stands}
 use Rattle.cal_policy.proofs.PassLemmas.FromParts.{assured_pass, caladan_pass, freed_apart, parts_bounded}
 use Rattle.cal_policy.proofs.AssuredLemmas.Lengths.{pass_short}
 use Rattle.cal_policy.proofs.PolicyLemmas.{assured_by}
