@@ -17,13 +17,13 @@ pub use Rattle.cal_machine.specs.declared.command.Command.TheVariants.{Park, Run
 pub use Rattle.cal_policy.proofs.ListLemmas.EachAfter.{each_append, each_at}
 pub use Rattle.cal_policy.proofs.PassLemmas.Fits.{held_le_booked, so_far_push}
 pub use Rattle.cal_policy.specs.Board.{placement_of}
-pub use Rattle.cal_policy.specs.Board.Counts.{booked_by, cap_of, cores_of_thread, held_by, is_booked_for, is_free, is_held, is_held_for, is_over, is_with}
+pub use Rattle.cal_policy.specs.Board.Counts.{booked_by, cap_of, cores_of_thread, held_by, is_free, is_held, is_held_for, is_over, is_with}
 pub use Rattle.cal_policy.specs.History.{actions_of, ban_made, ban_of, cap_made, command_to, commands_to, holder_made, holder_of, is_banned, last_cap, last_placement, last_thread, left_by, looks_of, placed, placement_made, sends, sent_to}
 pub use Rattle.cal_policy.specs.History.CoreClasses.{class_number, is_idle}
 pub use Rattle.cal_policy.specs.History.Lists.{in_turn, last_after}
 pub use Rattle.cal_policy.specs.History.Looks.{kept_by, record_to_keep, to_keep_at}
 pub use Rattle.cal_policy.specs.Judgement.Orderly.{fits_state, names_table}
-pub use Rattle.cal_policy.specs.Laws.{ActionIsOneMore, ChosenHasWaitedLongest, ChosenIsOfLeastClass, HasMostMisses, HasWaitedLongest, IsOfLeastClass, LastThreadIsPlaced, LegalIsSound, LegalIsSteady, LookIsOneMore, VictimHasMostMisses}
+pub use Rattle.cal_policy.specs.Laws.{ActionIsOneMore, ChosenHasWaitedLongest, ChosenIsOfLeastClass, HasMostMisses, HasWaitedLongest, IsOfLeastClass, LastThreadIsPlaced, LegalIsSound, LookIsOneMore, VictimHasMostMisses}
 pub use Rattle.cal_policy.specs.Pass.{IsLegal, pass_of}
 pub use Rattle.cal_policy.specs.Pass.Bandwidth.{bandwidth_part, can_lose, core_to_lose, cut_at, cut_of, is_capped, rise_of, task_misses, victim_of, victim_rank}
 pub use Rattle.cal_policy.specs.Pass.Bans.{ban_due, ban_for, bans, bans_at, may_ban_beside, may_be_emptied, runs_too_long, still_shows, too_long_on, unban_at, unban_for, unbans}

@@ -8,7 +8,7 @@ use Rattle.cal_policy.specs.Pass.Choice.{greatest_below}
 use Rattle.cal_policy.specs.History.{looks_of}
 use Rattle.cal_policy.specs.History.Looks.{to_keep_at}
 use Rattle.cal_policy.specs.Setting.{Setting, kept_now}
-use Rattle.cal_policy.specs.Pass.Grants.{record_delay, thread_delay, task_delay}
+use Rattle.cal_policy.specs.Pass.Grants.{thread_delay, task_delay}
 
 -- how long the oldest queued request has waited, where one is queued and the clock is past its
 -- coming

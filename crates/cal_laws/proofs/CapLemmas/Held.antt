@@ -1,16 +1,10 @@
 -- How one more action changes what a task holds and its cap.
-use Rattle.cal_laws.proofs.Common.{◌≡◌, ℕ, ◌+◌, ◌<◌, ◌≤◌, Bool, true, false, cond, eqb, List, [], ◌∷◌, ◌++◌, Option, Some, None, refl, sym, ap, ◌∙◌, arith, unwrap_or, option_or, nat_tests, Table, owner_of, limit_of, Action, Free, Revoke, Grant, Cause, Holder, holder_of, left_by, last_placement, placed, cap_made, last_cap, is_held_for, is_booked_for, held_by, cap_of, ActionIsOneMore, unwrap_if}
+use Rattle.cal_laws.proofs.Common.{◌≡◌, ℕ, ◌+◌, ◌<◌, ◌≤◌, Bool, true, false, cond, eqb, List, [], ◌∷◌, ◌++◌, Option, Some, None, refl, sym, ap, ◌∙◌, arith, unwrap_or, option_or, nat_tests, Table, owner_of, limit_of, Action, Free, Revoke, Grant, Cause, Holder, holder_of, left_by, last_placement, placed, cap_made, last_cap, is_held_for, held_by, cap_of, ActionIsOneMore, unwrap_if}
 use Rattle.cal_policy.specs.declared.board.holders.Placement as placements
 use Rattle.cal_policy.specs.declared.board.holders.Holder.TheVariants as holders
 use Rattle.cal_policy.proofs.ListLemmas.Counted.{count_less}
 use Rattle.cal_policy.proofs.ListLemmas.Counted.{count_le_one, count_le}
 use Rattle.cal_policy.proofs.PassLemmas.Steady.{granted_holder}
-
--- what is held is booked
-held_booked : (table : Table) (t : ℕ) (h : Holder) → is_held_for table t h ≡ true → is_booked_for table t h ≡ true
-held_booked table t holders.Free e = cc
-held_booked table t (holders.Held p) e = e
-held_booked table t (holders.Leaving p cause) e = cc
 
 -- a task holds no more cores than before, where it holds none that it did not
 fewer : (table : Table) (x y : List Action) (t : ℕ) → ((c : ℕ) → is_held_for table t (holder_of y c) ≡ true → is_held_for table t (holder_of x c) ≡ true) → held_by table y t ≤ held_by table x t

@@ -1,5 +1,5 @@
 -- What holds at every point of a history, for each action keeps it.
-use Rattle.cal_laws.proofs.Common.{◌≡◌, ℕ, ◌+◌, ◌≤◌, zero, suc, List, [], ◌∷◌, ◌++◌, length, take, Some, sym, ap, ◌∙◌, arith, subst, append_assoc, ⊎_elim, slice_get, take-length, append-nil, slice_get_cases, slice_get_within, Table, Action, Free, Unban, Ban, Revoke, Cap, Grant, PassEntry, actions_of, Setting, setting_of, so_far, IsSteady, IsSound, LegalIsSteady, LegalIsSound, Point, IsPoint, actions_at, setting_at, made_at, next_at, FreesWhatWasLeft, IsSafe, EachAction, IsSafePoint, LegalIsSafe, take_next}
+use Rattle.cal_laws.proofs.Common.{◌≡◌, ℕ, ◌+◌, ◌≤◌, zero, suc, List, [], ◌∷◌, ◌++◌, length, take, Some, sym, ap, ◌∙◌, arith, subst, append_assoc, ⊎_elim, slice_get, take-length, append-nil, slice_get_cases, slice_get_within, Table, Action, Free, Unban, Ban, Revoke, Cap, Grant, PassEntry, actions_of, Setting, setting_of, so_far, IsSound, LegalIsSound, Point, IsPoint, actions_at, setting_at, made_at, next_at, FreesWhatWasLeft, IsSafe, EachAction, IsSafePoint, LegalIsSafe, take_next}
 use Rattle.std.proofs.lemmas.Grind.{flat_map-append}
 
 -- the actions of one pass more
@@ -84,17 +84,3 @@ safe_point safe here is = record { history = safe here.table here.history is.tab
 -- the next action at a point of a safe history is safe
 pub safe_at : (here : Point) → IsSafePoint here → (a : Action) → next_at here ≡ Some a → IsSafe (setting_at here) (made_at here) a
 safe_at here is a e = is.history.actions.at here.pass here.entry is.entry here.made a e
-
--- the state at each point is steady
-pub steady_at : LegalIsSteady → LegalIsSound → (here : Point) → IsPoint here → IsSteady here.table (actions_at here)
-steady_at steady sound here is = ⊎_elim
-    (λ found. (sound_at sound here is found.0 found.2).steady)
-    (λ past.
-    let whole : here.made ≡ length here.entry.actions = (let no = past.0 in let made = is.made in omega arith) in
-    let x = actions_of (take here.pass here.history) in
-    let same : actions_of (take (here.pass + 1) here.history) ≡ actions_at here =
-    actions_more here.history here.pass here.entry is.entry ∙ ap (λ xs. x ++ xs) (sym (take-length here.entry.actions)) ∙ ap (λ n. x ++ take n here.entry.actions) (sym whole) in
-    let P : List Action → Type 0 = λ x. IsSteady here.table x in
-    let within = slice_get_within here.history here.pass here.entry is.entry in
-    subst P same (steady here.table here.history is.table is.legal (here.pass + 1) (omega arith)))
-    (slice_get_cases here.entry.actions here.made).1
