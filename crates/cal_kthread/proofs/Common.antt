@@ -14,7 +14,7 @@ pub use Rattle.cal_kthread.specs.Turn.{Answers, AreAnswers, arrived, begins, beg
 pub use Rattle.cal_kthread.specs.Turn.Agreement.{HasServed, IsJournalOf, had_weight, held, state_of}
 pub use Rattle.cal_kthread.specs.Turn.Entries.{arrival, entries_of, publication, taking, theft, work}
 pub use Rattle.cal_kthread.specs.Turn.OnCores.{TurnOnAllIsTurn, TurnOnKeepsPlace, core_in_turn, does_work, provided_if, turned_if, turned_on, work_in_turn, worked_if}
-pub use Rattle.cal_kthread.specs.Turn.Thread.{IsFresh, IsThread, KernelView, ThreadView}
+pub use Rattle.cal_kthread.specs.Turn.Thread.{IsFresh, KernelView, ThreadView}
 pub use Rattle.cal_kthread.specs.Turn.Turns.{AreTurns, Given, IsOneTurn, OneTurnMore, TurnsAddUp}
 pub use Rattle.cal_kthread.specs.declared.journal.entry.Entry.{Entry}
 pub use Rattle.cal_kthread.specs.declared.journal.entry.Entry.TheVariants.{Arrived, Published, Served, Stole, Took, Yielded}
@@ -29,8 +29,8 @@ pub use Rattle.cal_signal.specs.Pages.{Chain, IsPage, last_from, last_published,
 pub use Rattle.cal_signal.specs.Records.{IsShaped, MayFollow, running_word, zero_record}
 pub use Rattle.cal_signal.specs.declared.record.Record.{Record}
 pub use Rattle.crossbeam_deque.proofs.Lists.{at_longer, at_map, at_set, at_snoc}
-pub use Rattle.std.proofs.Common.{Bool, IfSome, List, None, Option, Some, [], ap, append-nil, append_assoc, arith, drop, false, get_or, if◌then◌else◌, inl, inr, is_some, length, length-append, map, min, nat_eq, nat_le, not, option_map, option_to_list, refl, rules, set, subst, suc, sym, take, true, zero, ℕ, ⊎_elim, ◌&&◌, ◌*◌, ◌++◌, ◌+◌, ◌-◌, ◌<◌, ◌∙◌, ◌∷◌, ◌≡◌, ◌≢◌, ◌≤◌, ◌⊎◌}
-pub use Rattle.std.proofs.lemmas.Bool.{eq-eqb, eqb-true, le-ltb, lt-ltb, ne_eqb}
+pub use Rattle.std.proofs.Common.{Bool, IfSome, List, None, Option, Some, [], ap, append-nil, append_assoc, arith, drop, false, get_or, if◌then◌else◌, inl, inr, is_some, length, length-append, map, min, nat_eq, nat_le, not, option_map, option_to_list, refl, rules, set, subst, suc, sym, take, true, zero, ℕ, ⊎_elim, ◌&&◌, ◌*◌, ◌++◌, ◌+◌, ◌-◌, ◌<◌, ◌∙◌, ◌∷◌, ◌≡◌, ◌≢◌, ◌≤◌}
+pub use Rattle.std.proofs.lemmas.Bool.{eq-eqb, eqb-true, ne_eqb}
 pub use Rattle.std.proofs.lemmas.List.{get_or-set_other, get_or-set_same, length-map, length-set, length_push, map-append, map-set, take_all}
 pub use Rattle.std.specs.List.{cons_option, filter_map, slice_get}
 pub use Rattle.std.specs.Vec.Iter.{into_iter_items, into_iter_len}

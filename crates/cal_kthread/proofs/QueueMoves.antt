@@ -39,13 +39,6 @@ whole port v items views b at all h = let p = b.account h in
     let s = alone shares_of (pushed_weight h) views port v at (b.shares ∙ sym all) (λ j u e z. ap (weigh h) (b.idle j u e z).0) in
     let t = alone shares_of (taken_weight h) views port v at (b.shares ∙ sym all) (λ j u e z. idle-taken h u (b.idle j u e z)) in omega (arith, p, s, t)
 
-pub begins : Balanced [] (knows 16 [] [] [] ∷ [])
-begins = record { shares = refl; account = λ h. refl; idle = λ j v e z. let is : 16 ≡ v.shares = ap shares_of (only j v e) in absurd (omega arith) }
-  where
-    only : (j : ℕ) (v : Knowledge) → get_elem? (knows 16 [] [] [] ∷ []) j ≡ some v → knows 16 [] [] [] ≡ v
-    only zero v e = some-injective _ v e
-    only (suc j) v e = absurd (some-ne-none v (sym e))
-
 pub pushes : (port : ℕ) (v : Knowledge) (xs : List Waiting) → 0 < v.shares → Pushes Balanced port v xs (λ w. w ≡ knows v.shares (v.pushed ++ xs) v.had v.handed)
 pushes port v xs some_shares items views b at = let w : Knowledge = knows v.shares (v.pushed ++ xs) v.had v.handed in (
   w,

@@ -7,7 +7,7 @@ pub mod Entries
 pub mod OnCores
 pub mod Thread
 pub mod Turns
-use Rattle.std.specs.Prelude.{ℕ, zero, suc, ◌+◌, ◌-◌, ◌^◌, ◌<◌, min, ◌&&◌, not}
+use Rattle.std.specs.Prelude.{ℕ, zero, suc, ◌+◌, ◌-◌, ◌<◌, min, ◌&&◌, not}
 use Rattle.std.specs.Prelude.{is_some, nat_le, if◌then◌else◌, Option, Some, None}
 use Rattle.std.specs.Prelude.{IfSome, List, [], ◌∷◌, ◌++◌, length, map, slice_index}
 use Rattle.cal_machine.specs.declared.command.Command.{Command}

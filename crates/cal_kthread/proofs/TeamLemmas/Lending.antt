@@ -75,9 +75,6 @@ module _ (places : List Place) (j : ℕ) (g : Place) (k : ℕ) (p : Place) where
 abbrev pub place : KernelView → Place
 place t = place_of t.thread
 
-abbrev shares_of : KernelView → ℕ
-shares_of t = t.thread.queue.shares
-
 module _ (threads : List KernelView) (owner : ℕ) (lender lent_from : KernelView) (robber : ℕ) (taker robbing_now : KernelView) (v : Source) where
   abbrev middle : List KernelView
   middle = set threads owner lent_from

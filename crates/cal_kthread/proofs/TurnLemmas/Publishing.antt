@@ -1,15 +1,5 @@
 -- The record of a turn is never refused.
-use Rattle.cal_kthread.proofs.Common.{◌≡◌, ℕ, ◌<◌, ◌≤◌, Option, Some, None, IfSome, List, [], ◌∷◌, ◌++◌, refl, arith, Record, Chain, IsPage, last_published, last_from, page_of, IsShaped, MayFollow, zero_record, running_word, ThreadView, IsThread, shown}
-use Rattle.cal_machine.specs.declared.machine.TheConstants.{MOST_CORES}
-
-running_bound : (core : Option ℕ) → IfSome core (λ c. c < MOST_CORES) → running_word core ≤ MOST_CORES
-running_bound None within = omega arith
-running_bound (Some c) within = omega arith
-
--- the record of a thread may follow those that it published
-pub follows : (now : ℕ) (t : ThreadView) (count : ℕ) → IsThread count t.taker.taken t.core t.misses t.publisher.published → (last_published t.publisher.published).stamp ≤ now → MayFollow (last_published t.publisher.published) (shown now t)
-follows now t count is later = let n = is.taken in let a = is.shown_taken in let b = is.shown_misses in let r = running_bound t.core is.number in
-    ((omega arith, b, later), (r, is.limit))
+use Rattle.cal_kthread.proofs.Common.{◌≡◌, List, [], ◌∷◌, ◌++◌, refl, arith, Record, Chain, IsPage, last_published, last_from, page_of, IsShaped, MayFollow, zero_record}
 
 -- the last record is the one that was published last
 pub last_snoc : (x : Record) (xs : List Record) (y : Record) → last_from x (xs ++ y ∷ []) ≡ y

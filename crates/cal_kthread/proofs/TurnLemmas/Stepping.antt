@@ -23,10 +23,6 @@ module _ (now : ℕ) (t : ThreadView) (answer : Option Waiting) (on : is_some t.
   finds theft found is = ap (λ z. begins now z theft (without_next answer t)) is
       ∙ ap (λ z. if z then begins now (next_of t.front answer) theft (without_next answer t) else (t, None)) (needs t.core t.current on without)
 
-  pub providing-own : (found : Waiting) → Some found ≡ next_of t.front answer → current ≡ begun now found
-      → ◌≡◌ {A = Stepped} (record t { queue = queue; current = Some current; front = front }, None) (provided now answer None t)
-  providing-own found is began = (λ i. (record t { queue = left i; current = Some (began i); front = gone i }, None)) ∙ finds None (Some found) is
-
   pub providing-stolen : (place : ℕ) (w : Waiting) (sources : List Source) (number : ℕ) → None ≡ next_of t.front answer → sources ≡ robbed t.sources place w → current ≡ begun now w → number ≡ number_at t.sources place
       → ◌≡◌ {A = Stepped} (record t { queue = queue; sources = sources; current = Some current; front = front }, Some (Stole number w.request.id)) (provided now answer (Some (place, w)) t)
   providing-stolen place w sources number is robbery began numbered =

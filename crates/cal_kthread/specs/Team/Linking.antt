@@ -67,10 +67,6 @@ next_threads first count place zero = []
 next_threads first count place (suc distance) =
     next_threads first count place distance ++ (first + wrapped count (place + suc distance)) ∷ []
 
--- the other threads of the task, in the order `k+1, k+2, ..`, wrapping round within the task
-abbrev pub others_of : ℕ → ℕ → ℕ → List ℕ
-others_of first count place = next_threads first count place (count - 1)
-
 -- Each thread of a task has a thief at the queue of each that is up to this distance, in that
 -- order, and has so lent as many shares itself.
 pub record IsLinked (first count distance : ℕ) (threads : List KernelView) : Type 0 where

@@ -35,9 +35,6 @@ turned_if does now request answers k =
       thread = publication.0;
     }
 
-abbrev pub turned_without_work : ℕ → Option Request → Answers → KernelView → KernelView
-turned_without_work = turned_if false
-
 -- the core that a thread is on after the second step of a turn
 abbrev pub core_in_turn : ℕ → Option Request → Answers → KernelView → Option ℕ
 core_in_turn now request answers k =
