@@ -36,9 +36,3 @@ snoc_same xs ys x y e =
     let fronts : xs ≡ ys = sym (take-append_seam xs (x ∷ [])) ∙ ap (take (length xs)) e ∙ ap (λ n. take n (ys ++ y ∷ [])) many ∙ take-append_seam ys (y ∷ []) in
     let ends : Some x ≡ Some y = sym (slice_get-last xs x) ∙ ap (λ zs. slice_get zs (length xs)) e ∙ ap (λ n. slice_get (ys ++ y ∷ []) n) many ∙ slice_get-last ys y in
     (fronts, some_same x y ends)
-
--- what stands last
-pub last_is : {X : Type 0} (whole front : List X) (x y : X) → whole ≡ front ++ x ∷ [] → Some y ≡ slice_get whole (length whole - 1) → y ≡ x
-last_is whole front x y is e =
-    let long : length whole - 1 ≡ length front = omega (arith, ap length is, length-append front (x ∷ [])) in
-    some_same y x (e ∙ ap (slice_get whole) long ∙ ap (λ zs. slice_get zs (length front)) is ∙ slice_get-last front x)

@@ -42,10 +42,6 @@ last_made policy table all before entry is = elim (split_last all) [
       record { front = some.0; made = some.1; whole = some.2; before_is = both.0; entry_is = both.1 }
 ]
 
--- no pass was made of nothing
-pub none_last : (policy : Policy) (table : Table) (looks : OpenPass) → AreLast policy table [] looks
-none_last policy table looks before made e = let long = length-append before (made ∷ []) in absurd (omega (arith, ap length e, long))
-
 -- one pass more, of which these looks are
 pub last_push : (policy : Policy) (table : Table) (all : List FoundPass) (made : FoundPass) (looks : OpenPass) → IsOpenAt table (history_of policy table all) made.found looks
     → looks.count ≡ threads_of_table table → AreLast policy table (all ++ made ∷ []) looks
