@@ -12,7 +12,7 @@ use Rattle.cal_trace.proofs.RowLemmas.Readings.{kept_under}
 use Rattle.cal_trace.proofs.RowLemmas.Passes.{pass_below}
 
 -- what the rows so far have given, as arrivals
-abbrev given : SoFar → Arrivals
+abbrev pub given : SoFar → Arrivals
 given so_far = record { passes = so_far.passes; turns = so_far.turns; requests = so_far.requests }
 
 -- one more pass
@@ -78,7 +78,7 @@ fresh arrival (first ∷ requests) h =
     let p = or_parts (first.request.id == arrival.request.id) (is_given arrival.request.id requests) h in
     each_cons (λ other. HaveTwoIds other arrival) first requests (eqb-false first.request.id arrival.request.id p.0) (fresh arrival requests p.1)
 
-abbrev arrival_in : Fields → Arrival
+abbrev pub arrival_in : Fields → Arrival
 arrival_in fields = record {
   thread = number_at fields 1;
   turn = number_at fields 2;
@@ -170,7 +170,7 @@ nothing_fits threads = record {
   once = later_none HaveTwoIds;
 }
 
-whole_given : (so_far : SoFar) (arrivals : Arrivals) (ended : Bool) → (if ended then Some (given so_far) else None) ≡ Some arrivals → given so_far ≡ arrivals
+pub whole_given : (so_far : SoFar) (arrivals : Arrivals) (ended : Bool) → (if ended then Some (given so_far) else None) ≡ Some arrivals → given so_far ≡ arrivals
 whole_given so_far arrivals true e = cc
 whole_given so_far arrivals false e = absurd (cc)
 

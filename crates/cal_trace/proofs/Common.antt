@@ -38,7 +38,7 @@ pub use Rattle.cal_trace.specs.Rows.RowFields.{all_numbers, has_numbers, is_numb
 pub use Rattle.cal_trace.specs.Rows.Shown.{record_of, shown_words}
 pub use Rattle.cal_trace.specs.Rows.SoFar.{IsCounted, SoFar, add_end, add_look, add_pass, at_start, is_between, is_full, next_thread, passes_of, take_end, take_look, take_pass, whole, with_more}
 pub use Rattle.cal_trace.specs.Rows.Text.{after_first, line_of, numbered}
-pub use Rattle.cal_trace.specs.Signals.{following, last_shown, looks_in, next_look, shown_by, shown_in, signals_of, with_look}
+pub use Rattle.cal_trace.specs.Signals.{following, last_shown, looks_in, next_look, shown_by, shown_in, with_look}
 pub use Rattle.cal_trace.specs.Signals.Reading.{HasPlaces, KeepsFittingSignals, KeepsSignals, pass_at_hand, so_far}
 pub use Rattle.cal_trace.specs.declared.arrivals.Arrival.{Arrival}
 pub use Rattle.cal_trace.specs.declared.arrivals.Arrivals.{Arrivals}

@@ -2,7 +2,6 @@
 use Rattle.std.specs.Prelude.{◌≡◌, ℕ, List, Ok}
 use Rattle.cal_machine.specs.Table.{Table, IsTable}
 use Rattle.cal_machine.specs.Tasks.{threads_in}
-use Rattle.cal_policy.specs.Pass.{IsLegal}
 use Rattle.cal_policy.specs.Policies.{IsLegalBy}
 use Rattle.cal_policy.specs.declared.history.entry.PassEntry.{PassEntry}
 use Rattle.cal_policy.specs.declared.policy.Policy.{Policy}
@@ -41,13 +40,6 @@ abbrev pub LegalIsReadBackBy : Type 0
 LegalIsReadBackBy =
     (policy : Policy) (table : Table) (history : List PassEntry) → IsTable table →
     IsLegalBy policy table history → IsSized history
-    → history_of (extent_of table) (rows_of (history_text history)) ≡ Ok history
-
--- the same of Policy::Caladan
-abbrev pub LegalIsReadBack : Type 0
-LegalIsReadBack =
-    (table : Table) (history : List PassEntry) → IsTable table → IsLegal table history →
-    IsSized history
     → history_of (extent_of table) (rows_of (history_text history)) ≡ Ok history
 
 -- the text of arrivals that fit a table is read, for that table, as these arrivals

@@ -1,7 +1,7 @@
 //! Laws over the definitions alone, each the contract of a function that does nothing.
 
 ghost use Rattle.cal_trace.specs.Laws.{TextIsItsRows, TextIsReadBack, ReadIsReadBack};
-ghost use Rattle.cal_trace.specs.Laws.{LegalIsReadBack, LegalIsReadBackBy};
+ghost use Rattle.cal_trace.specs.Laws.{LegalIsReadBackBy};
 ghost use Rattle.cal_trace.specs.Laws.{ArrivalsAreReadBack, ReadArrivalsAreReadBack};
 
 /// The rows of the text of a history that is in range are the rows that it was written as.
@@ -26,13 +26,6 @@ pub fn read_is_read_back()
 pub fn legal_is_read_back_by()
     ensures { LegalIsReadBackBy }
 {}
-
-/// `legal_is_read_back_by` of `Policy::Caladan`.
-pub fn legal_is_read_back()
-    ensures { LegalIsReadBack }
-{
-    legal_is_read_back_by();
-}
 
 /// The text of arrivals that fit a table is read, for that table, as these arrivals, where a file
 /// can hold them: their clocks, bandwidth figures and ids are below 2 to the 64.

@@ -33,8 +33,8 @@ pub use history::text::{
     write_history, write_history_end, write_history_header, write_history_pass,
 };
 pub use laws::{
-    arrivals_are_read_back, legal_is_read_back, legal_is_read_back_by, read_arrivals_are_read_back,
-    read_is_read_back, text_is_its_rows, text_is_read_back,
+    arrivals_are_read_back, legal_is_read_back_by, read_arrivals_are_read_back, read_is_read_back,
+    text_is_its_rows, text_is_read_back,
 };
 pub use report::summary::{write_summary, write_tallied_summary};
 pub use report::tally::Tally;

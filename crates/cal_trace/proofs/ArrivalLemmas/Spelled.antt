@@ -1,18 +1,15 @@
 -- Fields can spell the numbers of arrivals that were read.
-use Rattle.cal_trace.proofs.Common.{◌≡◌, ◌&&◌, not, nat_lt, nat_le, ℕ, Bool, true, false, List, [], ◌∷◌, ◌++◌, length, Option, Some, None, Result, Ok, Err, codes, subst, refl, unwrap_or, if◌then◌else◌, form_of, take_row, take_form, last_in, turn_row, comes_after, is_given, is_size, arrival_row, add_turn, add_arrival, is_none_yet, rows_in, arrivals_of, HasPassWords, AreSpelled, IsWord, Fields, header_of, in_version_one, pass_row, end_row, has_numbers, number_at, Arrival, Arrivals, GivenPass, MOST_TURNS, FaultKind, MOST_PASSES}
+use Rattle.cal_trace.proofs.Common.{◌≡◌, ◌&&◌, not, nat_lt, nat_le, ℕ, List, [], ◌∷◌, ◌++◌, length, Option, Some, None, Result, Ok, Err, codes, subst, refl, unwrap_or, form_of, take_row, take_form, last_in, turn_row, comes_after, is_given, is_size, arrival_row, add_turn, add_arrival, is_none_yet, rows_in, arrivals_of, HasPassWords, AreSpelled, IsWord, Fields, header_of, in_version_one, pass_row, end_row, has_numbers, number_at, Arrival, Arrivals, GivenPass, MOST_TURNS, FaultKind, MOST_PASSES}
 use Rattle.cal_trace.specs.Arrivals.{SoFar, at_start, whole, add_pass, add_end}
 use Rattle.cal_trace.specs.declared.arrivals.reading.Form.{Form}
 use Rattle.cal_trace.specs.declared.arrivals.reading.Form.TheVariants as form
 use Rattle.cal_trace.specs.declared.fault.FaultKind.TheVariants as kind
+use Rattle.cal_trace.proofs.ArrivalsFit.{arrival_in, given, whole_given}
 use Rattle.cal_trace.proofs.ArrivalLemmas.PlainRows.{HasId}
 use Rattle.cal_trace.proofs.HistoryLemmas.ReadInRange.{word_at}
 use Rattle.cal_trace.proofs.ListLemmas.EachOne.{each_none, each_push}
 use Rattle.cal_trace.proofs.RowLemmas.Checks.{same_ok, check_one, check_two, check_three}
 use Rattle.cal_trace.proofs.RowLemmas.Readings.{kept_under}
-
--- what the rows so far have given, as arrivals
-abbrev given : SoFar → Arrivals
-given so_far = record { passes = so_far.passes; turns = so_far.turns; requests = so_far.requests }
 
 pass_words : (passes : ℕ) (fields : Fields) (pass : GivenPass) → pass_row passes fields ≡ Ok pass → HasPassWords pass
 pass_words passes fields pass e =
@@ -24,13 +21,6 @@ turn_word turns fields now e =
     let clock = number_at fields 1 in
     let c = check_two (has_numbers fields) (nat_lt (length turns) MOST_TURNS && nat_le 1 clock && nat_le (unwrap_or (last_in turns) 0) clock) kind.Number kind.Range clock now e in
     subst IsWord c.2 (word_at fields 1)
-
-abbrev arrival_in : Fields → Arrival
-arrival_in fields = record {
-  thread = number_at fields 1;
-  turn = number_at fields 2;
-  request = record { id = number_at fields 3; work = number_at fields 4; misses = number_at fields 5 };
-}
 
 id_word : (threads turns : ℕ) (last : Option Arrival) (fields : Fields) (arrival : Arrival) → arrival_row threads turns last fields ≡ Ok arrival → HasId arrival
 id_word threads turns last fields arrival e =
@@ -85,10 +75,6 @@ row_spelled threads so_far next (Some form.End) fields so e =
     let row = end_row (rows_in so_far) fields in
     let c = check_one (not so_far.ended) kind.Order (add_end so_far row) next e in
     end_spelled so_far next row so c.1
-
-whole_given : (so_far : SoFar) (arrivals : Arrivals) (ended : Bool) → (if ended then Some (given so_far) else None) ≡ Some arrivals → given so_far ≡ arrivals
-whole_given so_far arrivals true e = cc
-whole_given so_far arrivals false e = absurd (cc)
 
 -- fields can spell the numbers of the arrivals of an accepted file
 pub arrivals_spelled : (threads : ℕ) (rows : List Fields) (arrivals : Arrivals) → arrivals_of threads rows ≡ Ok arrivals → AreSpelled arrivals

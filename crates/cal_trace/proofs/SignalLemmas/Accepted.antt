@@ -1,15 +1,14 @@
 -- The signals of an accepted file fit: the checks of its rows say so.
-use Rattle.cal_trace.proofs.Common.{◌≡◌, ◌<◌, ◌≤◌, nat_lt, ℕ, Bool, true, false, not, List, [], ◌∷◌, ◌++◌, length, Option, Some, None, option_to_list, Result, Ok, Err, if◌then◌else◌, inl, inr, subst, refl, ◌∙◌, arith, length-append, codes, append-nil, take-append-le, take_all, header_of, is_possible, look_row, Fields, is_shown_after, Look, shaped_holds, follows_holds, pair_holds, SoFar, at_start, passes_of, add_pass, add_look, add_end, take_look, whole, is_full, last_shown, shown_by, with_look, following, next_look, signals_of, looks_in, FaultKind, GivenPass, LookForm, Shown, FoundLook, SignalPass, and_parts}
+use Rattle.cal_trace.proofs.Common.{◌≡◌, ◌<◌, ◌≤◌, nat_lt, ℕ, Bool, true, false, not, List, [], ◌∷◌, ◌++◌, length, Option, Some, None, option_to_list, Result, Ok, Err, if◌then◌else◌, inl, inr, subst, refl, ◌∙◌, arith, length-append, append-nil, take-append-le, take_all, is_possible, look_row, Fields, is_shown_after, Look, shaped_holds, follows_holds, pair_holds, SoFar, at_start, passes_of, add_pass, add_look, add_end, take_look, whole, is_full, last_shown, shown_by, with_look, following, next_look, looks_in, FaultKind, GivenPass, LookForm, Shown, FoundLook, SignalPass, and_parts}
 use Rattle.std.specs.Option.{unwrap_or}
 use Rattle.cal_signal.specs.declared.look.Look.TheVariants as looks
 use Rattle.cal_machine.proofs.Last.{last_or_before, slice_get-last}
 use Rattle.cal_trace.proofs.SignalLemmas.LastShown.{last_shown-silent}
-use Rattle.cal_trace.specs.Signals.{take_form, take_row, form_of, begun}
+use Rattle.cal_trace.specs.Signals.{take_form, begun}
 use Rattle.cal_trace.specs.declared.fault.FaultKind.TheVariants as kinds
 use Rattle.cal_trace.specs.declared.signals.reading.Form.{Form}
 use Rattle.cal_trace.specs.declared.signals.reading.Form.TheVariants as form
 use Rattle.cal_trace.proofs.RowLemmas.Checks.{check_one, row_look, same_ok}
-use Rattle.cal_trace.proofs.RowLemmas.Readings.{kept_under}
 use Rattle.cal_trace.specs.Signals.Fitting.{IsFitting, AreFitting, IsFittingPass, AreFittingPasses, IsHand, IsFittingSoFar}
 
 -- one look more
@@ -126,20 +125,6 @@ row_fits threads so_far next form fields fit e = fits_with_form threads so_far.b
 -- before the first row it does
 pub start_fits : (threads : ℕ) → IsFittingSoFar threads at_start
 start_fits threads = record { before = AreFittingPasses-none threads; at_hand = tt }
-
--- the passes that the rows give in the end
-fits_at_end : (threads : ℕ) (ended : Bool) (before passes : List SignalPass) → AreFittingPasses threads before → (if ended then Some before else None) ≡ Some passes
-    → AreFittingPasses threads passes
-fits_at_end threads true before passes fit e = let same : before ≡ passes = cc in subst (AreFittingPasses threads) same fit
-fits_at_end threads false before passes fit e = absurd (cc)
-
--- the signals of an accepted file fit
-pub accepted_fit : (threads : ℕ) (rows : List Fields) (passes : List SignalPass) → signals_of threads rows ≡ Ok passes → AreFittingPasses threads passes
-accepted_fit threads rows passes e =
-    kept_under (take_row threads) whole (IsFittingSoFar threads) (AreFittingPasses threads)
-    (λ version so_far next fields fit was. row_fits threads so_far next (form_of version fields) fields fit was)
-    (λ so_far passes fit is. fits_at_end threads so_far.ended so_far.before passes fit.before is)
-    at_start (header_of (codes "caladan-signals") rows) passes (start_fits threads) e
 
 -- the last of passes that fit fits those before it
 pub last_fits : (threads : ℕ) (passes : List SignalPass) (pass : SignalPass) → AreFittingPasses threads (passes ++ pass ∷ []) → IsFittingPass threads passes pass
