@@ -69,17 +69,6 @@ pub record ClosesOn (runs : List RunView) (observers watchers : List ObserverVie
   pub whole : ClosedAlong rest observers_left watchers_left senders_left → ClosedAlong runs observers watchers senders
 
 module _ {runs : List RunView} {observers watchers : List ObserverView} {senders : List SenderView} where
-  pub one_closed : (rest : List RunView) (os ws : List ObserverView) (ss : List SenderView) (run : RunView) (o w : ObserverView) (s : SenderView) →
-      ClosesOn runs observers watchers senders (run ∷ rest) (o ∷ os) (w ∷ ws) (s ∷ ss) → IsClosed run o w s → ClosesOn runs observers watchers senders rest os ws ss
-  one_closed rest os ws ss run o w s so_far its = record {
-    others = record {
-      observed = (let was = so_far.others.observed in cc);
-      watched = (let was = so_far.others.watched in cc);
-      sent = (let was = so_far.others.sent in cc);
-    };
-    whole = λ along. so_far.whole (its, along);
-  }
-
   pub all_closed : (rest : List RunView) (os ws : List ObserverView) (ss : List SenderView) → ClosesOn runs observers watchers senders rest os ws ss → rest ≡ [] → AreClosed runs observers watchers senders
   all_closed rest os ws ss so_far none =
       let P : List RunView → Type 0 = λ l. ClosedAlong l os ws ss in
