@@ -1,7 +1,5 @@
 -- What stays of a run where the figures of passes to come change.
-use Rattle.cal_paced.proofs.Common.{◌≡◌, ◌≢◌, ℕ, zero, suc, ◌+◌, ◌<◌, ◌≤◌, ⊎_elim, List, [], ◌∷◌, length, take, Some, refl, sym, ap, subst, ◌∙◌, arith, slice_get, min, set, cases_lt, length-set, slice_get_within, Table, HasPassed, FitSomeTable, HaveMade, Worker, Arrivals, GivenPass, DifferFrom, HaveLedTo, ArePaced, pass_of, Standing, Plan}
-use Rattle.cal_sched.proofs.Lists.{slice_get-set_other}
-use Rattle.cal_paced.proofs.Turning.{at-set}
+use Rattle.cal_paced.proofs.Common.{◌≡◌, ℕ, zero, suc, ◌<◌, ◌≤◌, List, [], ◌∷◌, length, take, Some, refl, sym, ap, subst, ◌∙◌, arith, slice_get, slice_get_within, Table, HasPassed, FitSomeTable, HaveMade, Worker, Arrivals, GivenPass, DifferFrom, HaveLedTo, ArePaced, pass_of, Standing, Plan}
 use Rattle.cal_sched.specs.Scheduler.{SchedulerView}
 use Rattle.cal_trace.specs.Arrivals.FitsTable.{FitsTable}
 
@@ -129,38 +127,3 @@ none-figured first figure passes = record {
   same = λ i low. refl;
   figures = λ i pass high low at. absurd (omega (arith, high, low));
 }
-
-pub one-figured : (first p figure : ℕ) (before passes : List GivenPass) (pass : GivenPass) → first ≤ p → FiguredUpTo first p figure before passes → slice_get passes p ≡ Some pass
-    → FiguredUpTo first (p + 1) figure before (set passes p (record { now = pass.now; bandwidth = figure }))
-one-figured first p figure before passes pass from so_far at = record {
-  many = length-set passes p new ∙ so_far.many;
-  clocks = λ i was is a b. ⊎_elim
-      (λ (here : (i ≡ p) × (new ≡ is)).
-      let P : ℕ → Type 0 = λ n. slice_get before n ≡ Some was in
-      ap (λ (x : GivenPass). x.now) (sym here.1) ∙ so_far.clocks p was pass (subst P here.0 a) at)
-      (λ (other : (i ≢ p) × (slice_get passes i ≡ Some is)). so_far.clocks i was is a other.1)
-      (at-set passes p i new is (slice_get_within passes p pass at) b);
-  same = λ i low. slice_get-set_other passes p i new (λ same. absurd (omega (arith, low, from, same))) ∙ so_far.same i low;
-  figures = λ i is high low b. ⊎_elim
-      (λ (here : (i ≡ p) × (new ≡ is)). ap (λ (x : GivenPass). x.bandwidth) (sym here.1))
-      (λ (other : (i ≢ p) × (slice_get passes i ≡ Some is)). ⊎_elim (λ less. so_far.figures i is high less other.1) (λ (more : p ≤ i). absurd (other.0 (omega (arith, low, more)))) (cases_lt i p))
-      (at-set passes p i new is (slice_get_within passes p pass at) b);
-}
-  where
-    new : GivenPass
-    new = record { now = pass.now; bandwidth = figure }
-
-pub figured-differ : (first p figure : ℕ) (before passes : List GivenPass) (given is : Arrivals) → FiguredUpTo first p figure before passes → before ≡ given.passes → is.passes ≡ passes
-    → is.turns ≡ given.turns → is.requests ≡ given.requests → DifferFrom first given is
-figured-differ first p figure before passes given is so_far was now turns requests =
-    let P : List GivenPass → List GivenPass → Type 0 = λ a b. FiguredUpTo first p figure a b in
-    let own : P given.passes is.passes = subst (λ (b : List GivenPass). P given.passes b) (sym now) (subst (λ (a : List GivenPass). P a passes) was so_far) in
-    record { turns = turns; requests = requests; many = own.many; clocks = own.clocks; same = own.same }
-
-pub figured-all : (first p end figure : ℕ) (before passes now : List GivenPass) → FiguredUpTo first p figure before passes → now ≡ passes → min end (length passes) ≤ p
-    → (i : ℕ) (pass : GivenPass) → first ≤ i → i < end → slice_get now i ≡ Some pass → pass.bandwidth ≡ figure
-figured-all first p end figure before passes now so_far same all i pass high low at =
-    let P : List GivenPass → Type 0 = λ l. slice_get l i ≡ Some pass in
-    let there = subst P same at in
-    let within = slice_get_within passes i pass there in
-    so_far.figures i pass high (omega (arith, within, low, all)) there

@@ -1,5 +1,5 @@
 -- The misses that the records of threads show, round by round.
-use Rattle.cal_paced.proofs.Common.{◌≡◌, ℕ, zero, suc, ◌+◌, ◌-◌, ◌<◌, ◌≤◌, Bool, Option, Some, None, List, [], ◌∷◌, ◌++◌, length, map, length-append, append-nil, refl, sym, ap, subst, ◌∙◌, arith, option_map, option_to_list, slice_index, slice_get, sum_by-cons, same_from_push, core_in_turn, does_work, provided_if, turned_if, turned_on, worked_if, KernelView, Answers, arrived, noted, shown, taken, Entry, Request, MadeNoTurn, journals_of, Worker, zero_record, Record, misses_at, HaveShown, IsShownAt, misses_of, misses_of_records, risen_before, last_record}
+use Rattle.cal_paced.proofs.Common.{◌≡◌, ℕ, zero, suc, ◌+◌, ◌-◌, ◌≤◌, Bool, Option, Some, None, List, [], ◌∷◌, ◌++◌, length, map, length-append, append-nil, refl, sym, ap, subst, ◌∙◌, arith, option_map, option_to_list, slice_index, slice_get, sum_by-cons, same_from_push, core_in_turn, does_work, provided_if, turned_if, turned_on, worked_if, KernelView, Answers, arrived, noted, shown, taken, Entry, Request, MadeNoTurn, journals_of, Worker, zero_record, Record, misses_at, HaveShown, IsShownAt, misses_of, misses_of_records, risen_before, last_record}
 use Rattle.std.proofs.lemmas.List.Elements.{filter_map-append}
 use Rattle.cal_kthread.proofs.TeamLemmas.Turns.{Kept, kept, unpublished}
 use Rattle.cal_kthread.proofs.TurnLemmas.Turns.{one-turn}
@@ -77,11 +77,6 @@ last-shown n k at =
     ∙ ap (λ (m : ℕ). slice_index (map (λ (r : Record). r.misses) (zero_record ∷ all)) m) at.count
 
 -- what comes later changes no record that was there
-early : (xs ys : List ℕ) (n : ℕ) → n < length xs → slice_index (xs ++ ys) n ≡ slice_index xs n
-early [] ys n low = absurd (omega (arith, low))
-early (x ∷ xs) ys zero low = refl
-early (x ∷ xs) ys (suc n) low = early xs ys n (omega (arith, low))
-
 page-misses : (xs : List Record) (y : Record) (n : ℕ) → n ≤ length xs
     → slice_index (map (λ (r : Record). r.misses) (page_of (xs ++ y ∷ []))) n ≡ slice_index (map (λ (r : Record). r.misses) (page_of xs)) n
 page-misses xs y n low = go zero_record xs n low

@@ -1,5 +1,5 @@
 -- Arrivals for a run by a plan, and why there are none.
-use Rattle.std.specs.Prelude.{◌≡◌, ◌*◌, ◌==◌, ℕ, Bool, List, length, not, true}
+use Rattle.std.specs.Prelude.{◌≡◌, ◌*◌, ◌==◌, Bool, List, length, not, true}
 use Rattle.std.specs.List.{list_any}
 use Rattle.cal_trace.specs.declared.arrivals.Arrival.{Arrival}
 use Rattle.cal_trace.specs.declared.arrivals.Arrivals.{Arrivals}
