@@ -176,13 +176,6 @@ stays-other list moves p action none h = record {
   same = λ c lt. h.same c lt ∙ sym (stay_push moves p action c ∙ none c (span_at moves c));
 }
 
--- one action more of a pass
-pub map-more : {X Y : Type 0} → (f : X → Y) (xs : List X) (i : ℕ) (d : X) → i < length xs
-    → map f (take (i + 1) xs) ≡ map f (take i xs) ++ f (get_or xs i d) ∷ []
-map-more f [] i d lt = absurd (omega arith)
-map-more f (x ∷ xs) zero d lt = refl
-map-more f (x ∷ xs) (suc i) d lt = rw (add-one (suc i)) (ap (λ ys. f x ∷ ys) (rw (add-one i) at (map-more f xs i d (omega arith))))
-
 -- one pass more
 pub moves-more : (p : ℕ) (history : List PassEntry) (i : ℕ) (d : PassEntry) → i < length history
     → moves_from p (take (i + 1) history) ≡ moves_from p (take i history) ++ map (made_in (p + i)) (get_or history i d).actions
