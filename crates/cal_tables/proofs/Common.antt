@@ -8,11 +8,11 @@ pub use Rattle.cal_measure.specs.declared.walk.Walk.{Walk}
 pub use Rattle.cal_policy.specs.Policies.{IsAuditBy, IsLegalBy, IsVerdictBy}
 pub use Rattle.cal_policy.specs.declared.history.entry.PassEntry.{PassEntry}
 pub use Rattle.cal_run.specs.Outcome.{IsRunBy, figures_of}
-pub use Rattle.cal_tables.specs.Asked.{Subject, asked_history, asked_in, asked_of, asked_on, asked_run, of_run}
+pub use Rattle.cal_tables.specs.Asked.{Subject, asked_history, asked_in, asked_of, asked_on, of_run}
 pub use Rattle.cal_tables.specs.Crowding.{count_in, far_of, is_left_out}
 pub use Rattle.cal_tables.specs.Measured.{AreHistoryNumbers, AreNumbersAtEnd, AreRunNumbers, IsCountedRun}
 pub use Rattle.cal_tables.specs.Moved.{AreInOrder, AreMoved, ArePlaced, AreTaken, HasItsTask, IsFirstFree, IsTaken, IsTurnOf, arrivals_in, before_turn, come_standing, coming_moved_to, comings_moved, each_moved, moved_to, order_of, own_coming, place_of, rows_below, standing, thread_for}
-pub use Rattle.cal_tables.specs.Planned.{DecidedBy, FailedBy, IsCountedBy, IsFaultBy, IsFaultOfPlan, IsRunGiven, MayGoBy, fault_of_plan}
+pub use Rattle.cal_tables.specs.Planned.{DecidedBy, FailedBy, IsFaultOfPlan, IsRunGiven, MayGoBy, fault_of_plan}
 pub use Rattle.cal_tables.specs.declared.moved.arrivals.MovedArrivals.{MovedArrivals}
 pub use Rattle.cal_tables.specs.declared.moved.placing.Placed.{Placed}
 pub use Rattle.cal_trace.proofs.ListLemmas.EachOne.{each_cons, each_first, each_none, each_other, each_push}

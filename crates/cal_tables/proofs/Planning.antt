@@ -1,6 +1,5 @@
 -- What faults say of an input that asks for a run by a plan or in lockstep.
-use Rattle.cal_tables.proofs.Common.{◌≡◌, Option, Some, None, Result, Ok, Err, refl, subst, sym, Table, IsRunBy, Arrivals, Subject, of_run, DecidedBy, FailedBy, IsFaultBy, IsFaultOfPlan, IsRunGiven, MayGoBy, fault_of_plan}
-use Rattle.cal_input.specs.Answers.{Decided}
+use Rattle.cal_tables.proofs.Common.{Option, Some, None, Result, refl, subst, sym, Table, IsRunBy, Arrivals, Subject, DecidedBy, FailedBy, IsFaultOfPlan, IsRunGiven, MayGoBy, fault_of_plan}
 use Rattle.cal_input.specs.declared.fault.RunFault.TheVariants as faults
 use Rattle.cal_input.specs.declared.fault.RunFault.{RunFault}
 use Rattle.cal_paced.specs.Planned.{IsPlanFault}
@@ -35,13 +34,6 @@ pub on_given : (plan : Option Plan) (policy : Policy) (table : Table) (arrivals 
 on_given None policy table arrivals given outcome h = subst (λ (a : Arrivals). IsRunBy policy table a outcome) (sym h.0) h.1
 on_given (Some plan) policy table arrivals given outcome h = h.1.run
 
--- the fault of the arrivals that are asked for is that of the input
-pub decided_run : (plan : Option Plan) (table : Table) (arrivals : Arrivals) (fault : PlannedFault) (asked : Result Subject RunFault)
-    → asked ≡ Ok (of_run (record { table = table; arrivals = arrivals })) → IsFaultBy plan arrivals fault → DecidedBy plan fault asked
-decided_run None table arrivals fault asked is h = subst (λ (f : PlannedFault). DecidedBy None f asked) (sym h) tt
-decided_run (Some plan) table arrivals (Run f) asked is h = subst (λ (r : RunFault). Decided r (asked ≡ Err r)) (sym h) tt
-decided_run (Some plan) table arrivals (Pace f) asked is h = rw is h
-
 -- and the fault of a run on them
 pub fault_of : (plan : Plan) (arrivals : Arrivals) (fault : PaceFault) → IsPlanFault plan arrivals fault → IsFaultOfPlan plan arrivals (fault_of_plan fault)
 fault_of plan arrivals paces.Memory h = refl
@@ -49,8 +41,3 @@ fault_of plan arrivals paces.Rows h = h
 fault_of plan arrivals paces.Passes h = h
 fault_of plan arrivals paces.NoPlan h = h
 fault_of plan arrivals paces.NoMisses h = h
-
--- memory may be refused of any run
-pub memory_by : (plan : Option Plan) (arrivals : Arrivals) → IsFaultBy plan arrivals (Run faults.Memory)
-memory_by None arrivals = refl
-memory_by (Some plan) arrivals = refl

@@ -21,7 +21,6 @@ use Rattle.cal_tables.specs.declared.moved.fault.MoveFault.TheVariants as faults
 use Rattle.cal_trace.specs.Rows.Answers as files
 use Rattle.cal_trace.specs.declared.arrivals.Arrivals.{Arrivals}
 use Rattle.cal_trace.specs.declared.comings.Comings.{Comings}
-use Rattle.cal_trace.specs.declared.fault.TraceFault.{TraceFault}
 
 -- the fault of a move for a misfit
 abbrev pub fault_of_misfit : Misfit → MoveFault

@@ -16,12 +16,6 @@ take_all : {X : Type 0} (xs : List X) → take (length xs) xs ≡ xs
 take_all [] = refl
 take_all (x ∷ xs) = ap (λ l. x ∷ l) (take_all xs)
 
-pub none_placed : (turns : ℕ) → ArePlaced turns [] []
-none_placed turns = record { same = refl; each = λ i one e. absurd (cc) }
-
-pub all_free : (free : Free) → free.thread ≡ 0 → free.turn ≡ 0 → IsFreeAfter [] free
-all_free free thread turn = record { before = λ i one t e is. absurd (cc); last = inr (thread, turn) }
-
 -- before which turn a request comes next: the free one, where that is of its thread and later
 from_free : (free : Free) (arrival : Arrival) → free.thread ≡ arrival.thread → arrival.turn < free.turn → turn_from free arrival ≡ free.turn
 from_free free arrival same lt =
