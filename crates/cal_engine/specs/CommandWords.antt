@@ -118,10 +118,6 @@ AsksBy policy explained words named = Contains (asking policy explained) (words,
 abbrev pub AsksFor : Bool → List (List ℕ) → Option Job → Type 0
 AsksFor explained words named = AsksBy None explained words named
 
--- the words after the program's name ask for this job, and for nothing else
-abbrev pub Asks : List (List ℕ) → Job → Type 0
-Asks words asked = AsksFor false words (Some asked)
-
 -- the words ask for more than one of a run's summary, its report, and its history with its table
 abbrev pub AsksTwo : Bool → List (List ℕ) → Type 0
 AsksTwo explained words = AsksFor explained words None

@@ -83,7 +83,3 @@ pub record EndsJobBy (policy : Policy) (job : Job) (status : ℕ) (input : List 
   pub answer : Result ℕ RunFault
   pub does : DoesJobBy policy job answer input old new
   pub ends : status ≡ exit_status answer
-
--- the same by Caladan's
-abbrev pub EndsJob : Job → ℕ → List ℕ → Option (List ℕ) → Option (List ℕ) → Type 0
-EndsJob job status input old new = EndsJobBy Caladan job status input old new

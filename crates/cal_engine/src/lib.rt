@@ -25,9 +25,7 @@ pub use command_words::command_line::{Asked, Job, VERSION, asked_by, words};
 pub use command_words::words_given::given_words;
 pub use jobs::answer::write_after_front;
 pub use jobs::auditing::{run_audit, run_audit_by};
-pub use jobs::deciding::{
-    decide, decide_by, decided_history, decided_history_by, decided_run, decided_run_by,
-};
+pub use jobs::deciding::{decide, decide_by, decided_history_by, decided_run_by};
 pub use jobs::front::Front;
 pub use jobs::running::{RunAnswer, run_lockstep, run_lockstep_by};
 pub use jobs::simulating::{run_sim, run_sim_by};

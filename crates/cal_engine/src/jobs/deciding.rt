@@ -9,7 +9,6 @@ ghost use Rattle.std.specs.Prelude.{◌≡◌, ◌≢◌, [], ℕ, List, Err, If
 ghost use Rattle.cal_machine.specs.Tasks.{threads_in};
 ghost use Rattle.cal_policy.specs.Book.{board_in};
 ghost use Rattle.cal_policy.specs.State.{IsReady};
-ghost use Rattle.cal_policy.specs.Pass.{IsLegal};
 ghost use Rattle.cal_policy.specs.Policies.{IsLegalBy};
 ghost use Rattle.cal_trace.specs.Rows.{rows_of};
 ghost use Rattle.cal_trace.specs.Signals.{signals_of};
@@ -84,14 +83,6 @@ fn decided_report(alloc: Global, policy: Policy, input: &[u8]) -> Result<Vec<u8>
     lines.end(&config, decider.book.board())
 }
 
-/// The history that an input's signals lead to by `Policy::Caladan`, as a file in memory. The faults
-/// are those of `decide`, in the same order, but for `Read`, `Length` and `Write`.
-pub fn decided_history(alloc: Global, input: &[u8]) -> Result<Vec<u8>, RunFault>
-    ensures { IsWhatInputSays (λ text. text.items) result (history_of (decided_run_of input.now)) }
-{
-    decided_history_by(alloc, Policy::Caladan, input)
-}
-
 /// `decided_history` by this policy.
 pub fn decided_history_by(alloc: Global, policy: Policy, input: &[u8]) -> Result<Vec<u8>, RunFault>
     ensures { IsWhatInputSays (λ text. text.items) result
@@ -100,15 +91,6 @@ pub fn decided_history_by(alloc: Global, policy: Policy, input: &[u8]) -> Result
     let mut text = HistoryText::open(alloc)?;
     decide_input(alloc, policy, input, &mut text)?;
     text.end()
-}
-
-/// The task table of an input, and the history that its signals lead to by `Policy::Caladan`.
-pub fn decided_run(alloc: Global, input: &[u8]) -> Result<(Config, Vec<PassEntry>), RunFault>
-    ensures exact { IsWhatInputSays (λ r. record { table = r.0; history = r.1.items }) result
-        (decided_run_of input.now) }
-    ensures legal { IfOk result (λ r. IsLegal r.0 r.1.items) }
-{
-    decided_run_by(alloc, Policy::Caladan, input)
 }
 
 /// `decided_run` by this policy.
