@@ -1,5 +1,5 @@
 -- A pass frees each core that was left where it begins.
-use Rattle.cal_lockstep.proofs.Common.{◌≡◌, ℕ, ◌<◌, ◌≤◌, zero, suc, true, cond, Some, List, [], ◌∷◌, ◌++◌, refl, sym, ap, subst, ◌∙◌, arith, ⊎_elim, slice_get, cases_lt, Action, Free, Policy, pass_by, Setting, so_far, kept_now}
+use Rattle.cal_lockstep.proofs.Common.{◌≡◌, ℕ, ◌<◌, zero, suc, true, cond, Some, List, [], ◌∷◌, ◌++◌, sym, ap, ◌∙◌, arith, ⊎_elim, slice_get, cases_lt, Action, Free, Policy, pass_by, Setting, so_far, kept_now}
 use Rattle.cal_policy.specs.declared.policy.Policy.TheVariants.{Caladan, Assured}
 use Rattle.cal_machine.specs.declared.task.Kind.TheVariants as kinds
 use Rattle.cal_policy.specs.History.Lists.{in_turn}

@@ -1,5 +1,5 @@
 -- A guarantee is given in lockstep: both premises on threads hold of themselves.
-use Rattle.cal_lockstep.proofs.Common.{◌≡◌, ℕ, ◌+◌, ◌<◌, ◌≤◌, Some, length, take, subst, arith, slice_get, Table, PassEntry, Arrivals, Outcome, setting_of, HeadlineOfRunsBy, GuaranteesAreGivenInLockstep, IsLockstepBy, LeftCoresAreFreedInLockstep, NeedsInLockstep, RingsHaveRoomInLockstep}
+use Rattle.cal_lockstep.proofs.Common.{◌≡◌, ℕ, ◌+◌, ◌<◌, ◌≤◌, Some, length, take, subst, arith, slice_get, Table, PassEntry, Arrivals, Outcome, setting_of, HeadlineOfRunsBy, GuaranteesAreGivenInLockstep, IsLockstepBy, LeftCoresAreFreedInLockstep, RingsHaveRoomInLockstep}
 use Rattle.cal_policy.specs.declared.policy.Policy.TheVariants.{Assured}
 use Rattle.cal_guarantee.specs.Enough.{IsShortOfCores, WaitsFromTo}
 use Rattle.cal_guarantee.specs.WholeGuarantee.{GuaranteesAreGivenWhole, granted_before}

@@ -1,5 +1,5 @@
 -- A late request is helped in lockstep: by it the task waits in both passes.
-use Rattle.cal_lockstep.proofs.Common.{◌≡◌, ℕ, ◌+◌, ◌<◌, ◌≤◌, Some, length, take, subst, arith, slice_get, Table, PassEntry, Arrivals, Outcome, setting_of, HeadlineOfRunsBy, LeftCoresAreFreedInLockstep, RingsHaveRoomInLockstep}
+use Rattle.cal_lockstep.proofs.Common.{◌≡◌, ℕ, ◌+◌, ◌≤◌, Some, take, subst, arith, slice_get, Table, PassEntry, Arrivals, Outcome, setting_of, HeadlineOfRunsBy, LeftCoresAreFreedInLockstep, RingsHaveRoomInLockstep}
 use Rattle.cal_machine.specs.TableTasks.{owner_of}
 use Rattle.cal_machine.proofs.ThreadNumbers.{task_in}
 use Rattle.cal_policy.specs.declared.policy.Policy.TheVariants.{Assured}

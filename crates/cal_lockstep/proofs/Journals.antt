@@ -1,5 +1,5 @@
 -- What a record shows of the commands that its thread took: after a Park it is on no core.
-use Rattle.cal_lockstep.proofs.Common.{◌≡◌, ℕ, ◌+◌, ◌≤◌, zero, suc, None, Some, List, [], ◌∷◌, ◌++◌, length, take, refl, sym, ap, ◌∙◌, append_assoc, arith, slice_get, Record, Entry, IsJournal, commands_of, Command, Park, PassEntry, actions_of, commands_to, sent_to, CommandsBeginAlike, RecordShowsTaken, AreFirst, IsPublication, journal_at, sent_before}
+use Rattle.cal_lockstep.proofs.Common.{◌≡◌, ℕ, ◌+◌, ◌≤◌, zero, suc, None, Some, List, [], ◌∷◌, ◌++◌, length, take, refl, sym, ap, ◌∙◌, append_assoc, arith, slice_get, Record, Entry, IsJournal, commands_of, Command, Park, PassEntry, actions_of, commands_to, CommandsBeginAlike, RecordShowsTaken, AreFirst, IsPublication, journal_at, sent_before}
 use Rattle.std.proofs.Math.Seq.{take-append_seam}
 use Rattle.std.proofs.lemmas.List.{take-take}
 use Rattle.std.proofs.Common.{length-append, take-append-drop}

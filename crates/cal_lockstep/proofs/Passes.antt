@@ -1,5 +1,5 @@
 -- One pass of a lockstep run: each ring has room, and what is being left is freed.
-use Rattle.cal_lockstep.proofs.Common.{◌≡◌, ℕ, ◌+◌, ◌<◌, ◌≤◌, zero, true, false, Some, List, [], ◌∷◌, ◌++◌, length, take, refl, sym, ap, subst, ◌∙◌, append_assoc, append-nil, arith, slice_get, unwrap_or, and_from, lt-ltb, cond, Table, threads_of_table, Record, Command, Run, Park, Policy, PassEntry, Action, Free, actions_of, holder_of, looks_of, commands_to, sent_to, IsLegalBy, pass_by, Setting, has_room, kept_now, setting_of, so_far, CommandsBeginAlike, RecordShowsTaken, EachPolicyIsPermitted, HoldersAreOfTheirLastRun, ThreadsAreSentOneCommand, IsPermittedHistory, HeadlineOfRunsBy, Outcome, Arrivals, is_leaving, IsFreedIn, IsInStep, SeesLast, has_place, sent_before, IsLockstepBy, IsLockstepPass, LeftCoresAreFreedInLockstep, RingsHaveRoomInLockstep}
+use Rattle.cal_lockstep.proofs.Common.{◌≡◌, ℕ, ◌+◌, ◌<◌, ◌≤◌, true, Some, List, [], ◌∷◌, ◌++◌, length, take, refl, sym, ap, subst, ◌∙◌, append_assoc, append-nil, arith, slice_get, unwrap_or, and_from, lt-ltb, Table, threads_of_table, Record, Run, Park, Policy, PassEntry, Action, Free, actions_of, holder_of, looks_of, commands_to, IsLegalBy, Setting, kept_now, setting_of, CommandsBeginAlike, RecordShowsTaken, EachPolicyIsPermitted, HoldersAreOfTheirLastRun, ThreadsAreSentOneCommand, IsPermittedHistory, HeadlineOfRunsBy, Outcome, Arrivals, is_leaving, IsFreedIn, SeesLast, sent_before, IsLockstepPass, LeftCoresAreFreedInLockstep, RingsHaveRoomInLockstep}
 use Rattle.std.proofs.Common.{length-append}
 use Rattle.std.proofs.lemmas.List.{length-map}
 use Rattle.std.proofs.lemmas.Bool.{le-leb, le-ltb}
@@ -12,7 +12,7 @@ use Rattle.cal_policy.specs.declared.board.holders.Placement as placements
 use Rattle.cal_policy.specs.declared.history.action.Cause.{Cause}
 use Rattle.cal_policy.specs.declared.history.look.Seen.{Seen}
 use Rattle.cal_policy.specs.declared.history.look.Seen.TheVariants.{Whole}
-use Rattle.cal_policy.specs.History.Looks.{kept_by, look_of, to_keep_at, record_to_keep}
+use Rattle.cal_policy.specs.History.Looks.{kept_by, look_of, record_to_keep}
 use Rattle.cal_policy.specs.Judgement.Judging.{judged}
 use Rattle.cal_policy.specs.Pass.Frees.{shows_left}
 use Rattle.cal_policy.specs.Board.{placement_of}

@@ -1,5 +1,5 @@
 -- In a run that is in step a thread has taken, before each pass, all that was sent to it before.
-use Rattle.cal_lockstep.proofs.Common.{◌≡◌, ℕ, ◌+◌, ◌<◌, ◌≤◌, zero, suc, Some, List, ◌++◌, length, take, refl, sym, ap, subst, ◌∙◌, arith, ⊎_elim, slice_get, unwrap_or, Table, threads_of_table, Record, Entry, PassEntry, actions_of, sent_to, IsPermittedHistory, ThreadsAreSentOneCommand, IsPublication, IsInStep, TakesNext, sent_before}
+use Rattle.cal_lockstep.proofs.Common.{◌≡◌, ℕ, ◌+◌, ◌<◌, ◌≤◌, zero, suc, List, ◌++◌, length, take, sym, ap, subst, ◌∙◌, arith, ⊎_elim, unwrap_or, Table, threads_of_table, Record, Entry, PassEntry, actions_of, sent_to, IsPermittedHistory, ThreadsAreSentOneCommand, IsPublication, IsInStep, sent_before}
 use Rattle.std.proofs.Math.Seq.{take-length}
 use Rattle.std.proofs.lemmas.Option.{slice_get_cases}
 use Rattle.cal_laws.proofs.PointLemmas.EachAction.{actions_more}
