@@ -7,7 +7,6 @@ use Rattle.cal_policy.specs.declared.history.look.Seen.{Seen}
 use Rattle.cal_policy.specs.declared.history.look.Seen.TheVariants.{Whole, Busy}
 use Rattle.cal_policy.specs.declared.history.entry.PassEntry.{PassEntry}
 use Rattle.cal_policy.specs.Judgement.Judging.{judged}
-use Rattle.cal_policy.specs.Pass.{pass_of}
 use Rattle.cal_policy.specs.Setting.{setting_of}
 use Rattle.cal_machine.specs.TableTasks.{threads_of_table}
 use Rattle.cal_guard.specs.Permitted.{ArePermitted}
@@ -15,7 +14,6 @@ use Rattle.cal_world.specs.declared.event.Event.{Event}
 use Rattle.cal_world.specs.declared.event.Event.TheVariants.{Skip, Decide}
 use Rattle.cal_world.specs.Projections.{history_in, actions_in}
 use Rattle.cal_world.specs.Looks.{looks_since}
-use Rattle.cal_world.specs.World.{IsAllowed, IsLegalList}
 use Rattle.cal_world.specs.Safe.{IsSafeEvent, IsSafeList}
 
 abbrev pub IsBusy : Seen → Type 0
@@ -57,10 +55,3 @@ PassesOnReadsAreSafe = (table : Table) (events : List Event) → IsTable table �
     (entry : PassEntry) → IsOnReads table events entry →
     ArePermitted (setting_of table (history_in events) entry) entry.actions →
     IsSafeEvent table events (Decide entry)
-
-abbrev pub PassesOnReadsAreAllowed : Type 0
-PassesOnReadsAreAllowed = (table : Table) (events : List Event) → IsTable table →
-    IsLegalList table events → AllSkipsAreBusy events →
-    (entry : PassEntry) → IsOnReads table events entry →
-    entry.actions ≡ pass_of (setting_of table (history_in events) entry) →
-    IsAllowed table events (Decide entry)

@@ -8,13 +8,12 @@ use Rattle.cal_policy.specs.declared.board.holders.Placement as placements
 use Rattle.cal_policy.specs.History.{holder_of, commands_to, is_banned}
 use Rattle.cal_policy.specs.Board.{placement_of}
 use Rattle.cal_policy.specs.Board.Counts.{booked_by}
-use Rattle.cal_policy.specs.Pass.{IsLegal}
 use Rattle.cal_machine.specs.TableTasks.{limit_of}
 use Rattle.cal_kthread.specs.Journal.{commands_of, IsJournal}
 use Rattle.cal_laws.specs.Bans.{NoneHeld}
 use Rattle.cal_laws.specs.Cause.{HasCause}
 use Rattle.cal_laws.specs.Limits.{LeavesGuarantee}
-use Rattle.cal_laws.specs.Point.{Point, IsPoint, setting_at, made_at, actions_at, next_at}
+use Rattle.cal_laws.specs.Point.{Point, setting_at, made_at, actions_at, next_at}
 use Rattle.cal_guard.specs.Permitted.{IsPermittedHistory}
 use Rattle.cal_guard.specs.Histories.{IsPermittedPoint}
 use Rattle.cal_world.specs.declared.event.Event.{Event}
@@ -24,9 +23,6 @@ use Rattle.cal_world.specs.Threads.{state_in, running_on, last_run, running_of}
 -- the passes so far are a permitted history, or the policy's own
 abbrev pub HistoryIsPermitted : Table → List Event → Type 0
 HistoryIsPermitted table events = IsPermittedHistory table (history_in events)
-
-abbrev pub HistoryIsLegal : Table → List Event → Type 0
-HistoryIsLegal table events = IsLegal table (history_in events)
 
 -- thread k holds or leaves core c of the machine, with the number of the last Run that it took
 pub record IsByItsLastRun (table : Table) (events : List Event) (k c : ℕ) : Type 0 where
@@ -74,10 +70,6 @@ pub record IsIn (table : Table) (events : List Event) (here : Point) : Type 0 wh
 -- it is a point of a permitted history, so whatever holds at each of those holds there
 abbrev pub PointsArePermitted : Table → List Event → Type 0
 PointsArePermitted table events = (here : Point) → IsIn table events here → IsPermittedPoint here
-
--- it is a point of a legal history, so whatever holds at each of those holds there
-abbrev pub PointsAreLegal : Table → List Event → Type 0
-PointsAreLegal table events = (here : Point) → IsIn table events here → IsPoint here
 
 -- at each revocation, this
 abbrev pub AtRevocations : (Point → ℕ → Cause → Type 0) → Table → List Event → Type 0

@@ -109,9 +109,6 @@ Passes why table before event = PassesBy Caladan why table before event
 abbrev pub IsAllowedBy : Policy → Table → List Event → Event → Type 0
 IsAllowedBy policy table before event = (why : Illegal) → PassesBy policy why table before event
 
-abbrev pub IsAllowed : Table → List Event → Event → Type 0
-IsAllowed table before event = IsAllowedBy Caladan table before event
-
 -- the numbers of the causes
 abbrev pub cause_number : Illegal → ℕ
 cause_number NoThread = 1
@@ -129,9 +126,6 @@ pub record IsRefusedForBy (policy : Policy) (table : Table) (before : List Event
   pub refused : PassesBy policy why table before event → ⊥
   pub least : (other : Illegal) → cause_number other < cause_number why →
       PassesBy policy other table before event
-
-abbrev pub IsRefusedFor : Table → List Event → Event → Illegal → Type 0
-IsRefusedFor table before event why = IsRefusedForBy Caladan table before event why
 
 -- a legal list of events: each is allowed after those before it
 pub record IsLegalListBy (policy : Policy) (table : Table) (events : List Event) : Type 0 where

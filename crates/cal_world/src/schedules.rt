@@ -8,13 +8,12 @@ ghost use Rattle.cal_world.specs.Policies.{LegalListsAreSafeBy, OfLegalListsBy};
 ghost use Rattle.cal_world.specs.Policies.{HistoryIsLegalBy, PointsAreLegalBy};
 ghost use Rattle.cal_world.specs.Policies.{RevocationsHaveCauseBy, PassesOnReadsAreAllowedBy};
 ghost use Rattle.cal_world.specs.Safe.{LegalListsAreSafe, OfSafeLists, OfLegalLists};
-ghost use Rattle.cal_world.specs.Schedules.{HistoryIsPermitted, HistoryIsLegal};
-ghost use Rattle.cal_world.specs.Schedules.{PointsArePermitted, PointsAreLegal, AreByTheirLastRun};
+ghost use Rattle.cal_world.specs.Schedules.{HistoryIsPermitted};
+ghost use Rattle.cal_world.specs.Schedules.{PointsArePermitted, AreByTheirLastRun};
 ghost use Rattle.cal_world.specs.Schedules.{NoCoreRunsTwo, AreWithinLimits, TakenWereSent};
 ghost use Rattle.cal_world.specs.Schedules.{AreJournals, RevocationsLeaveGuarantees};
 ghost use Rattle.cal_world.specs.Schedules.{RevocationsHaveCause, KeepsBans};
 ghost use Rattle.cal_world.specs.Reads.{ReadsAreWhole, PassesOnReadsAreSafe};
-ghost use Rattle.cal_world.specs.Reads.{PassesOnReadsAreAllowed};
 
 use cal_guard::{
     banned_are_empty_after_passes, each_policy_is_permitted, no_banned_is_granted,
@@ -51,13 +50,6 @@ pub fn histories_are_legal_by()
     ensures { OfLegalListsBy HistoryIsLegalBy }
 {}
 
-/// The passes of a legal list are a legal history: so each law of `cal_laws` holds of them.
-pub fn histories_are_legal()
-    ensures { OfLegalLists HistoryIsLegal }
-{
-    histories_are_legal_by();
-}
-
 /// Each point inside a pass of a safe list is a point of a permitted history.
 pub fn points_are_permitted()
     ensures { OfSafeLists PointsArePermitted }
@@ -70,13 +62,6 @@ pub fn points_are_legal_by()
     ensures { OfLegalListsBy PointsAreLegalBy }
 {
     histories_are_legal_by();
-}
-
-/// Each point inside a pass of a legal list is a point of a legal history.
-pub fn points_are_legal()
-    ensures { OfLegalLists PointsAreLegal }
-{
-    points_are_legal_by();
 }
 
 /// A kernel thread that runs on a core holds or leaves it, by the last Run that it took.
@@ -201,11 +186,4 @@ pub fn passes_on_reads_are_allowed_by()
     permitted_is_safe();
     action_is_one_more();
     look_is_one_more();
-}
-
-/// `passes_on_reads_are_allowed_by` of `Policy::Caladan`.
-pub fn passes_on_reads_are_allowed()
-    ensures { PassesOnReadsAreAllowed }
-{
-    passes_on_reads_are_allowed_by();
 }

@@ -27,10 +27,6 @@ all_on P x acts i ge le was = let n : i ≡ length acts = omega arith in subst P
 pub granted_first : AreGranted (replicate 256 None) []
 granted_first = record { size = length-replicate {A = Option ℕ} 256 None; each = λ c lt. get_or_same 256 c None }
 
--- what an action sends to a thread comes at the end
-sent_more : ActionIsOneMore → (x : List Action) (a : Action) (k : ℕ) (o : Option (ℕ × Command)) → sends k x a ≡ addressed_to k o → commands_to (x ++ a ∷ []) k ≡ commands_to x k ++ addressed_to k o
-sent_more more x a k o is = (more x a).commands k ∙ ap (λ cs. commands_to x k ++ cs) is
-
 -- nothing was sent
 pub sent_none : ActionIsOneMore → (sent : List Outbox) (x : List Action) (a : Action) → ((k : ℕ) → sends k x a ≡ []) → AreSent sent x → AreSent sent (x ++ a ∷ [])
 sent_none more sent x a none was k outbox at =
