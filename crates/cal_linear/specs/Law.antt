@@ -14,7 +14,7 @@ use Rattle.cal_kthread.specs.Journal.Entries.{steps_of}
 use Rattle.cal_linear.specs.Steps.{journal_at}
 use Rattle.cal_world.specs.Watches.{watches_in}
 use Rattle.cal_linear.specs.Linear.{linear, whole_looks_of}
-use Rattle.cal_linear.specs.Runs.{page_at, ArePublications, AreOfOneRun, AreOfOneRunBy, AreWatched}
+use Rattle.cal_linear.specs.Runs.{page_at, ArePublications, AreOfOneRunBy, AreWatched}
 use Rattle.cal_policy.specs.History.Found.{looks_at}
 
 -- the events are a legal list, and its projections are exactly these: the passes, of each thread
@@ -38,13 +38,6 @@ LinearIsLegalBy =
     (journals : List (List Entry)) (watched : List (List Look)) →
     AreOfOneRunBy policy table history journals → AreWatched table journals watched →
     IsLinearisedBy policy table history journals watched (linear history journals watched)
-
-abbrev pub LinearIsLegal : Type 0
-LinearIsLegal =
-    (table : Table) (history : List PassEntry)
-    (journals : List (List Entry)) (watched : List (List Look)) →
-    AreOfOneRun table history journals → AreWatched table journals watched →
-    IsLinearised table history journals watched (linear history journals watched)
 
 -- where what the passes found of each thread fits its page, their whole looks read publications
 abbrev pub FittingLooksArePublications : Type 0

@@ -15,5 +15,5 @@ mod passes;
 mod steps;
 mod watches;
 
-pub use law::{fitting_looks_are_publications, linear_is_legal, linear_is_legal_by};
+pub use law::{fitting_looks_are_publications, linear_is_legal_by};
 pub use linear::{linearise, linearise_by};
