@@ -3,7 +3,7 @@ pub use Rattle.cal_assured.proofs.KeptTaken.{OneLess, kept_taken, one_less, wait
 pub use Rattle.cal_assured.proofs.OwedTaken.{count_all, owed_taken}
 pub use Rattle.cal_assured.specs.Guarantee.{AsksOfPass, GuaranteesAreGiven, IsFreedIn, IsGiven, WasLongRevoked, is_leaving}
 pub use Rattle.cal_guarantee.specs.Enough.{FirstAndLastAreEnough, WaitsFromTo}
-pub use Rattle.cal_guarantee.specs.OnePass.{FewCoresAreKept, OpenCoresCome, OwedCoresCome, ShortLastsToTheTurn, WaitsLastToTheGrants, WaitsLastToTheTurn, owed_cores}
+pub use Rattle.cal_guarantee.specs.OnePass.{FewCoresAreKept, OpenCoresCome, OwedCoresCome, owed_cores}
 pub use Rattle.cal_guarantee.specs.WholeGuarantee.{GuaranteesAreGivenWhole, NeedsFromTo, granted_before, granted_to, grants_to, needs_at}
 pub use Rattle.cal_machine.proofs.Booleans.{some_else, some_then, unwrap_if}
 pub use Rattle.cal_machine.proofs.ThreadNumbers.{next_le, task_in, task_there}
@@ -16,7 +16,7 @@ pub use Rattle.cal_machine.specs.declared.task.Task.{Task}
 pub use Rattle.cal_policy.proofs.AssuredLemmas.Acts.{acted_more, made_are}
 pub use Rattle.cal_policy.proofs.AssuredLemmas.BooksNoMore.{AllMove, Moves, act_moves}
 pub use Rattle.cal_policy.proofs.AssuredLemmas.TurnOrder.{place_lower, tasks_placed}
-pub use Rattle.cal_policy.proofs.HistoryLemmas.OneMore.{ban_push, holder_push, last_cap_push, last_thread_push}
+pub use Rattle.cal_policy.proofs.HistoryLemmas.OneMore.{ban_push, holder_push, last_thread_push}
 pub use Rattle.cal_policy.proofs.ListLemmas.Counted.{best_ranked, count_le, count_le_one, highest_passes, lowest_passes}
 pub use Rattle.cal_policy.proofs.ListLemmas.EachAfter.{each_append, each_at, each_in_turn}
 pub use Rattle.cal_policy.proofs.PassLemmas.Fits.{held_le_booked}

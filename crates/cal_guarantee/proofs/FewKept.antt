@@ -1,25 +1,10 @@
 -- Of a short task fewer open cores are kept than are lacking.
-use Rattle.cal_guarantee.proofs.Common.{◌≡◌, ℕ, ◌<◌, ◌≤◌, Bool, true, false, not, ◌&&◌, cond, eqb, ltb, List, [], ◌∷◌, length, Option, Some, None, refl, ap, sym, ◌∙◌, arith, ⊎_elim, zero, suc, cases_lt, and_parts, and_from, eqb-false, eq-eqb, ne_eqb, ltb-true, lt-ltb, not-true, not-false, option_or, sibling_of, Table, task_at, guaranteed_of, Action, Candidate, holder_of, last_thread, comes_before, Setting, count_below, best_below, better, idle_class, owed_to, is_task, owed_below, is_short, lacks_waiting, lacking, needs, is_open, open_cores, waits_short, waits, is_kept, is_kept_for_short, may_take, open_class, owed_class, open_choice, Task}
+use Rattle.cal_guarantee.proofs.Common.{◌≡◌, ℕ, ◌<◌, ◌≤◌, Bool, true, false, not, ◌&&◌, cond, eqb, ltb, List, [], ◌∷◌, length, Option, Some, None, refl, ap, sym, ◌∙◌, arith, ⊎_elim, zero, suc, cases_lt, and_parts, and_from, eqb-false, eq-eqb, ne_eqb, ltb-true, lt-ltb, not-true, not-false, option_or, sibling_of, Table, task_at, guaranteed_of, Action, holder_of, last_thread, comes_before, Setting, count_below, best_below, idle_class, owed_to, is_task, owed_below, is_short, lacks_waiting, lacking, needs, is_open, open_cores, waits_short, waits, is_kept, is_kept_for_short, may_take, open_class, owed_class, open_choice, Task}
+use Rattle.cal_assured.proofs.OwedTaken.{best_missing}
 use Rattle.cal_guarantee.proofs.Sums.{sum_le, sum_but_one, covered, first_ones}
 use Rattle.cal_guarantee.proofs.Counts.{short_parts, lacks_short, waiting_lacks}
 
-duel_some : {X : Type 0} (b : Bool) (y z : X) → cond b (Some y) (Some z) ≡ None → ⊥
-duel_some true y z e = cc
-duel_some false y z e = cc
-
-better_none : {R : Type 0} (beats : R → R → Bool) (o : Option (Candidate R)) (r : Option R) (n : ℕ) → better beats o r n ≡ None → (o ≡ None) × (r ≡ None)
-better_none beats None None n e = (refl, refl)
-better_none beats None (Some r) n e = cc
-better_none beats (Some best) None n e = cc
-better_none beats (Some best) (Some r) n e = absurd (duel_some (beats r best.rank) (record { rank = r; number = n }) best e)
-
--- where there is no best, none has a rank
-pub best_missing : {R : Type 0} (beats : R → R → Bool) (f : ℕ → Option R) (n k : ℕ) → best_below beats f n ≡ None → k < n → f k ≡ None
-best_missing beats f zero k e lt = absurd (omega (arith, lt))
-best_missing beats f (suc n) k e lt =
-    let both = better_none beats (best_below beats f n) (f n) n e in
-    ⊎_elim (λ (l : k < n). best_missing beats f n k both.0 l) (λ (g : n ≤ k). let same : k ≡ n = omega (arith, g, lt) in rw same both.1) (cases_lt k n)
-
+-- where there is no choice there is none of either kind
 pub or_none : {X : Type 0} (o p : Option X) → option_or o p ≡ None → (o ≡ None) × (p ≡ None)
 or_none None p e = (refl, e)
 or_none (Some y) p e = cc

@@ -1,11 +1,11 @@
 -- An honest wait does not come and go.
-use Rattle.cal_guarantee.proofs.Common.{◌≡◌, ℕ, ◌+◌, ◌-◌, ◌<◌, ◌≤◌, ◌⊎◌, Bool, true, false, not, ◌&&◌, cond, eqb, ltb, List, length, Some, None, slice_get, refl, ap, sym, ◌∙◌, subst, arith, ⊎_elim, inl, inr, zero, suc, and_parts, and_from, lt-ltb, eq-eqb, is_some, Table, IsTable, owner_of, thread_of, limit_of, task_in, Action, PassEntry, Holder, holder_of, is_with, cores_of_thread, count_below, count_le, Setting, so_far, kept_now, has_room, thread_rank, thread_delay, is_untaken, is_in_flight, is_late, pressing, is_short, spare, waits, waits_short, bounded_of, waits_by}
+use Rattle.cal_guarantee.proofs.Common.{◌≡◌, ℕ, ◌+◌, ◌-◌, ◌<◌, ◌≤◌, Bool, true, false, not, ◌&&◌, cond, eqb, ltb, List, Some, None, slice_get, ap, sym, ◌∙◌, subst, arith, inl, inr, zero, suc, and_parts, and_from, lt-ltb, eq-eqb, is_some, Table, owner_of, thread_of, limit_of, task_in, Action, PassEntry, Holder, holder_of, is_with, cores_of_thread, count_below, count_le, Setting, so_far, kept_now, has_room, thread_rank, thread_delay, is_untaken, is_in_flight, is_late, is_short, waits, waits_short, bounded_of, waits_by}
 use Rattle.std.proofs.lemmas.Option.{slice_get_within}
 use Rattle.cal_signal.specs.declared.record.Record.{Record}
 use Rattle.cal_machine.specs.TableTasks.{delay_of}
 use Rattle.cal_policy.specs.declared.board.holders.Holder.TheVariants as holders
 use Rattle.cal_policy.specs.Pass.Grants.{waited}
-use Rattle.cal_guarantee.specs.Honest.{ShowsSince, WaitsHonestly, WaitsSince, HonestWaitsStay}
+use Rattle.cal_guarantee.specs.Honest.{ShowsSince, WaitsSince, HonestWaitsStay}
 use Rattle.cal_guarantee.proofs.Sums.{count_some}
 use Rattle.cal_guarantee.proofs.NoneGranted.{no_helpers_yet}
 use Rattle.cal_guarantee.proofs.Histories.{setting_in, entry_at}

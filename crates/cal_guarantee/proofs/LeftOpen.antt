@@ -1,7 +1,8 @@
 -- Nothing is kept from everybody.
-use Rattle.cal_guarantee.proofs.Common.{◌≡◌, ◌⊎◌, ℕ, ◌+◌, ◌<◌, ◌≤◌, Bool, true, false, not, ◌&&◌, cond, eqb, ltb, List, [], ◌∷◌, ◌++◌, length, Option, Some, None, refl, ap, sym, ◌∙◌, subst, arith, inl, inr, ⊎_elim, zero, suc, append-nil, cases_eq, cases_Bool, cases_lt, and_parts, and_from, and_left, eq-eqb, eqb-true, eqb-false, lt-ltb, not-true, not-false, false_from_ne_true, unwrap_or, Table, IsTable, task_at, owner_of, thread_of, limit_of, guaranteed_of, is_latency_critical, Action, Free, Unban, Ban, Revoke, Cap, Grant, CoreClass, Candidate, actions_of, class_number, booked_by, cap_of, Setting, so_far, EachAfter, IsSteady, so_far_more, best_ranked, thread_rank, owed_to, owed_below, is_short, is_open, needs, waits, waits_short, is_kept, is_kept_for, is_kept_for_short, may_take, open_choice, act_of, acts_in_place, grants_of_first, group_of, goes_before, task_in_place, place_of, bounded_of, pass_of, sum_by_push, sum_by-append, Task, last_cap_push, Moves, tasks_placed, place_lower, grants_to, granted_to}
+use Rattle.cal_guarantee.proofs.Common.{◌≡◌, ◌⊎◌, ℕ, ◌+◌, ◌<◌, ◌≤◌, Bool, true, false, not, ◌&&◌, cond, eqb, ltb, List, [], ◌∷◌, ◌++◌, length, Option, Some, None, refl, ap, sym, ◌∙◌, subst, arith, inl, inr, ⊎_elim, zero, suc, append-nil, cases_eq, cases_Bool, cases_lt, and_parts, and_from, and_left, eq-eqb, eqb-true, eqb-false, lt-ltb, not-true, not-false, false_from_ne_true, IsTable, task_at, owner_of, thread_of, limit_of, guaranteed_of, is_latency_critical, Action, Free, Unban, Ban, Revoke, Cap, Grant, CoreClass, Candidate, actions_of, class_number, booked_by, cap_of, Setting, so_far, EachAfter, IsSteady, so_far_more, best_ranked, thread_rank, owed_to, owed_below, is_short, is_open, needs, waits, waits_short, is_kept, is_kept_for, is_kept_for_short, may_take, open_choice, act_of, acts_in_place, grants_of_first, group_of, goes_before, task_in_place, place_of, bounded_of, pass_of, sum_by_push, sum_by-append, Task, Moves, tasks_placed, place_lower, grants_to, granted_to}
 use Rattle.cal_policy.specs.declared.board.holders.Placement as placements
 use Rattle.cal_policy.specs.declared.board.holders.Holder.TheVariants as holders
+use Rattle.cal_policy.proofs.AssuredLemmas.BooksNoMore.{same_cap}
 use Rattle.cal_assured.proofs.OwnTurn.{acts_first_time}
 use Rattle.cal_guarantee.specs.OpenCores.{NothingIsKeptFromEverybody}
 use Rattle.cal_guarantee.proofs.Holders.{moves_revoke, stays_ban, stays_cap}
@@ -45,15 +46,6 @@ granted_part s t n ok le =
     let more = turns_between ToAny s n (length s.table.tasks) ok le (λ k u from low e act core low_core may taken. tt) in
     let whole : granted_to s.table t (pass_of s) ≡ granted_to s.table t (up_to s n) + granted_to s.table t more.0 = ap (granted_to s.table t) more.1 ∙ sum_by-append (grants_to s.table t) (up_to s n) more.0 in
     omega (arith, whole)
-
--- the caps stay in the grants
-cap_kept : (table : Table) (x : List Action) (a : Action) (t : ℕ) → Moves x a → cap_of table (x ++ a ∷ []) t ≡ cap_of table x t
-cap_kept table x (Free core) t m = absurd m
-cap_kept table x (Unban core) t m = absurd m
-cap_kept table x (Ban core thread started) t m = absurd m
-cap_kept table x (Cap task cap) t m = absurd m
-cap_kept table x (Revoke core cause) t m = ap (λ o. unwrap_or o (limit_of table t)) (last_cap_push x (Revoke core cause) t)
-cap_kept table x (Grant core thread class) t m = ap (λ o. unwrap_or o (limit_of table t)) (last_cap_push x (Grant core thread class) t)
 
 -- either the task was granted a core, or this holds still
 abbrev Unless : Setting → ℕ → (List Action → Type 0) → List Action → Type 0
@@ -182,7 +174,7 @@ module _ (s : Setting) (ok : IsTable s.table) (steady : IsSteady s.table (action
       let x = so_far s (to_act s k v i) in
       let off = act_off k v i a when le lt_v there q acts is own.0 in
       let one = own_step_off ⊥ (ToOther u) s u (to_act s k v i) a (others u) (ungiven_step ⊥ s u (to_act s k v i) a none q) st off in
-      (same_chain s u (so_far s (up_to s m)) x (x ++ a ∷ []) own.0 one, cap_kept s.table x a u moves ∙ own.1))
+      (same_chain s u (so_far s (up_to s m)) x (x ++ a ∷ []) own.0 one, same_cap s.table x a u moves ∙ own.1))
       h
 
   -- it waits on, whatever is revoked from it
@@ -195,12 +187,12 @@ module _ (s : Setting) (ok : IsTable s.table) (steady : IsSteady s.table (action
       let x = so_far s now in
       let y = x ++ Revoke core cause ∷ [] in
       looser_waits s u x y lt
-      (looser_left s u x y core q.loser cause (moves_revoke x core cause q.loser (revoked_last s now core q st)) q.held (λ c. new_push s now (Revoke core cause) c refl) (cap_kept s.table x (Revoke core cause) u moves)) w
+      (looser_left s u x y core q.loser cause (moves_revoke x core cause q.loser (revoked_last s now core q st)) q.held (λ c. new_push s now (Revoke core cause) c refl) (same_cap s.table x (Revoke core cause) u moves)) w
   waits_step now (Grant core thread class) moves q st w =
       let x = so_far s now in
       let y = x ++ Grant core thread class ∷ [] in
       looser_waits s u x y lt
-      (looser_same s u x y (own_step_off ⊥ (ToOther u) s u now (Grant core thread class) (others u) q st tt) (cap_kept s.table x (Grant core thread class) u moves)) w
+      (looser_same s u x y (own_step_off ⊥ (ToOther u) s u now (Grant core thread class) (others u) q st tt) (same_cap s.table x (Grant core thread class) u moves)) w
 
   waits_kept : IsKeptFrom (Unless s u (λ y. waits s y u ≡ true)) s m
   waits_kept k v i a le lt_v there st moves q acts is h =

@@ -30,7 +30,6 @@ pub mod Given
 pub mod Looser
 pub mod PlacesKeep
 pub mod LeftOpen
-pub mod WaitsLast
 pub mod RunPasses
 pub mod LongRuns
 pub mod HonestWaits

@@ -1,7 +1,6 @@
 -- Where a short task that waits found nothing at its turn, no core is open once all short tasks have had
 -- theirs.
 use Rattle.cal_guarantee.proofs.Common.{◌≡◌, ℕ, ◌<◌, ◌≤◌, true, false, cond, eqb, List, [], ◌∷◌, ◌++◌, length, Option, Some, None, refl, ap, sym, ◌∙◌, subst, arith, ⊎_elim, suc, cases_lt, and_parts, eqb-true, ne_eqb, unwrap_if, IsTable, Action, Free, Unban, Ban, Revoke, Cap, Grant, actions_of, holder_of, placed, is_free, booked_by, Setting, so_far, EachAfter, IsSteady, owed_to, is_task, owed_below, new_helpers, is_short, is_open, needs, waits_short, open_choice, task_in_place, place_of, grants_of_first, bounded_of, tasks_placed, owed_taken, kept_taken}
-use Rattle.cal_policy.specs.declared.board.holders.Holder.TheVariants as holders
 use Rattle.cal_assured.specs.Laws.{is_open_for, owed_open, after_turn}
 use Rattle.cal_guarantee.proofs.Sums.{first_ones}
 use Rattle.cal_guarantee.proofs.Holders.{moves_grant, owed_push}

@@ -7,7 +7,7 @@ use Rattle.cal_guarantee.proofs.Sums.{some_counted}
 use Rattle.cal_guarantee.proofs.Holders.{Stays, moves_revoke, moves_grant, stays_unban, stays_ban, stays_cap}
 use Rattle.cal_guarantee.proofs.Steps.{IsStep, held_of}
 use Rattle.cal_guarantee.proofs.Counts.{books_stay, books_left, short_parts}
-use Rattle.cal_guarantee.proofs.FewKept.{best_missing}
+use Rattle.cal_assured.proofs.OwedTaken.{best_missing}
 use Rattle.cal_guarantee.proofs.KeptAlong.{AreShort, along_acts, steady_step, revoked_last, grant_one, grant_owner}
 use Rattle.cal_guarantee.proofs.NoneGranted.{granted_push, none_granted}
 use Rattle.cal_guarantee.proofs.Calm.{IsCalm}

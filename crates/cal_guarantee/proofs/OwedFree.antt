@@ -1,5 +1,5 @@
 -- A core that is owed to a task is free.
-use Rattle.cal_guarantee.proofs.Common.{◌≡◌, ℕ, Bool, true, false, cond, eqb, List, [], ◌∷◌, ◌++◌, Option, Some, None, refl, ap, sym, ◌∙◌, eqb-true, unwrap_if, Action, Free, Unban, Ban, Revoke, Cap, Grant, Holder, holder_of, last_placement, left_by, placed, EachAfter, holder_push, owed_to, is_task, left_for}
+use Rattle.cal_guarantee.proofs.Common.{◌≡◌, ℕ, Bool, true, false, cond, eqb, List, [], ◌∷◌, ◌++◌, Option, Some, None, refl, sym, ◌∙◌, unwrap_if, Action, Free, Unban, Ban, Revoke, Cap, Grant, Holder, holder_of, last_placement, left_by, placed, EachAfter, holder_push, owed_to, left_for}
 use Rattle.cal_policy.specs.declared.board.holders.Holder.TheVariants as holders
 use Rattle.cal_guarantee.proofs.Holders.{owed_push}
 use Rattle.cal_guarantee.proofs.KeptAlong.{along_acts}
@@ -40,7 +40,3 @@ each_any before (x ∷ xs) = (tt, each_any (before ++ x ∷ []) xs)
 pub owed_free : (x : List Action) → OwedAreFree x
 owed_free x = along_acts (λ (acts : List Action) (a : Action). Unit {0}) OwedAreFree (λ acts a q was. owed_free_step acts a was) [] x (each_any [] x)
     (λ c u e. refl)
-
-pub task_some : (t : ℕ) (o : Option ℕ) → is_task t o ≡ true → o ≡ Some t
-task_some t None e = cc
-task_some t (Some u) e = ap (λ n. Some n) (eqb-true u t e)

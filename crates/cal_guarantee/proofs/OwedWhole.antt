@@ -1,6 +1,5 @@
 -- Of the cores that are owed to a short task that waits it is granted as many as it needs, or all of them.
 use Rattle.cal_guarantee.proofs.Common.{◌≡◌, ℕ, ◌+◌, ◌<◌, ◌≤◌, ◌⊎◌, Bool, true, false, not, ◌&&◌, cond, eqb, ltb, List, [], ◌∷◌, ◌++◌, length, Option, Some, None, refl, ap, sym, ◌∙◌, subst, arith, inl, inr, ⊎_elim, zero, suc, cases_eq, cases_lt, and_parts, and_from, ne_eqb, eq-eqb, eqb-true, ltb-false, false_from_ne_true, unwrap_if, IsTable, Action, Free, Unban, Ban, Revoke, Cap, Grant, actions_of, holder_of, is_banned, is_free, Setting, so_far, frees, IsSteady, count_below, count_le, count_le_one, so_far_more, unbans, owed_to, is_task, owed_below, is_short, is_open, needs, are_lacked, waits, waits_short, is_kept, is_kept_for, is_kept_for_short, unbanned_of, bounded_of, min, sum_by_push, owed_taken, owed_cores, grants_to, granted_to, needs_at}
-use Rattle.cal_policy.specs.declared.board.holders.Holder.TheVariants as holders
 use Rattle.cal_assured.specs.Laws.{is_open_for, owed_open}
 use Rattle.cal_guarantee.proofs.Sums.{count_same, none_counts}
 use Rattle.cal_guarantee.proofs.Holders.{owed_push}
@@ -12,7 +11,8 @@ use Rattle.cal_guarantee.proofs.KeptAlong.{NoGrant, NotTo, AreShort, AreEnough, 
 use Rattle.cal_guarantee.proofs.Unbanned.{NoneBannedBelow, after_unbans}
 use Rattle.cal_guarantee.proofs.PassTurns.{before_turn, with_turn, freed_needs, to_turn, turn_late, ToShortOther, short_others, never_granted, freed_steady, freed_waits, unbanned_state, turn_steps}
 use Rattle.cal_guarantee.proofs.NoneOpen.{owed_off, revoked_off}
-use Rattle.cal_guarantee.proofs.OwedFree.{owed_free, task_some}
+use Rattle.cal_assured.proofs.OwedTaken.{task_some}
+use Rattle.cal_guarantee.proofs.OwedFree.{owed_free}
 use Rattle.cal_guarantee.proofs.TurnKeeps.{ToShortSelf, IsKeptByActs, turn_keeps}
 use Rattle.cal_guarantee.proofs.TurnEnds.{short_there, turn_begins, waits_still, none_open_still}
 

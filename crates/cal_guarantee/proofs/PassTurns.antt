@@ -287,11 +287,3 @@ module _ (s : Setting) (t : ℕ) (ok : IsTable s.table) (lt : t < length s.table
       let P : List Action → Type 0 = λ now. EachAfter (IsStep (Unit {0}) (ToShortOther s t) s) now first in
       each_append (IsStep (Unit {0}) (ToShortOther s t) s) (frees s []) (middle_of s) first (middle_steps (ToShortOther s t) s ok)
       (subst P (bounded_middle s) (first_steps (Unit {0})))
-
-  -- at the turn
-  pub turn_state : IsSteady s.table (so_far s (before_turn s t)) × (waits_short s (so_far s (before_turn s t)) t ≡ true)
-  turn_state =
-      let P : List Action → Type 0 = λ now. IsSteady s.table (so_far s now) × (waits_short s (so_far s now) t ≡ true) in
-      let end = with_along (Unit {0}) (ToShortOther s t) s t (λ x. Unit {0}) lt (short_others s t) (λ now a q st w was. tt) (unbanned_of s) (to_turn s t) turn_steps
-      unbanned_state.0 unbanned_state.1 tt in
-      subst P (sym (turn_late s t)) (end.0, end.1)

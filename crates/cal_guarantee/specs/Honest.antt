@@ -1,6 +1,6 @@
 -- An honest wait does not come and go: a late thread that shows the same request still is late, so that its
 -- task waits in each pass in which it is short.
-use Rattle.std.specs.Prelude.{◌≡◌, ◌⊎◌, ℕ, ◌+◌, ◌<◌, ◌≤◌, true, List, length, take, Some, slice_get}
+use Rattle.std.specs.Prelude.{◌≡◌, ◌⊎◌, ℕ, ◌+◌, ◌<◌, ◌≤◌, true, List, take, Some, slice_get}
 use Rattle.cal_signal.specs.declared.record.Record.{Record}
 use Rattle.cal_machine.specs.Table.{Table, IsTable}
 use Rattle.cal_machine.specs.TableTasks.{owner_of, delay_of, threads_of_table}

@@ -1,13 +1,12 @@
--- One pass: who is short and waits does so up to its own turn, and how cores come to it.
-use Rattle.std.specs.Prelude.{◌≡◌, ◌↔◌, ℕ, ◌<◌, ◌≤◌, min, true, List, [], length, None}
+-- One pass: how cores come to a short task that waits.
+use Rattle.std.specs.Prelude.{◌≡◌, ℕ, ◌<◌, ◌≤◌, min, true, List, [], length, None}
 use Rattle.cal_machine.specs.Table.{IsTable}
 use Rattle.cal_policy.specs.declared.history.action.Action.{Action}
 use Rattle.cal_policy.specs.Pass.Frees.{frees}
 use Rattle.cal_policy.specs.Setting.{Setting, so_far}
-use Rattle.cal_assured.specs.Laws.{made_before_turn}
 use Rattle.cal_policy.specs.Assured.Owed.{owed_below}
 use Rattle.cal_policy.specs.Assured.Pass.{unbanned_of, bounded_of, pass_of, IsLegal}
-use Rattle.cal_policy.specs.Assured.Short.{is_short, lacking, open_cores, waits_short}
+use Rattle.cal_policy.specs.Assured.Short.{lacking, open_cores, waits_short}
 use Rattle.cal_policy.specs.Assured.Taking.{open_choice}
 use Rattle.cal_guarantee.specs.WholeGuarantee.{granted_to, needs_at}
 
@@ -22,23 +21,6 @@ pub record IsWaiting (s : Setting) (t : ℕ) : Type 0 where
   pub legal : IsLegal s.table s.history
   pub own : t < length s.table.tasks
   pub waiting : waits_short s (so_far s (bounded_of s)) t ≡ true
-
--- whether a task is short is the same after the first part of a pass and at its turn
-abbrev pub ShortLastsToTheTurn : Type 0
-ShortLastsToTheTurn = (s : Setting) (u : ℕ) → IsTable s.table → IsLegal s.table s.history →
-    u < length s.table.tasks →
-    is_short s.table (so_far s (made_before_turn s u)) u ≡ is_short s.table (so_far s (frees s [])) u
-
--- a task is short and waits after the first part of a pass exactly if it does where the grants begin
-abbrev pub WaitsLastToTheGrants : Type 0
-WaitsLastToTheGrants = (s : Setting) (t : ℕ) → IsTable s.table → IsLegal s.table s.history →
-    t < length s.table.tasks →
-    (waits_short s (so_far s (frees s [])) t ≡ true) ↔ (waits_short s (so_far s (bounded_of s)) t ≡ true)
-
--- and then it does at its turn
-abbrev pub WaitsLastToTheTurn : Type 0
-WaitsLastToTheTurn = (s : Setting) (t : ℕ) → IsWaiting s t →
-    waits_short s (so_far s (made_before_turn s t)) t ≡ true
 
 -- where as many cores are open as are lacking after the second part, the pass grants it as many as it
 -- needs

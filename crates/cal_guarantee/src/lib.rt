@@ -19,5 +19,4 @@ pub use guarantee::{
 };
 pub use one_pass::{
     few_cores_are_kept, nothing_is_kept_from_everybody, open_cores_come, owed_cores_come,
-    short_lasts_to_the_turn, waits_last_to_the_grants, waits_last_to_the_turn,
 };

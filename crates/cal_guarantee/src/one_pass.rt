@@ -1,25 +1,7 @@
-//! One pass: a short task that waits does so up to its own turn; and how cores come to it.
+//! One pass: how cores come to a short task that waits.
 
-ghost use Rattle.cal_guarantee.specs.OnePass.{ShortLastsToTheTurn, WaitsLastToTheGrants};
-ghost use Rattle.cal_guarantee.specs.OnePass.{WaitsLastToTheTurn, FewCoresAreKept};
-ghost use Rattle.cal_guarantee.specs.OnePass.{OpenCoresCome, OwedCoresCome};
+ghost use Rattle.cal_guarantee.specs.OnePass.{FewCoresAreKept, OpenCoresCome, OwedCoresCome};
 ghost use Rattle.cal_guarantee.specs.OpenCores.{NothingIsKeptFromEverybody};
-
-/// Whether a task is short is the same after the first part of a pass and at its own turn.
-pub fn short_lasts_to_the_turn()
-    ensures { ShortLastsToTheTurn }
-{}
-
-/// A task is short and waits after the first part of a pass exactly if it does where the grants
-/// begin: between them only tasks that hold more than they are guaranteed lose cores.
-pub fn waits_last_to_the_grants()
-    ensures { WaitsLastToTheGrants }
-{}
-
-/// A task that is short and waits where the grants begin does so at its own turn.
-pub fn waits_last_to_the_turn()
-    ensures { WaitsLastToTheTurn }
-{}
 
 /// If a short task that waits may take no open core, then fewer cores are open than are lacking: of
 /// each other short task that waits, at most as many are kept from it as that one lacks.
