@@ -83,7 +83,8 @@ fn decided_report(alloc: Global, policy: Policy, input: &[u8]) -> Result<Vec<u8>
     lines.end(&config, decider.book.board())
 }
 
-/// `decided_history` by this policy.
+/// The history that an input's signals lead to by this policy, as a file in memory. The faults are
+/// those of `decide`, in the same order, but for `Read`, `Length` and `Write`.
 pub fn decided_history_by(alloc: Global, policy: Policy, input: &[u8]) -> Result<Vec<u8>, RunFault>
     ensures { IsWhatInputSays (λ text. text.items) result
         (history_of (decided_run_by policy input.now)) }
@@ -93,7 +94,7 @@ pub fn decided_history_by(alloc: Global, policy: Policy, input: &[u8]) -> Result
     text.end()
 }
 
-/// `decided_run` by this policy.
+/// The task table of an input, and the history that its signals lead to by this policy.
 pub fn decided_run_by(
     alloc: Global,
     policy: Policy,
