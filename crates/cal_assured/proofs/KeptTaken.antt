@@ -1,5 +1,5 @@
 -- A short task takes all open cores that are owed to it, where they are no more than it needs.
-use Rattle.cal_assured.proofs.Common.{◌≡◌, ℕ, ◌+◌, ◌-◌, ◌<◌, ◌≤◌, ◌⊎◌, zero, suc, Bool, true, false, not, ◌&&◌, ◌||◌, cond, eqb, ltb, List, [], ◌∷◌, ◌++◌, Option, Some, None, inl, inr, refl, sym, ap, ◌∙◌, arith, subst, append_assoc, append-nil, ⊎_elim, All, is_some, and_parts, and_from, eq-eqb, ne_eqb, ltb-true, lt-ltb, cases_lt, cases_eq, IsTable, IsTask, thread_of, limit_of, guaranteed_of, is_latency_critical, unwrap_if, Action, Grant, holder_of, last_thread, placed, is_banned, is_free, is_with, is_booked_for, booked_by, cap_of, count_below, thread_choice, thread_rank, thread_delay, may_book, is_granted_in, Setting, so_far, kept_now, has_room, act_of, acts_in_place, is_untaken, is_in_flight, is_late, presses, pressing, made_now, is_new_in_flight, helps_newly, new_helpers, owed_to, is_task, is_short, lacks, is_open, surplus, waits, spare, needs, made_are, holder_push, last_thread_push, count_le, count_le_one, so_far_push, is_open_for, owed_open, KeptCoresAreTaken}
+use Rattle.cal_assured.proofs.Common.{◌≡◌, ℕ, ◌+◌, ◌-◌, ◌<◌, ◌≤◌, ◌⊎◌, zero, suc, Bool, true, false, not, ◌&&◌, ◌||◌, cond, eqb, ltb, List, [], ◌∷◌, ◌++◌, Option, Some, None, inl, inr, refl, sym, ap, ◌∙◌, arith, subst, append_assoc, append-nil, ⊎_elim, All, is_some, and_parts, and_from, eq-eqb, ne_eqb, ltb-true, lt-ltb, cases_lt, cases_eq, IsTable, IsTask, thread_of, limit_of, guaranteed_of, is_latency_critical, Action, Grant, holder_of, last_thread, placed, is_banned, is_free, is_with, is_booked_for, booked_by, cap_of, count_below, thread_choice, thread_rank, thread_delay, may_book, is_granted_in, Setting, so_far, kept_now, has_room, act_of, acts_in_place, is_untaken, is_in_flight, is_late, presses, pressing, made_now, is_new_in_flight, helps_newly, new_helpers, owed_to, is_task, is_short, lacks, is_open, surplus, waits, spare, needs, made_are, last_thread_push, count_le, count_le_one, so_far_push, is_open_for, owed_open, KeptCoresAreTaken}
 use Rattle.std.proofs.Math.Bool.{and-false}
 use Rattle.std.proofs.lemmas.List.Elements.{All-head, All-tail}
 use Rattle.cal_machine.specs.Tasks.{task_at}
@@ -9,19 +9,14 @@ use Rattle.cal_policy.specs.declared.board.holders.Holder.{Holder}
 use Rattle.cal_policy.specs.declared.board.holders.Holder.TheVariants as holders
 use Rattle.cal_policy.proofs.AssuredLemmas.BooksNoMore.{act_moves, same_number}
 use Rattle.cal_policy.proofs.ListLemmas.OneMore.{some_if}
-use Rattle.cal_assured.proofs.OwedTaken.{TakesOne, act_keeps, found, best_missing, takes_one, takes_less, count_all, counted_none}
+use Rattle.cal_assured.proofs.OwedTaken.{TakesOne, act_keeps, found, best_missing, takes_one, takes_less, counted_none}
+use Rattle.cal_policy.proofs.ListLemmas.OneNumberMore.{count_at_most as count_all}
+use Rattle.cal_laws.proofs.ChoiceLemmas.Idle.{free_holder as free_is}
+use Rattle.cal_policy.proofs.PassLemmas.Steady.{granted_holder}
 
 count_eq : (p q : ℕ → Bool) (n : ℕ) → ((c : ℕ) → c < n → p c ≡ q c) → count_below p n ≡ count_below q n
 count_eq p q zero e = refl
 count_eq p q (suc n) e = ap (λ m. m + cond (p n) 1 0) (count_eq p q n (λ c lt. e c (omega (arith, lt)))) ∙ ap (λ b. count_below q n + cond b 1 0) (e n (omega arith))
-
-free_is : (h : Holder) → is_free h ≡ true → h ≡ holders.Free
-free_is holders.Free e = refl
-free_is (holders.Held p) e = cc
-free_is (holders.Leaving p cause) e = cc
-
-granted_holder : (x : List Action) (core k class c : ℕ) → holder_of (x ++ Grant core k class ∷ []) c ≡ cond (eqb core c) (holders.Held (placed x k)) (holder_of x c)
-granted_holder x core k class c = holder_push x (Grant core k class) c ∙ unwrap_if (eqb core c) (holders.Held (placed x k)) (holder_of x c)
 
 -- a test that neither a free core nor the one that is granted passes is as it was
 other_same : (f : Holder → Bool) (x : List Action) (core k class : ℕ) → is_free (holder_of x core) ≡ true → f holders.Free ≡ false → f (holders.Held (placed x k)) ≡ false →

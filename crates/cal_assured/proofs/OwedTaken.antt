@@ -8,6 +8,7 @@ use Rattle.cal_policy.proofs.AssuredLemmas.BooksNoMore.{Moves, AllMove, act_move
 use Rattle.cal_policy.proofs.AssuredLemmas.Done.{open_taken}
 use Rattle.cal_policy.proofs.AssuredLemmas.Room.{left_after, revoked_to}
 use Rattle.cal_policy.proofs.BoardLemmas.DebtsKept.{owed_push}
+use Rattle.cal_policy.proofs.ListLemmas.OneNumberMore.{count_at_most as count_all}
 
 -- a core that is granted is open no more
 grant_shuts : (x : List Action) (core thread class c : ℕ) → is_open (x ++ Grant core thread class ∷ []) c ≡ cond (eqb core c) false (is_open x c)
@@ -249,14 +250,6 @@ taken_to s acts t (suc n) e =
     let wait_before = and_from (is_short s.table (so_far s now) t) (waits s (so_far s now) t) before.0 before.1 in
     let R : List Action → Type 0 = λ l. (owed_open s.table t (so_far s l) ≡ 0) ⊎ (owed_open s.table t (so_far s l) + suc n ≤ owed_open s.table t (so_far s acts)) in
     subst R (sym whole) (one_more s now t n (owed_open s.table t (so_far s acts)) before (taken_to s acts t n wait_before))
-
-pub count_all : (p : ℕ → Bool) (n : ℕ) → count_below p n ≤ n
-count_all p zero = omega arith
-count_all p (suc n) = by_last (p n) refl (count_all p n)
-  where
-    by_last : (b : Bool) → p n ≡ b → count_below p n ≤ n → count_below p (suc n) ≤ suc n
-    by_last true e all = let more : count_below p (suc n) ≡ count_below p n + 1 = ap (λ b. count_below p n + cond b 1 0) e in omega (arith, more, all)
-    by_last false e all = let more : count_below p (suc n) ≡ count_below p n + 0 = ap (λ b. count_below p n + cond b 1 0) e in omega (arith, more, all)
 
 pub counted_none : (p : ℕ → Bool) (n k : ℕ) → count_below p n ≡ 0 → k < n → p k ≡ false
 counted_none p zero k e lt = absurd (omega (arith, lt))

@@ -1,6 +1,6 @@
 -- The names from outside these proofs that several of them cite, passed on from one place. Declares nothing.
 pub use Rattle.cal_assured.proofs.KeptTaken.{OneLess, kept_taken, one_less, waits_by}
-pub use Rattle.cal_assured.proofs.OwedTaken.{count_all, owed_taken}
+pub use Rattle.cal_assured.proofs.OwedTaken.{owed_taken}
 pub use Rattle.cal_assured.specs.Guarantee.{AsksOfPass, GuaranteesAreGiven, IsFreedIn, IsGiven, WasLongRevoked, is_leaving}
 pub use Rattle.cal_guarantee.specs.Enough.{FirstAndLastAreEnough, WaitsFromTo}
 pub use Rattle.cal_guarantee.specs.OnePass.{FewCoresAreKept, OpenCoresCome, OwedCoresCome, owed_cores}
@@ -36,7 +36,7 @@ pub use Rattle.cal_policy.specs.Board.Counts.{booked_by, cap_of, cores_of_thread
 pub use Rattle.cal_policy.specs.History.{actions_of, ban_of, holder_of, is_banned, last_placement, last_thread, left_by, looks_of, placed, thread_granted}
 pub use Rattle.cal_policy.specs.History.CoreClasses.{class_number, comes_before, is_idle}
 pub use Rattle.cal_policy.specs.History.Lists.{in_turn, last_of}
-pub use Rattle.cal_policy.specs.Pass.Choice.{best_below, better, count_below, sum_below}
+pub use Rattle.cal_policy.specs.Pass.Choice.{best_below, count_below, sum_below}
 pub use Rattle.cal_policy.specs.Pass.Frees.{free_at, frees, shows_left}
 pub use Rattle.cal_policy.specs.Pass.Grants.{grant_of, idle_class, is_granted_in, is_thread_for, leaves_for, may_book, preempt_class, thread_choice, thread_delay, thread_rank}
 pub use Rattle.cal_policy.specs.Pass.Made.{EachAfter}

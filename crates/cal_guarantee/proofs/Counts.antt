@@ -1,9 +1,10 @@
 -- What one more action does to what tasks book and lack, and to the open cores.
-use Rattle.cal_guarantee.proofs.Common.{◌≡◌, ℕ, ◌+◌, ◌-◌, ◌<◌, ◌≤◌, ◌⊎◌, Bool, true, false, not, ◌&&◌, cond, eqb, ltb, List, [], ◌∷◌, ◌++◌, length, Some, None, refl, ap, sym, ◌∙◌, arith, inl, inr, subst, zero, suc, ⊎_elim, cases_eq, cases_lt, and_parts, and_from, and_left, and_right, eq-eqb, ne_eqb, ltb-true, ltb-false, lt-ltb, le-ltb, not-true, is_some, unwrap_or, Table, owner_of, guaranteed_of, is_latency_critical, Action, Unban, Ban, Revoke, Cap, Grant, Holder, holder_of, ban_of, is_banned, last_placement, placed, is_free, is_booked_for, booked_by, sum_below, Setting, holder_push, ban_push, count_le, count_le_one, is_short, lacks, lacks_waiting, lacking, is_open, open_cores, waits, Cause}
+use Rattle.cal_guarantee.proofs.Common.{◌≡◌, ℕ, ◌+◌, ◌-◌, ◌<◌, ◌≤◌, ◌⊎◌, Bool, true, false, not, ◌&&◌, cond, eqb, ltb, List, [], ◌∷◌, ◌++◌, length, Some, None, refl, ap, sym, ◌∙◌, arith, inl, inr, subst, zero, suc, ⊎_elim, cases_eq, cases_lt, and_parts, and_from, and_left, and_right, eq-eqb, ne_eqb, ltb-true, ltb-false, lt-ltb, le-ltb, not-true, is_some, unwrap_or, Table, owner_of, guaranteed_of, is_latency_critical, Action, Unban, Ban, Revoke, Cap, Grant, holder_of, ban_of, is_banned, last_placement, placed, is_free, is_booked_for, booked_by, sum_below, Setting, holder_push, ban_push, count_le, count_le_one, is_short, lacks, lacks_waiting, lacking, is_open, open_cores, waits, Cause}
 use Rattle.cal_policy.specs.declared.board.holders.Placement as placements
 use Rattle.cal_policy.specs.declared.board.holders.Holder.TheVariants as holders
 use Rattle.cal_guarantee.proofs.Sums.{one_if, sum_le, count_same, count_but_one}
 use Rattle.cal_guarantee.proofs.Holders.{Moves, Stays, moved_count, moved_same, stays_same, moves_revoke, moves_grant}
+use Rattle.cal_policy.proofs.AssuredLemmas.BooksNoMore.{free_books_none as booked_none}
 
 -- each task books as many cores after y as after x
 pub record KeepsBooks (table : Table) (x y : List Action) : Type 0 where
@@ -59,11 +60,6 @@ lacks_none table x t e = ap (λ b. cond b (guaranteed_of table t - booked_by tab
 pub record IsOneMore (table : Table) (x y : List Action) (u : ℕ) : Type 0 where
   pub books : booked_by table y u ≡ booked_by table x u + 1
   pub others : (w : ℕ) → (w ≡ u → ⊥) → booked_by table y w ≡ booked_by table x w
-
-pub booked_none : (table : Table) (u : ℕ) (h : Holder) → is_free h ≡ true → is_booked_for table u h ≡ false
-booked_none table u holders.Free e = refl
-booked_none table u (holders.Held p) e = cc
-booked_none table u (holders.Leaving p cause) e = cc
 
 pub books_granted : (table : Table) (x : List Action) (core thread class : ℕ) → core < table.cores → is_free (holder_of x core) ≡ true →
     IsOneMore table x (x ++ Grant core thread class ∷ []) (owner_of table thread)

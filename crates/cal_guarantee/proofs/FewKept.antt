@@ -1,13 +1,9 @@
 -- Of a short task fewer open cores are kept than are lacking.
-use Rattle.cal_guarantee.proofs.Common.{◌≡◌, ℕ, ◌<◌, ◌≤◌, Bool, true, false, not, ◌&&◌, cond, eqb, ltb, List, [], ◌∷◌, length, Option, Some, None, refl, ap, sym, ◌∙◌, arith, ⊎_elim, zero, suc, cases_lt, and_parts, and_from, eqb-false, eq-eqb, ne_eqb, ltb-true, lt-ltb, not-true, not-false, option_or, sibling_of, Table, task_at, guaranteed_of, Action, holder_of, last_thread, comes_before, Setting, count_below, best_below, idle_class, owed_to, is_task, owed_below, is_short, lacks_waiting, lacking, needs, is_open, open_cores, waits_short, waits, is_kept, is_kept_for_short, may_take, open_class, owed_class, open_choice, Task}
+use Rattle.cal_guarantee.proofs.Common.{◌≡◌, ℕ, ◌<◌, ◌≤◌, Bool, true, false, not, ◌&&◌, cond, eqb, ltb, List, [], ◌∷◌, length, Option, Some, None, refl, ap, sym, ◌∙◌, arith, ⊎_elim, zero, suc, cases_lt, and_parts, and_from, eqb-false, eq-eqb, ne_eqb, ltb-true, lt-ltb, not-true, not-false, sibling_of, Table, task_at, guaranteed_of, Action, holder_of, last_thread, comes_before, Setting, count_below, best_below, idle_class, owed_to, is_task, owed_below, is_short, lacks_waiting, lacking, needs, is_open, open_cores, waits_short, waits, is_kept, is_kept_for_short, may_take, open_class, owed_class, open_choice, Task}
 use Rattle.cal_assured.proofs.OwedTaken.{best_missing}
 use Rattle.cal_guarantee.proofs.Sums.{sum_le, sum_but_one, covered, first_ones}
 use Rattle.cal_guarantee.proofs.Counts.{short_parts, lacks_short, waiting_lacks}
-
--- where there is no choice there is none of either kind
-pub or_none : {X : Type 0} (o p : Option X) → option_or o p ≡ None → (o ≡ None) × (p ≡ None)
-or_none None p e = (refl, e)
-or_none (Some y) p e = cc
+use Rattle.cal_policy.proofs.AssuredLemmas.BooksNoMore.{or_none_parts as or_none}
 
 none_then : {X : Type 0} (b : Bool) (y : X) → cond b (Some y) None ≡ None → b ≡ false
 none_then true y e = cc

@@ -2,7 +2,8 @@
 use Rattle.cal_guarantee.proofs.Common.{◌≡◌, ℕ, ◌<◌, ◌≤◌, ◌⊎◌, Bool, true, false, ◌&&◌, cond, eqb, ltb, List, [], ◌∷◌, ◌++◌, refl, ap, sym, ◌∙◌, subst, arith, inl, inr, ⊎_elim, zero, suc, append-nil, cases_eq, cases_lt, eq-eqb, ne_eqb, lt-ltb, le-ltb, unwrap_if, Action, Free, Unban, Ban, Revoke, Cap, Grant, actions_of, holder_of, in_turn, Setting, so_far, kept_now, shows_left, free_at, frees, EachAfter, IsSteady, holder_push, so_far_more, Steady_shrinks, Shrinks_free, owed_to, left_for}
 use Rattle.cal_policy.specs.declared.board.holders.Holder.TheVariants as holders
 use Rattle.cal_guarantee.proofs.Holders.{owed_push}
-use Rattle.cal_guarantee.proofs.Steps.{IsStep, each_turn}
+use Rattle.cal_guarantee.proofs.Steps.{IsStep}
+use Rattle.cal_policy.proofs.AssuredLemmas.Walks.{each_turn}
 
 -- core c was left, as the pass's records show
 abbrev pub was_left : Setting → ℕ → Bool

@@ -1,14 +1,13 @@
 -- An honest wait does not come and go.
-use Rattle.cal_guarantee.proofs.Common.{◌≡◌, ℕ, ◌+◌, ◌-◌, ◌<◌, ◌≤◌, Bool, true, false, not, ◌&&◌, cond, eqb, ltb, List, Some, None, slice_get, ap, sym, ◌∙◌, subst, arith, inl, inr, zero, suc, and_parts, and_from, lt-ltb, eq-eqb, is_some, Table, owner_of, thread_of, limit_of, task_in, Action, PassEntry, Holder, holder_of, is_with, cores_of_thread, count_below, count_le, Setting, so_far, kept_now, has_room, thread_rank, thread_delay, is_untaken, is_in_flight, is_late, is_short, waits, waits_short, bounded_of, waits_by}
+use Rattle.cal_guarantee.proofs.Common.{◌≡◌, ℕ, ◌+◌, ◌-◌, ◌<◌, ◌≤◌, Bool, true, false, not, ◌&&◌, cond, eqb, ltb, List, Some, None, slice_get, ap, sym, ◌∙◌, subst, arith, inl, inr, zero, suc, and_from, lt-ltb, eq-eqb, is_some, Table, owner_of, thread_of, limit_of, task_in, Action, PassEntry, holder_of, is_with, cores_of_thread, count_below, count_le, Setting, so_far, kept_now, has_room, thread_rank, thread_delay, is_untaken, is_in_flight, is_late, is_short, waits, waits_short, bounded_of, waits_by}
 use Rattle.std.proofs.lemmas.Option.{slice_get_within}
-use Rattle.cal_signal.specs.declared.record.Record.{Record}
 use Rattle.cal_machine.specs.TableTasks.{delay_of}
-use Rattle.cal_policy.specs.declared.board.holders.Holder.TheVariants as holders
 use Rattle.cal_policy.specs.Pass.Grants.{waited}
 use Rattle.cal_guarantee.specs.Honest.{ShowsSince, WaitsSince, HonestWaitsStay}
 use Rattle.cal_guarantee.proofs.Sums.{count_some}
 use Rattle.cal_guarantee.proofs.NoneGranted.{no_helpers_yet}
 use Rattle.cal_guarantee.proofs.Histories.{setting_in, entry_at}
+use Rattle.cal_policy.proofs.AssuredLemmas.AsKept.{untaken_with}
 
 -- how long a request has waited that is shown
 waited_since : (now came : ℕ) (there : Bool) → there ≡ true → came < now → waited now there came ≡ now - came
@@ -27,12 +26,6 @@ shown_late s k came delay (inr paused) late =
     let long = waited_since s.input.now came (ltb 0 rec.paused) (lt-ltb 0 rec.paused paused.0) (omega (arith, late)) in
     let there = subst P (sym paused.1) long in
     omega (arith, there, late)
-
--- a thread on no core is not in flight
-untaken_with : (rec : Record) (k : ℕ) (h : Holder) → is_untaken rec k h ≡ true → is_with k h ≡ true
-untaken_with rec k holders.Free e = cc
-untaken_with rec k (holders.Held p) e = (and_parts (eqb p.thread k) (ltb rec.taken p.number) e).0
-untaken_with rec k (holders.Leaving p cause) e = cc
 
 not_in_flight : (s : Setting) (x : List Action) (k : ℕ) → cores_of_thread s.table x k ≡ 0 → is_in_flight s x k ≡ false
 not_in_flight s x k none =

@@ -5,8 +5,9 @@ use Rattle.cal_policy.specs.declared.board.holders.Holder.TheVariants as holders
 use Rattle.cal_guarantee.proofs.Sums.{count_some}
 use Rattle.cal_guarantee.proofs.Holders.{moves_revoke, moves_grant, stays_unban, stays_ban, stays_cap}
 use Rattle.cal_guarantee.proofs.Steps.{IsStep, IsRevokeStep, IsGrantStep}
-use Rattle.cal_guarantee.proofs.Counts.{booked_none, KeepsBooks, books_stay, books_left, books_chain, books_refl, lacks_same, lacks_none, short_same, short_parts, IsOneMore, books_granted, waiting_lacks, waiting_most, lacking_most, lacking_less, one_less_lacks, open_revoked, open_capped, open_granted, open_banned, open_banned_busy, open_unbanned}
+use Rattle.cal_guarantee.proofs.Counts.{KeepsBooks, books_stay, books_left, books_chain, books_refl, lacks_same, lacks_none, short_same, short_parts, IsOneMore, books_granted, waiting_lacks, waiting_most, lacking_most, lacking_less, one_less_lacks, open_revoked, open_capped, open_granted, open_banned, open_banned_busy, open_unbanned}
 use Rattle.cal_guarantee.proofs.Own.{is_new, IsSameFor, same_stay, same_moved, same_refl, same_back, same_chain, same_books, same_waits, thread_owner, waits_parts}
+use Rattle.cal_policy.proofs.AssuredLemmas.BooksNoMore.{free_books_none as booked_none}
 
 -- what each action keeps holds after all
 pub along_acts : (Q : List Action → Action → Type 0) (P : List Action → Type 0) → ((acts : List Action) (a : Action) → Q acts a → P acts → P (acts ++ a ∷ [])) →

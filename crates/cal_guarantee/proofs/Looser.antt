@@ -5,7 +5,8 @@ use Rattle.cal_policy.specs.declared.board.holders.Holder.TheVariants as holders
 use Rattle.cal_guarantee.proofs.Sums.{count_same}
 use Rattle.cal_guarantee.proofs.Holders.{Moves}
 use Rattle.cal_guarantee.proofs.Counts.{short_same}
-use Rattle.cal_guarantee.proofs.Own.{is_new, IsSameFor, thread_owner, with_own, untaken_own, best_same}
+use Rattle.cal_guarantee.proofs.Own.{is_new, IsSameFor, thread_owner, with_own, untaken_own}
+use Rattle.cal_policy.proofs.BoardLemmas.TwoSets.{best_same}
 
 -- a core has the holder that it had, or was and is none of task t, or its holder was told to leave it
 abbrev pub IsLooserAt : Setting → ℕ → Holder → Holder → Type 0

@@ -1,7 +1,7 @@
 -- Of the cores that are owed to a short task that waits it is granted as many as it needs, or all of them.
-use Rattle.cal_guarantee.proofs.Common.{◌≡◌, ℕ, ◌+◌, ◌<◌, ◌≤◌, ◌⊎◌, Bool, true, false, not, ◌&&◌, cond, eqb, ltb, List, [], ◌∷◌, ◌++◌, length, Option, Some, None, refl, ap, sym, ◌∙◌, subst, arith, inl, inr, ⊎_elim, zero, suc, cases_eq, cases_lt, and_parts, and_from, ne_eqb, eq-eqb, eqb-true, ltb-false, false_from_ne_true, unwrap_if, IsTable, Action, Free, Unban, Ban, Revoke, Cap, Grant, actions_of, holder_of, is_banned, is_free, Setting, so_far, frees, IsSteady, count_below, count_le, count_le_one, so_far_more, unbans, owed_to, is_task, owed_below, is_short, is_open, needs, are_lacked, waits, waits_short, is_kept, is_kept_for, is_kept_for_short, unbanned_of, bounded_of, min, sum_by_push, owed_taken, owed_cores, grants_to, granted_to, needs_at}
+use Rattle.cal_guarantee.proofs.Common.{◌≡◌, ℕ, ◌+◌, ◌<◌, ◌≤◌, ◌⊎◌, Bool, true, false, not, ◌&&◌, cond, eqb, ltb, List, [], ◌∷◌, ◌++◌, length, Option, Some, None, refl, ap, sym, ◌∙◌, subst, arith, inl, inr, ⊎_elim, cases_eq, cases_lt, and_parts, and_from, ne_eqb, eq-eqb, eqb-true, ltb-false, false_from_ne_true, unwrap_if, IsTable, Action, Free, Unban, Ban, Revoke, Cap, Grant, actions_of, holder_of, is_banned, is_free, Setting, so_far, frees, IsSteady, count_le, count_le_one, so_far_more, unbans, owed_to, is_task, owed_below, is_short, is_open, needs, are_lacked, waits, waits_short, is_kept, is_kept_for, is_kept_for_short, unbanned_of, bounded_of, min, sum_by_push, owed_taken, owed_cores, grants_to, granted_to, needs_at}
 use Rattle.cal_assured.specs.Laws.{is_open_for, owed_open}
-use Rattle.cal_guarantee.proofs.Sums.{count_same, none_counts}
+use Rattle.cal_guarantee.proofs.Sums.{count_same}
 use Rattle.cal_guarantee.proofs.Holders.{owed_push}
 use Rattle.cal_guarantee.proofs.Steps.{IsStep, IsGrantStep, unbans_steps}
 use Rattle.cal_guarantee.proofs.Counts.{open_revoked_at, open_capped_at, open_granted_at, open_banned_at, open_banned, open_unbanned_at}
@@ -15,6 +15,8 @@ use Rattle.cal_assured.proofs.OwedTaken.{task_some}
 use Rattle.cal_guarantee.proofs.OwedFree.{owed_free}
 use Rattle.cal_guarantee.proofs.TurnKeeps.{ToShortSelf, IsKeptByActs, turn_keeps}
 use Rattle.cal_guarantee.proofs.TurnEnds.{short_there, turn_begins, waits_still, none_open_still}
+use Rattle.cal_policy.proofs.ListLemmas.OneNumberMore.{count_grows as count_more}
+use Rattle.cal_policy.proofs.AssuredLemmas.Numbering.{count_nothing as none_counts}
 
 -- each core that is owed to the task is open
 abbrev AreOpen : Setting → ℕ → List Action → Type 0
@@ -34,13 +36,6 @@ busy_unowed x t c busy = false_from_ne_true (is_task t (owed_to x c)) (λ is.
 task_unless : (t : ℕ) (b : Bool) (o : Option ℕ) → (b ≡ true → is_task t o ≡ false) → is_task t (cond b None o) ≡ is_task t o
 task_unless t true o e = sym (e refl)
 task_unless t false o e = refl
-
-count_more : (p : ℕ → Bool) (m n : ℕ) → m ≤ n → count_below p m ≤ count_below p n
-count_more p m zero le = let same : m ≡ 0 = omega (arith, le) in rw same (omega arith)
-count_more p m (suc n) le = ⊎_elim
-    (λ (l : m < suc n). omega (arith, count_more p m n (omega (arith, l))))
-    (λ (g : suc n ≤ m). let same : m ≡ suc n = omega (arith, g, le) in rw same (omega arith))
-    (cases_lt m (suc n))
 
 module _ (U : Type 0) (G : List Action → ℕ → Type 0) (s : Setting) (t m : ℕ) (lt : t < length s.table.tasks) (other : NotTo G t) where
   -- a core that another task takes is owed to nobody, or as many lower ones are owed to the task as it needs

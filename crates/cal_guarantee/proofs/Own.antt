@@ -1,11 +1,13 @@
 -- Where a task's own cores are the same, it is short and waits as before.
-use Rattle.cal_guarantee.proofs.Common.{◌≡◌, ℕ, ◌<◌, ◌⊎◌, Bool, true, false, not, ◌&&◌, ◌||◌, cond, eqb, ltb, List, length, Option, Some, None, refl, ap, sym, ◌∙◌, arith, inl, inr, ⊎_elim, zero, suc, and_parts, and_from, or_left, false_from_ne_true, eqb-true, eq-eqb, cases_eq, is_some, Table, owner_of, thread_of, limit_of, is_latency_critical, task_there, Action, Holder, holder_of, is_booked_for, is_with, booked_by, cores_of_thread, cap_of, Setting, kept_now, has_room, count_below, best_below, better, thread_choice, thread_rank, thread_delay, may_book, is_granted_in, is_untaken, is_in_flight, is_late, pressing, made_now, is_new_in_flight, new_helpers, is_short, lacks, surplus, waits, waits_short, spare, needs, min}
+use Rattle.cal_guarantee.proofs.Common.{◌≡◌, ℕ, ◌<◌, ◌⊎◌, Bool, true, false, not, ◌&&◌, ◌||◌, cond, eqb, ltb, List, length, Some, None, refl, ap, sym, ◌∙◌, arith, inl, inr, ⊎_elim, and_parts, and_from, or_left, false_from_ne_true, eqb-true, eq-eqb, cases_eq, is_some, Table, owner_of, thread_of, limit_of, is_latency_critical, task_there, Action, Holder, holder_of, is_booked_for, is_with, booked_by, cores_of_thread, cap_of, Setting, kept_now, has_room, count_below, thread_choice, thread_rank, thread_delay, may_book, is_granted_in, is_untaken, is_in_flight, is_late, pressing, made_now, is_new_in_flight, new_helpers, is_short, lacks, surplus, waits, waits_short, spare, needs, min}
 use Rattle.std.proofs.Math.Bool.{and-false}
 use Rattle.cal_signal.specs.declared.record.Record.{Record}
 use Rattle.cal_policy.specs.declared.board.holders.Holder.TheVariants as holders
-use Rattle.cal_guarantee.proofs.Sums.{count_same, none_counts}
+use Rattle.cal_guarantee.proofs.Sums.{count_same}
 use Rattle.cal_guarantee.proofs.Holders.{Moves, Stays}
 use Rattle.cal_guarantee.proofs.Counts.{short_same, short_parts, lacks_same}
+use Rattle.cal_policy.proofs.BoardLemmas.TwoSets.{best_same}
+use Rattle.cal_policy.proofs.AssuredLemmas.Numbering.{count_nothing as none_counts}
 
 -- core c was granted in this pass
 abbrev pub is_new : Setting → List Action → ℕ → Bool
@@ -128,10 +130,6 @@ short_surplus s x t e = rw e refl
 
 same_surplus : (s : Setting) (t : ℕ) (x y : List Action) → t < length s.table.tasks → IsSameFor s t x y → is_short s.table y t ≡ true → is_short s.table x t ≡ true → surplus s y t ≡ surplus s x t
 same_surplus s t x y lt m after before = short_surplus s y t after ∙ same_new_helpers s t x y lt m ∙ sym (short_surplus s x t before)
-
-pub best_same : {R : Type 0} (beats : R → R → Bool) (f g : ℕ → Option R) (n : ℕ) → ((k : ℕ) → k < n → f k ≡ g k) → best_below beats f n ≡ best_below beats g n
-best_same beats f g zero e = refl
-best_same beats f g (suc n) e = ap (λ o. better beats o (f n) n) (best_same beats f g n (λ k lt. e k (omega arith))) ∙ ap (λ r. better beats (best_below beats g n) r n) (e n (omega arith))
 
 pub same_choice : (s : Setting) (t : ℕ) (x y : List Action) → t < length s.table.tasks → IsSameFor s t x y → thread_choice s y t ≡ thread_choice s x t
 same_choice s t x y lt m = best_same (λ rank best. ltb best rank) (λ j. thread_rank s y (thread_of s.table t j)) (λ j. thread_rank s x (thread_of s.table t j)) (limit_of s.table t)

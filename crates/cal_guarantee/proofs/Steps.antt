@@ -1,5 +1,5 @@
 -- What each action of a pass rests on, at its own place.
-use Rattle.cal_guarantee.proofs.Common.{◌≡◌, ℕ, ◌<◌, ◌⊎◌, Bool, true, false, not, ◌&&◌, cond, eqb, ltb, List, [], ◌∷◌, ◌++◌, length, Option, Some, None, refl, ap, sym, ◌∙◌, subst, arith, inl, inr, ⊎_elim, All, zero, suc, ◌-◌, is_some, option_or, and_parts, eqb-true, eq-eqb, ltb-true, not-true, sibling_of, Table, IsTable, IsTask, task_at, owner_of, thread_of, limit_of, guaranteed_of, is_latency_critical, is_critical_kind, some_then, some_else, Action, Free, Unban, Ban, Revoke, Cap, Grant, CoreClass, Candidate, Holder, holder_of, ban_of, is_banned, last_thread, in_turn, comes_before, is_idle, class_number, is_free, is_held, is_held_for, held_by, booked_by, is_over, Setting, so_far, kept_now, has_room, is_held_with_room, best_below, EachAfter, thread_choice, grant_of, preempt_class, idle_class, is_granted_in, is_thread_for, thread_rank, highest_passes, lowest_passes, best_ranked, each_append, each_in_turn, so_far_more, unban_for, unban_at, unbans, due_for, bans_at, bans, owed_to, is_task, are_lacked, waits, may_take, open_class, owed_class, open_choice, held_class, held_choice, may_preempt, may_take_from, choice_for, may_act, act_of, act_in_place, acts_in_place, turn_in_place, grants_of_first, task_in_place, place_of, Task}
+use Rattle.cal_guarantee.proofs.Common.{◌≡◌, ℕ, ◌<◌, ◌⊎◌, Bool, true, false, not, ◌&&◌, cond, eqb, ltb, List, [], ◌∷◌, ◌++◌, length, Option, Some, None, refl, ap, sym, ◌∙◌, subst, arith, inl, inr, ⊎_elim, All, zero, suc, ◌-◌, is_some, option_or, and_parts, eqb-true, eq-eqb, ltb-true, not-true, sibling_of, Table, IsTable, IsTask, task_at, owner_of, thread_of, limit_of, guaranteed_of, is_latency_critical, is_critical_kind, some_then, some_else, Action, Free, Unban, Ban, Revoke, Cap, Grant, CoreClass, Candidate, Holder, holder_of, ban_of, is_banned, last_thread, comes_before, is_idle, class_number, is_free, is_held, is_held_for, held_by, booked_by, is_over, Setting, so_far, kept_now, has_room, is_held_with_room, best_below, EachAfter, thread_choice, grant_of, preempt_class, idle_class, is_granted_in, is_thread_for, thread_rank, highest_passes, lowest_passes, best_ranked, each_in_turn, so_far_more, unban_for, unban_at, unbans, due_for, bans_at, bans, owed_to, is_task, are_lacked, waits, may_take, open_class, owed_class, open_choice, held_class, held_choice, may_preempt, may_take_from, choice_for, may_act, act_of, act_in_place, acts_in_place, turn_in_place, grants_of_first, task_in_place, place_of, Task}
 use Rattle.std.proofs.lemmas.List.Elements.{All-head, All-tail}
 use Rattle.cal_machine.specs.declared.task.Kind.{Kind}
 use Rattle.cal_machine.specs.declared.task.Kind.TheVariants as kinds
@@ -12,6 +12,8 @@ use Rattle.cal_policy.specs.Pass.Bans.{ban_for, ban_due, may_ban_beside, may_be_
 use Rattle.cal_policy.specs.Pass.Bandwidth.{bandwidth_part, cut_of, cut_at, rise_of, victim_of, victim_rank, core_to_lose, can_lose, task_misses}
 use Rattle.cal_guarantee.proofs.Sums.{count_some}
 use Rattle.cal_guarantee.proofs.Holders.{Stays, stays_ban, stays_cap, stays_same}
+use Rattle.cal_policy.proofs.AssuredLemmas.Walks.{each_turn}
+use Rattle.cal_policy.proofs.BoardLemmas.TwoSets.{of_idle as idle_cases}
 
 -- a ban of this core is not of a free one where open cores are lacked
 pub record IsBanStep (s : Setting) (acts : List Action) (core : ℕ) : Type 0 where
@@ -186,11 +188,6 @@ pub or_some : {X : Type 0} (o p : Option X) (k : X) → option_or o p ≡ Some k
 or_some None p k e = inr (refl, e)
 or_some (Some y) p k e = inl e
 
-idle_cases : (a b : Bool) → is_idle (cond a classes.Sibling (cond b classes.RecentlyUsed classes.OtherIdle)) ≡ true
-idle_cases true b = refl
-idle_cases false true = refl
-idle_cases false false = refl
-
 -- a core with an open class may be taken, and the class is one of the idle ones
 abbrev pub IsTaken : Setting → List Action → ℕ → ℕ → CoreClass → Type 0
 IsTaken s x t c r = (may_take s x t c ≡ true) × (is_idle r ≡ true)
@@ -305,13 +302,6 @@ either_act U G s acts t ok own good false e = tt
 pub act_steps : (U : Type 0) (G : List Action → ℕ → Type 0) (s : Setting) (acts : List Action) (t : ℕ) → IsTable s.table → t < length s.table.tasks → IsGood G s acts t →
     EachAfter (IsStep U G s) acts (act_of s acts t)
 act_steps U G s acts t ok own good = either_act U G s acts t ok own good (waits s (so_far s acts) t && may_act s acts t) refl
-
--- what f gives in turn, each after what it gave before
-pub each_turn : {X : Type 0} (P : List X → X → Type 0) (f : List X → ℕ → List X) (before : List X) (n : ℕ) →
-    ((k : ℕ) → k < n → EachAfter P (before ++ in_turn f before k) (f (before ++ in_turn f before k) k)) → EachAfter P before (in_turn f before n)
-each_turn P f before zero e = tt
-each_turn P f before (suc n) e =
-    each_append P before (in_turn f before n) (f (before ++ in_turn f before n) n) (each_turn P f before n (λ k lt. e k (omega arith))) (e n (omega arith))
 
 -- the acts of a task
 pub acts_steps : (U : Type 0) (G : List Action → ℕ → Type 0) (s : Setting) (acts : List Action) (t n : ℕ) → IsTable s.table → t < length s.table.tasks → IsGoodTurn G s acts t →

@@ -1,6 +1,7 @@
 -- Counts and sums among the numbers below n.
 use Rattle.cal_guarantee.proofs.Common.{◌≡◌, ℕ, ◌+◌, ◌<◌, ◌≤◌, Bool, true, false, cond, refl, ap, arith, ⊎_elim, zero, suc, cases_lt, count_below, sum_below}
 use Rattle.cal_policy.proofs.ListLemmas.OneNumberMore.{count_within}
+use Rattle.cal_policy.proofs.AssuredLemmas.Numbering.{count_nothing as none_counts}
 
 -- where each is as great, so is the sum
 pub sum_le : (f g : ℕ → ℕ) (n : ℕ) → ((k : ℕ) → k < n → f k ≤ g k) → sum_below f n ≤ sum_below g n
@@ -103,10 +104,6 @@ pub count_but_one : (p q : ℕ → Bool) (a n : ℕ) → a < n → ((c : ℕ) �
     count_below p n + one_if (q a) ≡ count_below q n + one_if (p a)
 count_but_one p q a n lt e =
     omega (arith, count_sum p n, count_sum q n, sum_but_one (λ c. one_if (p c)) (λ c. one_if (q c)) a n lt (λ c low ne. ap one_if (e c low ne)))
-
-pub none_counts : (p : ℕ → Bool) (n : ℕ) → ((c : ℕ) → c < n → p c ≡ false) → count_below p n ≡ 0
-none_counts p zero e = refl
-none_counts p (suc n) e = let last = ap one_if (e n (omega arith)) in omega (arith, none_counts p n (λ c lt. e c (omega arith)), last)
 
 -- one that passes is counted
 pub count_some : (p : ℕ → Bool) (n c : ℕ) → c < n → p c ≡ true → 0 < count_below p n

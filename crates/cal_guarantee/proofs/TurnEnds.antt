@@ -1,6 +1,6 @@
 -- At the end of its turn a short task that waits finds nothing to do; and it waits there, where it was
 -- granted less than it needs.
-use Rattle.cal_guarantee.proofs.Common.{◌≡◌, ℕ, ◌+◌, ◌<◌, ◌≤◌, ◌⊎◌, Bool, true, false, not, ◌&&◌, ◌||◌, cond, List, [], ◌∷◌, ◌++◌, length, Option, Some, None, refl, ap, sym, ◌∙◌, subst, arith, inl, inr, ⊎_elim, zero, suc, append_assoc, length-append, append-nil, and_from, or_left, ltb-false, or_right, option_or, is_some, IsTable, thread_of, is_latency_critical, Action, Revoke, Grant, CoreClass, Candidate, actions_of, holder_of, class_number, is_idle, is_free, is_held, in_turn, Setting, so_far, EachAfter, IsSteady, thread_choice, grant_of, is_granted_in, pressing, coming, helpers, new_helpers, is_short, lacks, surplus, waits, waits_short, needs, open_choice, held_choice, fewer_come, more_press, may_preempt, choice_for, has_acted, act_of, acts_in_place, turn_in_place, grants_of_first, task_in_place, place_of, bounded_of, AllMove, act_moves, tasks_placed, count_all, waits_by, granted_to, needs_at}
+use Rattle.cal_guarantee.proofs.Common.{◌≡◌, ℕ, ◌+◌, ◌<◌, ◌≤◌, ◌⊎◌, Bool, true, false, not, ◌&&◌, ◌||◌, cond, List, [], ◌∷◌, ◌++◌, length, Option, Some, None, refl, ap, sym, ◌∙◌, subst, arith, inl, inr, ⊎_elim, zero, suc, append_assoc, length-append, append-nil, and_from, or_left, ltb-false, or_right, option_or, is_some, IsTable, thread_of, is_latency_critical, Action, Revoke, Grant, CoreClass, Candidate, actions_of, holder_of, class_number, is_idle, is_free, is_held, in_turn, Setting, so_far, EachAfter, IsSteady, thread_choice, grant_of, is_granted_in, pressing, coming, helpers, new_helpers, is_short, lacks, surplus, waits, waits_short, needs, open_choice, held_choice, fewer_come, more_press, may_preempt, choice_for, has_acted, act_of, acts_in_place, turn_in_place, grants_of_first, task_in_place, place_of, bounded_of, AllMove, act_moves, tasks_placed, waits_by, granted_to, needs_at}
 use Rattle.cal_policy.specs.declared.history.action.Cause.TheVariants as causes
 use Rattle.cal_policy.proofs.AssuredLemmas.Walks.{first_turns}
 use Rattle.cal_policy.proofs.AssuredLemmas.Done.{IsServing, grants_made}
@@ -9,12 +9,13 @@ use Rattle.cal_guarantee.proofs.Sums.{count_some}
 use Rattle.cal_guarantee.proofs.Steps.{open_taken, held_lost}
 use Rattle.cal_guarantee.proofs.Counts.{short_parts, lacks_none}
 use Rattle.cal_guarantee.proofs.Own.{same_needs, waits_parts}
-use Rattle.cal_guarantee.proofs.FewKept.{or_none}
 use Rattle.cal_guarantee.proofs.KeptAlong.{own_along, taken_open, open_free}
 use Rattle.cal_guarantee.proofs.PassTurns.{before_turn, with_turn, ToOther, others, to_place, bounded_steady, place_steady, own_turn}
 use Rattle.cal_guarantee.proofs.NoneOpen.{none_new}
 use Rattle.cal_guarantee.proofs.TurnKeeps.{turn_got}
 use Rattle.cal_guarantee.proofs.Chosen.{short_acts, act_is, waits_thread}
+use Rattle.cal_policy.proofs.AssuredLemmas.BooksNoMore.{or_none_parts as or_none}
+use Rattle.cal_policy.proofs.ListLemmas.OneNumberMore.{count_at_most as count_all}
 
 each_first : {X : Type 0} (P : List X → X → Type 0) (before xs ys : List X) → EachAfter P before (xs ++ ys) → EachAfter P before xs
 each_first P before [] ys e = tt

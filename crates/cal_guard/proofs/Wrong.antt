@@ -5,11 +5,7 @@ use Rattle.cal_machine.specs.declared.task.Task.{Task}
 use Rattle.cal_policy.specs.declared.board.holders.Holder.TheVariants as holders
 use Rattle.cal_laws.proofs.ListLemmas.Below.{none_passes}
 use Rattle.cal_guard.specs.declared.refusal.Why.{Why}
-
--- nothing is wrong where neither is
-both_none : {X : Type 0} (a b : Option X) → option_or a b ≡ None → (a ≡ None) × (b ≡ None)
-both_none None b e = (refl, e)
-both_none (Some x) b e = cc
+use Rattle.cal_policy.proofs.AssuredLemmas.BooksNoMore.{or_none_parts as both_none}
 
 none_or : {X : Type 0} (a b : Option X) → a ≡ None → b ≡ None → option_or a b ≡ None
 none_or None b e f = f

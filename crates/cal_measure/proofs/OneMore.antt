@@ -1,15 +1,11 @@
 -- A history with one pass more: what was so after each pass before is so still.
 use Rattle.cal_measure.proofs.Common.{nat_lt, ◌≡◌, ◌∙◌, ◌+◌, ◌-◌, ◌*◌, ◌<◌, ◌≤◌, ◌++◌, ◌∷◌, [], ℕ, zero, suc, max, Bool, true, false, cond, List, Option, Some, None, length, length-append, take, take_all, slice_get, ap, refl, sym, arith, Table, actions_of, booked_by, held_by, greatest_below, sum_below, PassEntry, bandwidth_in, core_time, held_after, in_state_after, is_over_limit, left_after, clock_at, clock_in, count_in_state, found_congested, is_congested_at, lasts_at, CoreState, clock_of, last_clock, since, until_next}
+use Rattle.cal_machine.proofs.Places.{slice_get_front as slice_left}
 
 pub take_left : {X : Type 0} (xs ys : List X) (k : ℕ) → k ≤ length xs → take k (xs ++ ys) ≡ take k xs
 take_left xs ys zero le = refl
 take_left [] ys (suc k) le = absurd (omega (arith, le))
 take_left (x ∷ xs) ys (suc k) le = ap (λ l. x ∷ l) (take_left xs ys k (omega (arith, le)))
-
-pub slice_left : {X : Type 0} (xs ys : List X) (k : ℕ) → k < length xs → slice_get (xs ++ ys) k ≡ slice_get xs k
-slice_left [] ys k lt = absurd (omega (arith, lt))
-slice_left (x ∷ xs) ys zero lt = refl
-slice_left (x ∷ xs) ys (suc k) lt = slice_left xs ys k (omega (arith, lt))
 
 pub slice_here : {X : Type 0} (xs : List X) (y : X) → slice_get (xs ++ y ∷ []) (length xs) ≡ Some y
 slice_here [] y = refl

@@ -34,7 +34,7 @@ pub use Rattle.cal_signal.specs.Records.{IsShaped, MayFollow, running_word, zero
 pub use Rattle.cal_signal.specs.declared.record.Record.{Record}
 pub use Rattle.cal_trace.specs.declared.arrivals.Arrivals.{Arrivals}
 pub use Rattle.cal_trace.specs.declared.arrivals.GivenPass.{GivenPass}
-pub use Rattle.std.proofs.Common.{Bool, IfSome, List, None, Option, Some, [], ap, append-nil, arith, false, get_or, if◌then◌else◌, inl, inr, is_some, length, length-append, map, nat_le, not, refl, replicate, subst, suc, sym, take, true, zero, ℕ, ⊎_elim, ◌%◌, ◌&&◌, ◌*◌, ◌++◌, ◌+◌, ◌-◌, ◌/◌, ◌<◌, ◌||◌, ◌∙◌, ◌∷◌, ◌≡◌, ◌≢◌, ◌≤◌, ◌⊎◌}
+pub use Rattle.std.proofs.Common.{Bool, IfSome, List, None, Option, Some, [], ap, arith, false, get_or, if◌then◌else◌, inl, inr, is_some, length, length-append, map, nat_le, not, refl, replicate, subst, suc, sym, take, true, zero, ℕ, ⊎_elim, ◌%◌, ◌&&◌, ◌*◌, ◌++◌, ◌+◌, ◌-◌, ◌/◌, ◌<◌, ◌||◌, ◌∙◌, ◌∷◌, ◌≡◌, ◌≢◌, ◌≤◌, ◌⊎◌}
 pub use Rattle.std.proofs.Math.ListN.{set}
 pub use Rattle.std.proofs.Math.Nat.{div-le_of_le-mul, mul-le-mul_left, mul-suc, mul_comm}
 pub use Rattle.std.proofs.lemmas.Bool.{cases_lt, false≢true}

@@ -1,16 +1,10 @@
 -- The rounds of a paced run, one after the other.
 use Rattle.cal_paced.proofs.Common.{◌≡◌, ℕ, zero, suc, ◌+◌, ◌-◌, ◌*◌, ◌<◌, ◌≤◌, ◌⊎◌, inl, inr, ⊎_elim, List, [], ◌∷◌, ◌++◌, length, map, replicate, Some, length-append, refl, sym, ap, subst, ◌∙◌, arith, min, slice_get, mul-le-mul_left, mul-suc, cases_lt, length-map, length-replicate, sum_by-cons, slice_get_within, Entry, Table, AreOfOneTeam, AreParts, HasPassed, SchedulerSeat, WatchSeat, scheduler_seat_of, watch_seat_of, HaveMade, HaveMadeNoTurn, Seat, journals_of, seat_of, seats_of, Parts, Worker, Arrivals, GivenPass, misses_at, AreBelowWhole, AreShown, DifferFrom, HaveLedTo, HaveShown, IsMadeUpTo, misses_of, misses_of_records, risen_before, standings_of, pass_of, SlowsNobody, IsFirst, IsRound, Standing, Shown, Plan}
 use Rattle.cal_machine.proofs.Last.{last_or_before}
-use Rattle.cal_machine.proofs.Places.{slice_get_seam}
+use Rattle.cal_machine.proofs.Places.{slice_get_seam, slice_get_at as place}
 use Rattle.cal_paced.proofs.Differing.{led-still}
 use Rattle.cal_paced.proofs.Showing.{HaveShownMore, all-last-shown, early-rise, early-sum, shown-at-first, shown-more}
 use Rattle.cal_paced.proofs.Turning.{length-standings, standing-at}
-
--- the member at a place
-place : {X : Type 0} (xs : List X) (i : ℕ) → i < length xs → (x : X) × (slice_get xs i ≡ Some x)
-place [] i less = absurd (omega (arith, less))
-place (x ∷ xs) zero less = (x, refl)
-place (x ∷ xs) (suc i) less = place xs i (omega (arith, less))
 
 zeros : (n k s : ℕ) → slice_get (replicate n 0) k ≡ Some s → s ≡ 0
 zeros zero k s at = absurd (cc)

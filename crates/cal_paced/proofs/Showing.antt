@@ -1,28 +1,10 @@
 -- The misses that the records of threads show, round by round.
-use Rattle.cal_paced.proofs.Common.{◌≡◌, ℕ, zero, suc, ◌+◌, ◌-◌, ◌≤◌, Bool, Option, Some, None, List, [], ◌∷◌, ◌++◌, length, map, length-append, append-nil, refl, sym, ap, subst, ◌∙◌, arith, option_map, option_to_list, slice_index, slice_get, sum_by-cons, same_from_push, core_in_turn, does_work, provided_if, turned_if, turned_on, worked_if, KernelView, Answers, arrived, noted, shown, taken, Entry, Request, MadeNoTurn, journals_of, Worker, zero_record, Record, misses_at, HaveShown, IsShownAt, misses_of, misses_of_records, risen_before, last_record}
-use Rattle.std.proofs.lemmas.List.Elements.{filter_map-append}
+use Rattle.cal_paced.proofs.Common.{◌≡◌, ℕ, zero, suc, ◌+◌, ◌-◌, ◌≤◌, Bool, Option, Some, List, [], ◌∷◌, ◌++◌, length, map, length-append, refl, sym, ap, subst, ◌∙◌, arith, option_map, option_to_list, slice_index, slice_get, sum_by-cons, same_from_push, core_in_turn, does_work, provided_if, turned_if, turned_on, worked_if, KernelView, Answers, arrived, noted, shown, taken, Entry, Request, MadeNoTurn, journals_of, Worker, zero_record, Record, misses_at, HaveShown, IsShownAt, misses_of, misses_of_records, risen_before, last_record}
 use Rattle.cal_kthread.proofs.TeamLemmas.Turns.{Kept, kept, unpublished}
-use Rattle.cal_kthread.proofs.TurnLemmas.Turns.{one-turn}
-use Rattle.cal_kthread.specs.Journal.{record_in, records_of}
-use Rattle.cal_kthread.specs.Turn.Turns.{IsOneTurn}
+use Rattle.cal_kthread.proofs.TurnLemmas.Turns.{one-turn, records-of-turn as records-more}
+use Rattle.cal_kthread.specs.Journal.{records_of}
 use Rattle.cal_kthread.specs.declared.journal.entry.Entry.TheVariants.{Arrived, Published}
 use Rattle.cal_signal.specs.Pages.{last_from, last_published, page_of}
-
--- a turn adds its record to those of the journal
-records-more : (now : ℕ) (request : Option Request) (before after : List Entry) (one : IsOneTurn now request before after)
-    → records_of after ≡ records_of before ++ one.shows ∷ []
-records-more now request before after one =
-    let came : List Entry = option_to_list (option_map Arrived request) in
-    let last : List Entry = Published (length (records_of before) + 1) one.shows ∷ [] in
-    ap records_of one.added
-    ∙ filter_map-append record_in (before ++ came ++ one.between) last
-    ∙ ap (λ (l : List Record). l ++ one.shows ∷ [])
-    (filter_map-append record_in (before ++ came) one.between ∙ (λ i. records_of (before ++ came) ++ one.no_publication i) ∙ append-nil _
-    ∙ filter_map-append record_in before came ∙ ap (λ (l : List Record). records_of before ++ l) (none request) ∙ append-nil _)
-  where
-    none : (request : Option Request) → records_of (option_to_list (option_map Arrived request)) ≡ []
-    none None = refl
-    none (Some r) = refl
 
 pub shown-at-first : (k : KernelView) → MadeNoTurn k → IsShownAt 0 k
 shown-at-first k none = record {

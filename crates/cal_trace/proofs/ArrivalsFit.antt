@@ -58,7 +58,7 @@ turn_fits threads so_far next fields (Ok now) is none fits e =
     })
 
 -- one more request
-before_before : (a b c : Arrival) → ComesBefore a b → ComesBefore b c → ComesBefore a c
+pub before_before : (a b c : Arrival) → ComesBefore a b → ComesBefore b c → ComesBefore a c
 before_before a b c (inl x) (inl y) = inl (omega (arith, x, y))
 before_before a b c (inl x) (inr y) = inl (omega (arith, x, y.0))
 before_before a b c (inr x) (inl y) = inl (omega (arith, x.0, y))

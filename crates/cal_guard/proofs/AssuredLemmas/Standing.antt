@@ -5,15 +5,12 @@ use Rattle.cal_policy.specs.declared.board.holders.Holder.TheVariants as holders
 use Rattle.cal_laws.proofs.CapLemmas.Capped.{granted}
 use Rattle.cal_laws.proofs.ExclusionLemmas.SameHolders.{held_same}
 use Rattle.cal_laws.proofs.ListLemmas.Counted.{count_none}
+use Rattle.cal_policy.proofs.PassLemmas.Steady.{granted_holder}
 
 -- Threads have one core
 
 one_shrinks : (table : Table) (x y : List Action) → Shrinks x y → HaveOneCore table x → HaveOneCore table y
 one_shrinks table x y e one = λ c d p q lt low f g same. one c d p q lt low (e.places c p f) (e.places d q g) same
-
--- the holder after a grant, and after a revocation
-granted_holder : (x : List Action) (core thread class c : ℕ) → holder_of (x ++ Grant core thread class ∷ []) c ≡ cond (eqb core c) (holders.Held (placed x thread)) (holder_of x c)
-granted_holder x core thread class c = holder_push x (Grant core thread class) c ∙ unwrap_if (eqb core c) (holders.Held (placed x thread)) (holder_of x c)
 
 revoked_holder : (x : List Action) (core : ℕ) (cause : Cause) (c : ℕ) → holder_of (x ++ Revoke core cause ∷ []) c ≡ cond (eqb core c) (left_by (last_placement x core) cause) (holder_of x c)
 revoked_holder x core cause c = holder_push x (Revoke core cause) c ∙ unwrap_if (eqb core c) (left_by (last_placement x core) cause) (holder_of x c)

@@ -149,7 +149,7 @@ one-turn-more [] now request first before after are one = (after, subst (λ l. I
 one-turn-more (given ∷ turns) now request first before after are one = (are.0, are.1, one-turn-more turns now request are.0 before after are.2 one)
 
 -- what the records, the arrivals and the length become by one turn
-records-of-turn : (now : ℕ) (request : Option Request) (before after : List Entry) (one : IsOneTurn now request before after)
+pub records-of-turn : (now : ℕ) (request : Option Request) (before after : List Entry) (one : IsOneTurn now request before after)
     → records_of after ≡ records_of before ++ one.shows ∷ []
 records-of-turn now request before after one = ap records_of one.added
     ∙ parts record_in before (option_to_list (option_map Arrived request)) one.between (Published (length (records_of before) + 1) one.shows ∷ [])

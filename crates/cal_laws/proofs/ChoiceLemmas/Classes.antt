@@ -1,11 +1,12 @@
 -- The class that a pass takes for a core, and the class that the core is of.
-use Rattle.cal_laws.proofs.Common.{◌≡◌, ◌≢◌, ◌⊎◌, ℕ, ◌<◌, Bool, true, false, cond, not, ◌&&◌, eqb, nat_lt, zero, suc, List, Option, Some, None, refl, sym, ap, ◌∙◌, arith, inl, inr, ⊎_elim, ltb-true, lt-ltb, eqb-true, eqb-false, eq-eqb, ne_eqb, and_parts, and_from, not-true, not_from_true, not_from_false, cond-true, cond-false, both_ways, false_from_ne_true, cond_some, same_Some, sibling_of, Table, owner_of, guaranteed_of, is_latency_critical, Action, CoreClass, is_idle, Holder, holder_of, last_thread, is_banned, is_held_for, held_by, booked_by, is_over, count_below, Setting, so_far, has_room, leaves_for, none_leaves_for, is_granted_in, is_thread_for, idle_class, preempt_class, may_preempt, class_by, class_of, some_then, some_else}
+use Rattle.cal_laws.proofs.Common.{◌≡◌, ◌≢◌, ◌⊎◌, ℕ, ◌<◌, Bool, true, false, cond, not, ◌&&◌, eqb, nat_lt, List, Option, Some, None, refl, sym, ap, ◌∙◌, inl, inr, ⊎_elim, ltb-true, lt-ltb, eqb-true, eqb-false, eq-eqb, ne_eqb, and_parts, and_from, not-true, not_from_true, not_from_false, cond-true, cond-false, both_ways, false_from_ne_true, cond_some, same_Some, sibling_of, Table, owner_of, guaranteed_of, is_latency_critical, Action, CoreClass, is_idle, Holder, holder_of, last_thread, is_banned, is_held_for, held_by, booked_by, is_over, count_below, Setting, so_far, has_room, leaves_for, none_leaves_for, is_granted_in, is_thread_for, idle_class, preempt_class, may_preempt, class_by, class_of, some_then, some_else}
 use Rattle.cal_policy.specs.declared.history.core_class.CoreClass.TheVariants as classes
 use Rattle.cal_policy.specs.declared.history.action.Cause.TheVariants as causes
 use Rattle.cal_policy.specs.declared.board.holders.Placement as placements
 use Rattle.cal_policy.specs.declared.board.holders.Holder.TheVariants as holders
 use Rattle.cal_laws.specs.Choice.{IsIdle, IsHeldBy, WentLastTo, MayBePreempted, CriticalMayBePreempted, IsPreemptible, IsOfClass}
 use Rattle.cal_laws.proofs.ListLemmas.Counted.{count_none}
+use Rattle.cal_policy.proofs.AssuredLemmas.Numbering.{count_nothing}
 
 -- who holds a core, and to whom it went last
 held_for : (table : Table) (x : List Action) (t c : ℕ) (h : Holder) → holder_of x c ≡ h → is_held_for table t h ≡ true → IsHeldBy table x t c
@@ -54,10 +55,6 @@ leaving_test t (holders.Held p) e = refl
 leaving_test t (holders.Leaving p (causes.Ban by)) e = refl
 leaving_test t (holders.Leaving p causes.Bandwidth) e = refl
 leaving_test t (holders.Leaving p (causes.Preempt task)) e = ne_eqb task t (λ same. e p (ap (λ n. holders.Leaving p (causes.Preempt n)) same))
-
-count_nothing : (p : ℕ → Bool) (n : ℕ) → ((k : ℕ) → k < n → p k ≡ false) → count_below p n ≡ 0
-count_nothing p zero e = refl
-count_nothing p (suc n) e = rw (count_nothing p n (λ k lt. e k (omega arith)), e n (omega arith)) refl
 
 none_leaves_test : (s : Setting) (x : List Action) (t : ℕ) → ((c : ℕ) (p : placements.Placement) → c < s.table.cores → holder_of x c ≢ holders.Leaving p (causes.Preempt t)) →
     none_leaves_for s x t ≡ true

@@ -5,7 +5,7 @@ use Rattle.cal_policy.specs.declared.board.holders.Holder.TheVariants as holders
 use Rattle.cal_laws.proofs.ListLemmas.Counted.{count_none}
 use Rattle.cal_laws.proofs.ChoiceLemmas.Granted.{gives_free}
 
-free_holder : (h : Holder) → is_free h ≡ true → h ≡ holders.Free
+pub free_holder : (h : Holder) → is_free h ≡ true → h ≡ holders.Free
 free_holder holders.Free e = refl
 free_holder (holders.Held p) e = cc
 free_holder (holders.Leaving p cause) e = cc

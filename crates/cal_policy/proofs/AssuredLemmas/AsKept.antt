@@ -53,7 +53,7 @@ pub closed_class : (owed : Bool) (s : Setting) (x : List Action) (t c : ℕ) →
 closed_class true s x t c e = closed_owed_class s x t c e
 closed_class false s x t c e = closed_open_class s x t c e
 
-untaken_with : (rec : Record) (k : ℕ) (h : Holder) → is_untaken rec k h ≡ true → is_with k h ≡ true
+pub untaken_with : (rec : Record) (k : ℕ) (h : Holder) → is_untaken rec k h ≡ true → is_with k h ≡ true
 untaken_with rec k Free e = cc
 untaken_with rec k (Held p) e = let both = and_parts (eqb p.thread k) (nat_lt rec.taken p.number) e in both.0
 untaken_with rec k (Leaving p cause) e = cc

@@ -43,7 +43,7 @@ made_none c before (Grant core thread class) e = by_grant (eqb core c) e
     by_grant true e = cc
     by_grant false e = refl
 
-or_none_parts : {Y : Type 0} (o p : Option Y) → option_or o p ≡ None → (o ≡ None) × (p ≡ None)
+pub or_none_parts : {Y : Type 0} (o p : Option Y) → option_or o p ≡ None → (o ≡ None) × (p ≡ None)
 or_none_parts None p e = (refl, e)
 or_none_parts (Some y) p e = cc
 
@@ -90,7 +90,7 @@ Moves x (Unban core) = ⊥
 Moves x (Ban core thread started) = ⊥
 Moves x (Cap task cap) = ⊥
 
-free_books_none : (table : Table) (t : ℕ) (h : Holder) → is_free h ≡ true → is_booked_for table t h ≡ false
+pub free_books_none : (table : Table) (t : ℕ) (h : Holder) → is_free h ≡ true → is_booked_for table t h ≡ false
 free_books_none table t holders.Free e = refl
 free_books_none table t (holders.Held p) e = cc
 free_books_none table t (holders.Leaving p cause) e = cc

@@ -4,6 +4,7 @@ use Rattle.cal_policy.specs.declared.board.holders.Placement as placements
 use Rattle.cal_policy.specs.declared.board.holders.Holder.TheVariants as holders
 use Rattle.cal_policy.proofs.AssuredLemmas.Sent.{left_not_held, held_is}
 use Rattle.cal_policy.proofs.BoardLemmas.RecentCores.{recent_says}
+use Rattle.cal_policy.proofs.AssuredLemmas.BooksNoMore.{or_none_parts as both_none}
 
 no_grant : (b : Bool) (h : Holder) (thread : ℕ) → cond b (Some h) None ≡ None → cond b (Some thread) None ≡ None
 no_grant true h thread e = cc
@@ -17,10 +18,6 @@ not_granted c before (Ban core thread started) e = refl
 not_granted c before (Revoke core cause) e = refl
 not_granted c before (Cap task cap) e = refl
 not_granted c before (Grant core thread class) e = no_grant (eqb core c) (holders.Held (placed before thread)) thread e
-
-both_none : {Y : Type 0} (o p : Option Y) → option_or o p ≡ None → (o ≡ None) × (p ≡ None)
-both_none None p e = (refl, e)
-both_none (Some y) p e = absurd (let no : Some y ≡ None = e in cc)
 
 none_granted : (c : ℕ) (before xs : List Action) → last_after (holder_made c) before xs ≡ None → last_after (thread_granted c) before xs ≡ None
 none_granted c before [] e = refl

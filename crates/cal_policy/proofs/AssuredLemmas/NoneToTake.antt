@@ -1,11 +1,11 @@
 -- Where no core is open, or none is owed to a task; and where no task may lose one.
-use Rattle.cal_policy.proofs.Common.{◌≡◌, ℕ, ◌<◌, ◌≤◌, ◌&&◌, Bool, true, false, not, cond, nat_lt, List, [], length, Option, Some, None, slice_index_or, refl, ap, sym, ◌∙◌, arith, eq-eqb, IfSome, is_some, option_or, has, sibling_of, owner_of, threads_of_table, task_in, Action, Candidate, Board, Holder, Held, Leaving, may_act, act_of, turn_in_place, is_task, owed_to, is_short, is_open, waits, is_kept_for, is_kept_for_short, is_kept, open_class, owed_class, open_choice, may_take_from, held_class, held_choice, may_preempt, choice_for, kept_holder, placement_of, held_by, is_held_for, secure_of, holder_of, last_thread, comes_before, class_among, best_below, class_of, idle_class, preempt_class, is_granted_in, grant_of, thread_choice, Setting, so_far, is_held_with_room, IsReady, Stands}
+use Rattle.cal_policy.proofs.Common.{◌≡◌, ℕ, ◌<◌, ◌≤◌, ◌&&◌, Bool, true, false, not, cond, nat_lt, List, [], length, Option, Some, None, slice_index_or, refl, ap, sym, ◌∙◌, arith, eq-eqb, IfSome, is_some, option_or, has, sibling_of, owner_of, threads_of_table, task_in, Action, Board, Holder, Held, Leaving, may_act, act_of, turn_in_place, is_task, owed_to, is_short, is_open, waits, is_kept_for, is_kept_for_short, is_kept, open_class, owed_class, open_choice, may_take_from, held_class, held_choice, may_preempt, choice_for, kept_holder, placement_of, held_by, is_held_for, secure_of, holder_of, last_thread, comes_before, class_among, best_below, class_of, idle_class, preempt_class, is_granted_in, grant_of, thread_choice, Setting, so_far, is_held_with_room, IsReady, Stands}
 use Rattle.cal_policy.specs.declared.board.holders.Holder.TheVariants.{Free}
 use Rattle.cal_policy.proofs.AssuredLemmas.AsKept.{open_as_kept, closed_open_class, closed_owed_class}
 use Rattle.cal_policy.proofs.AssuredLemmas.Acts.{idle_place}
 use Rattle.cal_policy.proofs.BoardLemmas.TwoSets.{best_none, best_same}
 use Rattle.cal_policy.proofs.PassLemmas.IdleCores.{by_member}
-use Rattle.cal_policy.proofs.PassLemmas.NoneOpen.{secure_keeps}
+use Rattle.cal_policy.proofs.PassLemmas.NoneOpen.{secure_keeps, no_choice}
 use Rattle.cal_policy.proofs.PassLemmas.Preempting.{none_held}
 
 either : {X : Type 0} (b : Bool) (x : X) → cond b x x ≡ x
@@ -91,10 +91,6 @@ none_to_take b s acts t few st ready idle secure =
     ap (λ o. option_or o (cond may (held_choice s acts t) None)) (no_open_choice b s acts t few st ready idle)
     ∙ ap (λ o. cond may o None) (no_held_choice b s acts t few st ready (λ other lt. secure_keeps s.table (so_far s acts) t other (secure other lt)))
     ∙ either may None
-
-no_choice : (s : Setting) (t : ℕ) (thread : Option (Candidate ℕ)) → grant_of s t thread None ≡ []
-no_choice s t None = refl
-no_choice s t (Some thread) = refl
 
 -- then nothing is given
 pub none_given : (s : Setting) (acts : List Action) (t : ℕ) → choice_for s acts t ≡ None → act_of s acts t ≡ []

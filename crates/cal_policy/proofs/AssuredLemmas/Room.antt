@@ -1,5 +1,5 @@
 -- How many cores are free or held along a pass, and so how many actions there is room for.
-use Rattle.cal_policy.proofs.Common.{◌≡◌, ℕ, ◌+◌, ◌-◌, ◌<◌, ◌≤◌, zero, suc, Bool, true, false, not, ◌&&◌, ◌||◌, cond, eqb, nat_lt, List, [], ◌∷◌, ◌++◌, length, Option, Some, None, refl, sym, ap, ◌∙◌, arith, subst, append_assoc, length-append, and_parts, eq-eqb, is_some, sibling_of, Table, IsTable, owner_of, some_then, some_else, unwrap_if, pairs, Record, Action, Free, Unban, Ban, Revoke, Cap, Grant, Cause, CoreClass, Holder, Candidate, due_for, is_open, are_lacked, is_kept, may_take_from, held_class, is_free, is_held, held_by, holder_of, last_placement, last_thread, left_by, placed, is_banned, in_turn, ban_due, ban_for, victim_of, core_to_lose, cut_at, cut_of, rise_of, is_capped, bandwidth_part, count_below, lowest_below, shows_left, preempt_class, is_granted_in, EachAfter, IsFreed, Setting, so_far, kept_now, is_held_with_room}
+use Rattle.cal_policy.proofs.Common.{◌≡◌, ℕ, ◌+◌, ◌-◌, ◌<◌, ◌≤◌, zero, suc, Bool, true, false, not, ◌&&◌, ◌||◌, cond, eqb, nat_lt, List, [], ◌∷◌, ◌++◌, length, Option, Some, None, refl, sym, ap, ◌∙◌, arith, subst, append_assoc, length-append, and_parts, eq-eqb, is_some, sibling_of, Table, IsTable, owner_of, some_then, some_else, unwrap_if, pairs, Action, Free, Unban, Ban, Revoke, Cap, Grant, Cause, CoreClass, Holder, Candidate, due_for, is_open, are_lacked, is_kept, may_take_from, held_class, is_free, is_held, held_by, holder_of, last_placement, last_thread, left_by, placed, is_banned, in_turn, ban_due, ban_for, victim_of, core_to_lose, cut_at, cut_of, rise_of, is_capped, bandwidth_part, count_below, lowest_below, preempt_class, is_granted_in, EachAfter, IsFreed, Setting, so_far, kept_now, is_held_with_room}
 use Rattle.std.proofs.Common.{append-nil}
 use Rattle.cal_policy.specs.declared.history.action.Cause.TheVariants as causes
 use Rattle.cal_policy.specs.declared.board.holders.Holder.TheVariants as holders
@@ -10,7 +10,7 @@ use Rattle.cal_policy.proofs.AssuredLemmas.Walks.{each_turn, each_so}
 use Rattle.cal_policy.proofs.HistoryLemmas.OneMore.{holder_push, last_thread_push}
 use Rattle.cal_policy.proofs.ListLemmas.Counted.{count_le, count_less}
 use Rattle.cal_policy.proofs.ListLemmas.OneMore.{some_if}
-use Rattle.cal_policy.proofs.PassLemmas.Fits.{so_far_push, ban_facts, cut_held}
+use Rattle.cal_policy.proofs.PassLemmas.Fits.{so_far_push, ban_facts, cut_held, left_not_free as left_held}
 use Rattle.cal_policy.proofs.PassLemmas.Pairs.{so_far_more}
 
 -- how many cores are free, and how many are held
@@ -95,11 +95,6 @@ takes_held s acts (a ∷ xs) e c is =
     ∙ takes_held s (acts ++ a ∷ []) xs e.1 c (ap (λ l. is_held (holder_of (so_far s l) c)) (append_assoc acts (a ∷ []) xs) ∙ is))
 
 -- Frees: each makes a core free
-
-left_held : (kept : ℕ → Record) (h : Holder) → shows_left kept h ≡ true → is_free h ≡ false
-left_held kept holders.Free e = cc
-left_held kept (holders.Held p) e = refl
-left_held kept (holders.Leaving p cause) e = refl
 
 freed_to : (x : List Action) (core c : ℕ) → is_free (holder_of (x ++ Free core ∷ []) c) ≡ cond (eqb core c) true (is_free (holder_of x c))
 freed_to x core c = ap is_free (holder_push x (Free core) c ∙ unwrap_if (eqb core c) holders.Free (holder_of x c)) ∙ by_core (eqb core c)

@@ -110,7 +110,7 @@ joins rank low high (suc n) e =
     one_more n (best_below comes_before rank n) (best_below comes_before low n) (best_below comes_before high n) (rank n) (low n) (high n)
     (joins rank low high n (λ c lt. e c (omega (arith, lt)))) (e n (omega arith))
 
-of_idle : (a b : Bool) → is_idle (cond a classes.Sibling (cond b classes.RecentlyUsed classes.OtherIdle)) ≡ true
+pub of_idle : (a b : Bool) → is_idle (cond a classes.Sibling (cond b classes.RecentlyUsed classes.OtherIdle)) ≡ true
 of_idle true b = refl
 of_idle false true = refl
 of_idle false false = refl

@@ -15,7 +15,7 @@ so_far_push s acts a = sym (append_assoc (actions_of s.history) acts (a ∷ []))
 
 -- Frees
 
-left_not_free : (kept : ℕ → Record) (h : Holder) → shows_left kept h ≡ true → is_free h ≡ false
+pub left_not_free : (kept : ℕ → Record) (h : Holder) → shows_left kept h ≡ true → is_free h ≡ false
 left_not_free kept holders.Free e = cc
 left_not_free kept (holders.Held p) e = refl
 left_not_free kept (holders.Leaving p cause) e = refl

@@ -47,7 +47,7 @@ none_chosen b s acts t few st ready idle secure =
     ∙ none_held
 
 -- without a choice nothing is given
-no_choice : (s : Setting) (t : ℕ) (thread : Option (Candidate ℕ)) → grant_of s t thread None ≡ []
+pub no_choice : (s : Setting) (t : ℕ) (thread : Option (Candidate ℕ)) → grant_of s t thread None ≡ []
 no_choice s t None = refl
 no_choice s t (Some thread) = refl
 

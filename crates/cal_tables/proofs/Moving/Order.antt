@@ -1,12 +1,6 @@
 -- Requests in their order.
-use Rattle.cal_tables.proofs.Common.{◌≡◌, ◌<◌, ◌≤◌, ◌^◌, ◌∙◌, ◌⊎◌, inl, inr, ℕ, List, Some, slice_get, get_or, refl, arith, subst, IsNonDecreasingBy, cases_lt, slice_get_within, get_or_from_slice_get, ComesBefore, EachLater, Each, Arrival, Coming, order_of}
+use Rattle.cal_tables.proofs.Common.{◌≡◌, ◌<◌, ◌≤◌, ◌^◌, ◌⊎◌, inl, inr, ℕ, List, Some, slice_get, get_or, refl, arith, subst, IsNonDecreasingBy, cases_lt, slice_get_within, get_or_from_slice_get, ComesBefore, EachLater, Each, Arrival, Coming, order_of}
 use Rattle.cal_tables.proofs.Moving.Ids.{Differ}
-
-pub before_before : (a b c : Arrival) → ComesBefore a b → ComesBefore b c → ComesBefore a c
-before_before a b c (inl x) (inl y) = inl (omega (arith, x, y))
-before_before a b c (inl x) (inr y) = inl (let same = y.0 in omega (arith, x, same))
-before_before a b c (inr x) (inl y) = inl (let same = x.0 in omega (arith, y, same))
-before_before a b c (inr x) (inr y) = inr (x.0 ∙ y.0, let one = x.1 in let two = y.1 in omega (arith, one, two))
 
 -- two at once are not before each other
 pub never_at_once : (a b : Arrival) → ComesBefore a b → a.thread ≡ b.thread → a.turn ≡ b.turn → ⊥

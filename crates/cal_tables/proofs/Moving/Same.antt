@@ -9,9 +9,10 @@ use Rattle.cal_machine.specs.declared.task.Task.{Task}
 use Rattle.cal_tables.specs.Laws.{AreNotAtOnce, NoneWaitsWhereNoneMeet, SameLimitsMoveNothing, limits_of}
 use Rattle.cal_tables.proofs.Moving.Ids.{Differ, differ_reordered}
 use Rattle.cal_tables.proofs.Moving.Members.{contains_in, In, in_contains, later_mapped, later_unmapped}
-use Rattle.cal_tables.proofs.Moving.Order.{AreBelow, before_before, ComesFirst, never_itself, rising, rising_apart}
+use Rattle.cal_tables.proofs.Moving.Order.{AreBelow, ComesFirst, never_itself, rising, rising_apart}
 use Rattle.cal_tables.proofs.Moving.Places.{arrivals_moved, below_all, each_reordered, turns_fit}
 use Rattle.cal_tables.proofs.Moving.Stays.{all_stay}
+use Rattle.cal_trace.proofs.ArrivalsFit.{before_before}
 
 -- the first of two lists with the same members is the same
 first_same : (x y : Arrival) (xs ys : List Arrival) → EachLater ComesBefore (x ∷ xs) → EachLater ComesBefore (y ∷ ys) → In (y ∷ ys) x → In (x ∷ xs) y → x ≡ y
