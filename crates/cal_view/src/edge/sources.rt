@@ -33,6 +33,8 @@ pub fn read_named<'a, H: Files>(
     let mut file = Noted::new(open_named(rt, name)?);
     match read_input(alloc, &mut file) {
         Ok(text) => Ok(text),
+        // Memory that was refused is no fault of the file.
+        Err(RunFault::Memory) => Err(Failure::from(RunFault::Memory)),
         Err(fault) => Err(Failure {
             fault,
             file: Some(name),
