@@ -6,3 +6,5 @@ mod Passed
 mod Ended
 mod Rounds
 mod Legal
+mod Faulted
+mod Given

@@ -1,5 +1,6 @@
 pub mod Unlike
 pub mod Passes
+pub mod Given
 pub mod Faults
 pub mod Parts
 pub mod Replays

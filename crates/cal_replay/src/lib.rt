@@ -17,6 +17,7 @@ mod looking;
 mod paced;
 mod replayer;
 mod sending;
+mod stopping;
 mod unlike;
 
 pub use fault::{PassFault, ReplayFault, Stopped};

@@ -8,7 +8,8 @@ ghost use Rattle.cal_run.specs.Workers.{FitSomeTable, journals_of};
 ghost use Rattle.cal_trace.specs.Arrivals.FitsTable.{FitsTable};
 ghost use Rattle.cal_trace.specs.History.Ranges.{IsInRange};
 ghost use Rattle.cal_trace.specs.History.Reading.{extent_of};
-ghost use Rattle.cal_replay.specs.Faults.{IsReplayFault, IsStopped};
+ghost use Rattle.cal_replay.specs.Faults.{IsReplayFault, IsStopped, IsStoppedBy};
+ghost use Rattle.cal_replay.specs.Given.{HasFound, HasStoppedAt, AreGivenThere};
 ghost use Rattle.cal_replay.specs.Parts.{AreGivenPasses, AreReplayedUpTo};
 ghost use Rattle.cal_replay.specs.Passes.{HasReplayed, IsOneEnd};
 ghost use Rattle.cal_replay.specs.Replays.{IsReplayTo};
@@ -16,6 +17,7 @@ ghost use Rattle.cal_replay.specs.Replays.{IsReplayTo};
 use crate::ending::{ReplayParts, end_replay, open_replay};
 use crate::fault::{ReplayFault, Stopped};
 use crate::replayer::Replayer;
+use crate::stopping::stop;
 use cal_kthread::RequestList;
 use cal_machine::{Config, Listed};
 use cal_policy::PassEntry;
@@ -27,7 +29,7 @@ use std::alloc::{AllocError, Global};
 pub(crate) fn check_many(history: &[PassEntry], arrivals: &Arrivals) -> Result<(), ReplayFault>
     ensures many { IfOk result (λ _. length history.now ≡ length arrivals.now.passes) }
     ensures fault { (table : Table) →
-        IfErr result (IsReplayFault table arrivals.now history.now) }
+        IfErr result (IsReplayFault (AreGivenThere arrivals.now) table arrivals.now history.now) }
 {
     let (told, given) = (history.len(), arrivals.passes.as_slice().len());
     if told == given {
@@ -65,7 +67,9 @@ pub fn replay_lockstep<C: Collector>(
     let Ok(mut parts) = open_replay(alloc, config, arrivals) else {
         return Err(Stopped::Collector(C::Fault::from(AllocError)));
     };
-    make_rounds(config, &mut parts, arrivals, history, collector)?;
+    if let Err(stopped) = make_rounds(config, &mut parts, arrivals, history, collector) {
+        return Err(stop(parts, stopped));
+    }
     match end_replay(alloc, config, arrivals, parts) {
         Ok(left) => Ok(left),
         Err(AllocError) => Err(Stopped::Collector(C::Fault::from(AllocError))),
@@ -100,7 +104,8 @@ fn make_rounds<C: Collector>(
         OnOk result (C.holds collector.new [] (journals_of parts.new.workers.items)) }
     ensures suits { (table : Table) → C.suits collector.old table →
         IfOk result (λ _. C.suits collector.new table) }
-    ensures stopped { IfErr result (IsStopped config.now arrivals.now history.now) }
+    ensures stopped { IfErr result (IsStoppedBy (HasStoppedAt arrivals.now parts.new) config.now
+        arrivals.now history.now) }
 {
     for r in 0..rounds_to_make(arrivals) {
         make_round(config, parts, arrivals, history, r, collector)?;
@@ -127,7 +132,8 @@ fn make_round<C: Collector>(
         OnOk result (C.holds collector.new [] (journals_of parts.new.workers.items)) }
     ensures suits { (table : Table) → C.suits collector.old table →
         IfOk result (λ _. C.suits collector.new table) }
-    ensures stopped { IfErr result (IsStopped config.now arrivals.now history.now) }
+    ensures stopped { IfErr result (IsStoppedBy (HasStoppedAt arrivals.now parts.new) config.now
+        arrivals.now history.now) }
 {
     if let Err(fault) = pass_of_round(config, &mut parts.replayer, arrivals, history, r) {
         return Err(Stopped::Refused(fault));
@@ -158,7 +164,8 @@ fn pass_of_round(
         AreGivenPasses arrivals.now (min (r + 1) (length arrivals.now.passes))
         (take (min (r + 1) (length arrivals.now.passes)) history.now)) }
     ensures ends { IfOk result (λ _. IsOneEnd replayer.old replayer.new) }
-    ensures fault { IfErr result (IsReplayFault config.now arrivals.now history.now) }
+    ensures fault { IfErr result (IsReplayFault (HasFound r (r + 1) replayer.old replayer.new)
+        config.now arrivals.now history.now) }
 {
     if r >= arrivals.passes.as_slice().len() {
         return Ok(());

@@ -2,6 +2,7 @@
 
 ghost use Rattle.std.specs.Prelude.{◌≡◌, IfErr, IfOk, length};
 ghost use Rattle.cal_replay.specs.Faults.{IsToldOtherwise};
+ghost use Rattle.cal_replay.specs.Given.{HaveAnswered};
 ghost use Rattle.cal_replay.specs.Passes.{AreGiven};
 
 use crate::fault::PassFault;
@@ -22,7 +23,8 @@ pub(crate) fn look_each(
     requires rings { length senders.old.items ≡ length observers.old.items }
     ensures given { IfOk result (λ _. AreGiven input.entry.now observers.old.items observers.new.items
         senders.old.items senders.new.items) }
-    ensures fault { IfErr result (IsToldOtherwise input.entry.now) }
+    ensures fault { IfErr result (IsToldOtherwise (HaveAnswered observers.old.items observers.new.items
+        senders.old.items senders.new.items) input.entry.now) }
 {
     let (seen, rooms) = (input.seen.as_slice(), input.rooms.as_slice());
     for thread in 0..observers.len() {

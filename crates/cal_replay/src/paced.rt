@@ -11,7 +11,8 @@ ghost use Rattle.cal_run.specs.Workers.{FitSomeTable, journals_of};
 ghost use Rattle.cal_trace.specs.Arrivals.FitsTable.{FitsTable};
 ghost use Rattle.cal_trace.specs.History.Ranges.{IsInRange};
 ghost use Rattle.cal_trace.specs.History.Reading.{extent_of};
-ghost use Rattle.cal_replay.specs.Faults.{IsReplayFault, IsStopped};
+ghost use Rattle.cal_replay.specs.Faults.{IsReplayFault, IsStopped, IsStoppedBy};
+ghost use Rattle.cal_replay.specs.Given.{HasFound, HasStoppedAt};
 ghost use Rattle.cal_replay.specs.Paced.{ArePacedUpTo};
 ghost use Rattle.cal_replay.specs.Parts.{AreGivenPasses};
 ghost use Rattle.cal_replay.specs.Passes.{HasReplayed, IsOneEnd};
@@ -21,6 +22,7 @@ use crate::ending::{ReplayParts, end_replay, open_replay};
 use crate::fault::{ReplayFault, Stopped};
 use crate::lockstep::check_many;
 use crate::replayer::Replayer;
+use crate::stopping::stop;
 use cal_kthread::RequestList;
 use cal_machine::{Config, Listed};
 use cal_paced::{Keeping, Plan, make_turns, show_figure};
@@ -62,7 +64,7 @@ pub fn replay_paced<C: Collector>(
     let Ok(mut keeping) = Keeping::new(alloc, parts.workers.len()) else {
         return Err(Stopped::Collector(C::Fault::from(AllocError)));
     };
-    make_rounds(
+    if let Err(stopped) = make_rounds(
         alloc,
         config,
         &mut parts,
@@ -71,7 +73,9 @@ pub fn replay_paced<C: Collector>(
         history,
         &mut keeping,
         collector,
-    )?;
+    ) {
+        return Err(stop(parts, stopped));
+    }
     match end_replay(alloc, config, given, parts) {
         Ok(left) => Ok(left),
         Err(AllocError) => Err(Stopped::Collector(C::Fault::from(AllocError))),
@@ -105,7 +109,8 @@ fn make_rounds<C: Collector>(
         OnOk result (C.holds collector.new [] (journals_of parts.new.workers.items)) }
     ensures suits { (table : Table) → C.suits collector.old table →
         IfOk result (λ _. C.suits collector.new table) }
-    ensures stopped { IfErr result (IsStopped config.now given.new history.now) }
+    ensures stopped { IfErr result (IsStoppedBy (HasStoppedAt given.new parts.new) config.now given.new
+        history.now) }
 {
     for r in 0..given.turns.as_slice().len() {
         make_round(
@@ -145,7 +150,8 @@ fn make_round<C: Collector>(
         OnOk result (C.holds collector.new [] (journals_of parts.new.workers.items)) }
     ensures suits { (table : Table) → C.suits collector.old table →
         IfOk result (λ _. C.suits collector.new table) }
-    ensures stopped { IfErr result (IsStopped config.now given.new history.now) }
+    ensures stopped { IfErr result (IsStoppedBy (HasStoppedAt given.new parts.new) config.now given.new
+        history.now) }
 {
     show_figure(alloc, parts.workers.as_slice(), given, plan, r, keeping);
     if let Err(fault) = make_passes(config, &mut parts.replayer, given, history, plan.pace, r) {
@@ -184,7 +190,8 @@ fn make_passes(
     ensures given { IfOk result (λ _.
         AreGivenPasses given.now (pace * (r + 1)) (take (pace * (r + 1)) history.now)) }
     ensures ends { IfOk result (λ _. IsOneEnd replayer.old replayer.new) }
-    ensures fault { IfErr result (IsReplayFault config.now given.now history.now) }
+    ensures fault { IfErr result (IsReplayFault (HasFound (pace * r) (pace * (r + 1)) replayer.old
+        replayer.new) config.now given.now history.now) }
 {
     let first = r * pace as usize;
     for p in first..first + pace as usize {

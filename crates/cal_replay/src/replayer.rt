@@ -13,6 +13,7 @@ ghost use Rattle.cal_trace.specs.History.Ranges.{IsEntryInRange, IsInRange};
 ghost use Rattle.cal_trace.specs.History.Reading.{extent_of};
 ghost use Rattle.cal_replay.specs.Faults.{IsFigureFault, IsJudgedFault, IsPassFault};
 ghost use Rattle.cal_replay.specs.Faults.{IsReplayFault};
+ghost use Rattle.cal_replay.specs.Given.{HasFound, HaveAnswered};
 ghost use Rattle.cal_replay.specs.Parts.{AreGivenPasses};
 ghost use Rattle.cal_replay.specs.Passes.{HasReplayed, IsOneEnd};
 
@@ -83,7 +84,9 @@ impl Replayer {
         ensures figures { IfOk result (λ _. figures_of entry.now ≡ given) }
         ensures ends { IfOk result (λ _. IsOneEnd self.old self.new) }
         ensures fault { (before : List EntryOf) → HasReplayed config.now before self.old →
-            IfErr result (IsPassFault config.now before entry.now given) }
+            IfErr result (IsPassFault (λ _. HaveAnswered self.old.observers.items
+            self.new.observers.items self.old.senders.items self.new.senders.items) config.now before
+            entry.now given) }
     {
         config.limits();
         check_figures(entry, given)?;
@@ -111,7 +114,8 @@ impl Replayer {
         ensures given { IfOk result (λ _.
             AreGivenPasses arrivals.now (p + 1) (take (p + 1) history.now)) }
         ensures ends { IfOk result (λ _. IsOneEnd self.old self.new) }
-        ensures fault { IfErr result (IsReplayFault config.now arrivals.now history.now) }
+        ensures fault { IfErr result (IsReplayFault (HasFound p (p + 1) self.old self.new) config.now
+            arrivals.now history.now) }
     {
         let given = arrivals.passes.as_slice()[p];
         match self.pass(config, &history[p], given) {

@@ -1,9 +1,12 @@
-use Rattle.std.proofs.Common.{◌≡◌, ◌+◌, ◌∙◌, [], List, ap, arith, length, min, refl, subst, sym, take}
+use Rattle.std.proofs.Common.{◌≡◌, ◌+◌, ◌∙◌, [], List, ap, arith, inl, length, min, refl, subst, sym, take}
 use Rattle.std.specs.Vec.{with_items}
 use Rattle.std.proofs.lemmas.List.{length-map, with_items_is}
 use Rattle.cal_run.specs.Workers.{HaveMade, Seat, journals_of, seat_of, seats_of}
 use Rattle.cal_run.specs.declared.workers.worker.Worker.{Worker}
 use Rattle.cal_replay.specs.declared.ending.ReplayParts.{ReplayParts}
+use Rattle.cal_replay.specs.Given.{HasFound, HasStoppedAt}
+use Rattle.cal_replay.proofs.Faulted.{fault_more}
+use Rattle.cal_replay.proofs.Given.{stopped_so}
 use Rattle.cal_replay.proofs.Rounds.{parts_more}
 use Rattle.cal_replay.proofs.lockstep.make_round.Goals as goal
 
@@ -11,6 +14,18 @@ pub turns_of_round-requires-clause-made : goal.turns_of_round-requires-clause-ma
 turns_of_round-requires-clause-made g c =
     let P : List Worker → Type 0 = λ l. HaveMade c.args.arrivals.now (min c.args.r (length c.args.arrivals.now.turns)) l in
     subst P (sym c.as_mut_slice.ensures.value) c.requires.before.parts.turns
+
+-- where the pass is refused, the threads have made the turns before
+pub returns-in-Err-clause-stopped : goal.returns-in-Err-clause-stopped
+returns-in-Err-clause-stopped g c =
+    let r = c.args.r in
+    let arrivals = c.args.arrivals.now in
+    let t = length arrivals.turns in
+    let before : ReplayParts = c.args.parts.now in
+    let after : ReplayParts = record { replayer = c.pass_of_round.new.replayer; workers = before.workers; watch = before.watch } in
+    fault_more (HasFound r (r + 1) before.replayer after.replayer) (HasStoppedAt arrivals after) c.args.config.now arrivals c.args.history.now c.in-Err.fault
+    (λ passes k look room e found. stopped_so c.args.config.now arrivals _ (min r t) r (r + 1) before after c.requires.before.parts refl refl
+    (λ n low high. let same : min r t ≡ min n t = omega (arith, low, high) in inl same) passes k look room found) c.in-Err.ensures.fault
 
 -- after the turns the threads are what was written back
 pub returns-in-Ok-clause-made : goal.returns-in-Ok-clause-made

@@ -1,4 +1,4 @@
-use Rattle.std.proofs.Common.{◌≡◌, ◌<◌, ◌≤◌, ◌∙◌, Bool, true, false, List, Some, length, get_or, slice_get, slice_index_or, sym, ap, subst, arith}
+use Rattle.std.proofs.Common.{◌≡◌, ◌<◌, ◌≤◌, ◌∙◌, Bool, true, false, List, Some, length, get_or, set, slice_get, slice_index_or, sym, ap, subst, arith}
 use Rattle.std.proofs.lemmas.Option.{slice_get-get_or, slice_get_within}
 use Rattle.cal_command.specs.Rings.{SenderView}
 use Rattle.cal_machine.proofs.Last.{some_same}
@@ -9,6 +9,8 @@ use Rattle.cal_sched.specs.Looking.{HasLooked}
 use Rattle.cal_sched.specs.Passing.{HasAsked}
 use Rattle.cal_signal.specs.Ends.{ObserverView}
 use Rattle.cal_signal.specs.declared.look.Look.{Look}
+use Rattle.cal_sched.proofs.Lists.{slice_get-set_same}
+use Rattle.cal_replay.specs.Given.{HaveAnswered}
 use Rattle.cal_replay.specs.Unlike.{IsUnlike, is_whole}
 use Rattle.cal_replay.proofs.Going.{gone-more, gone-none, index_is}
 use Rattle.cal_replay.proofs.looking.look_each.Goals as goal
@@ -30,7 +32,39 @@ returns-in-Err-clause-fault c =
     let room_at = subst (λ (l : List Bool). slice_get l k ≡ Some room.0) (sym c.as_slice-rooms.ensures) room.1 in
     let at_told = subst (λ (s : Seen). IsUnlike s (slice_index_or c.as_slice-rooms.result.now k false) c.observe-look.result c.room-room.result c.in-Err.unlike) (index_is c.as_slice-seen.result.now k _ told.0 told_at) c.in-Err.ensures.unlike in
     let at_both = subst (λ (b : Bool). IsUnlike told.0 b c.observe-look.result c.room-room.result c.in-Err.unlike) (index_is c.as_slice-rooms.result.now k false room.0 room_at) at_told in
-    (told.0, room.0, c.observe-look.result, c.room-room.result, told.1, room.1, at_both)
+    let rings_many = c.requires.rings in
+    let pages = c.loop-thread.invariant.pages in
+    let rings = c.loop-thread.invariant.rings in
+    let same_pages = pages.same_many in
+    let same_rings = rings.same_many in
+    let low_page : k < length c.loop-thread.observers.items = omega (arith, test, end, own, same_pages) in
+    let low_ring : k < length c.loop-thread.senders.items = omega (arith, test, end, own, rings_many, same_rings) in
+    let was : ObserverView = c.index_mut.result.now in
+    let had : SenderView = c.index_mut-in-loop-thread.result.now in
+    let at : slice_get c.loop-thread.observers.items k ≡ Some was = slice_get-get_or c.loop-thread.observers.items k _ low_page ∙ ap Some (sym c.index_mut.ensures.value) in
+    let on : slice_get c.loop-thread.senders.items k ≡ Some had = slice_get-get_or c.loop-thread.senders.items k _ low_ring ∙ ap Some (sym c.index_mut-in-loop-thread.ensures.value) in
+    let answered : HaveAnswered c.args.observers.now.items (set c.loop-thread.observers.items k c.observe-look.new.self) c.args.senders.now.items (set c.loop-thread.senders.items k c.room-room.new.self) k c.observe-look.result c.room-room.result = record {
+      was = was;
+      is = c.observe-look.new.self;
+      had = had;
+      has = c.room-room.new.self;
+      observed = sym (pages.rest k (omega arith)) ∙ at;
+      seen = slice_get-set_same c.loop-thread.observers.items k c.observe-look.new.self low_page;
+      sends = sym (rings.rest k (omega arith)) ∙ on;
+      asked_it = slice_get-set_same c.loop-thread.senders.items k c.room-room.new.self low_ring;
+      looks = record {
+        page = c.observe-look.ensures.page;
+        looks = c.observe-look.ensures.looks;
+        found = c.observe-look.ensures.found;
+      };
+      rooms = record {
+        ring = c.room-room.ensures.same.0;
+        sent = c.room-room.ensures.same.1;
+        kept = c.room-room.ensures.kept;
+        known = c.room-room.ensures.known;
+      };
+    } in
+    (told.0, room.0, c.observe-look.result, c.room-room.result, told.1, room.1, at_both, answered)
 
 pub loop-thread-preserved : goal.loop-thread-preserved
 loop-thread-preserved c =

@@ -1,4 +1,4 @@
-use Rattle.std.proofs.Common.{◌≡◌, ◌+◌, ◌*◌, ◌∙◌, ◌<◌, ◌≤◌, [], ◌∷◌, ℕ, zero, suc, List, Some, ap, arith, slice_get, length, map, refl, replicate, subst, sym, take}
+use Rattle.std.proofs.Common.{◌≡◌, ◌+◌, ◌*◌, ◌∙◌, ◌<◌, ◌≤◌, [], ◌∷◌, ℕ, zero, suc, List, Some, ap, arith, inr, slice_get, length, map, refl, replicate, subst, sym, take}
 use Rattle.std.specs.Vec.{with_items}
 use Rattle.std.specs.declared.alloc.Global.{Global}
 use Rattle.std.specs.declared.vec.Vec.{Vec}
@@ -15,6 +15,9 @@ use Rattle.cal_trace.specs.declared.arrivals.Arrivals.{Arrivals}
 use Rattle.cal_trace.specs.declared.arrivals.GivenPass.{GivenPass}
 use Rattle.cal_replay.specs.Parts.{AreGivenPasses, AreReplayParts}
 use Rattle.cal_replay.specs.declared.ending.ReplayParts.{ReplayParts}
+use Rattle.cal_replay.specs.Given.{HasFound, HasStoppedAt}
+use Rattle.cal_replay.proofs.Faulted.{fault_more}
+use Rattle.cal_replay.proofs.Given.{stopped_so}
 use Rattle.cal_replay.proofs.Rounds.{parts_more}
 use Rattle.cal_replay.proofs.paced.make_round.Goals as goal
 
@@ -95,6 +98,21 @@ make_turns-requires-clause-nothing g c nobody =
 
 pub make_turns-requires-clause-cores : goal.make_turns-requires-clause-cores
 make_turns-requires-clause-cores g c = subst (λ (s : CoreSet). AreAllCores s) (sym c.show_figure.ensures.cores) c.requires.before.cores
+
+-- where a pass is refused, the threads have made the turns before
+pub returns-in-Err-clause-stopped : goal.returns-in-Err-clause-stopped
+returns-in-Err-clause-stopped g c =
+    let r = c.args.r in
+    let pace = c.args.plan.now.pace in
+    let given = c.show_figure.new.given in
+    let before : ReplayParts = c.args.parts.now in
+    let after : ReplayParts = record { replayer = c.make_passes.new.replayer; workers = before.workers; watch = before.watch } in
+    let differ = c.show_figure.ensures.given in
+    let many : length given.passes ≡ pace * length given.turns = differ.many ∙ c.requires.many ∙ ap (λ (l : List ℕ). pace * length l) (sym differ.turns) in
+    fault_more (HasFound (pace * r) (pace * (r + 1)) before.replayer after.replayer) (HasStoppedAt given after) c.args.config.now given c.args.history.now c.in-Err.fault
+    (λ passes k look room e found. stopped_so c.args.config.now given _ r (pace * r) (pace * (r + 1)) before after
+    (parts-still _ c.args.given.now given c.args.config.now _ _ before differ c.requires.before.parts) refl refl
+    (λ n low high. inr (pace, many, low, high)) passes k look room found) c.in-Err.ensures.fault
 
 -- after the turns the threads are what was written back
 pub returns-in-Ok-clause-made : goal.returns-in-Ok-clause-made

@@ -47,7 +47,7 @@ returns-in-Ok-end_replay-clause-replay g c =
     let history = c.args.history.now in
     let given = c.make_rounds.new.given in
     let differ = c.make_rounds.ensures.given in
-    let made = c.in_ok-make_rounds.ensures.made in
+    let made = c.in_default-make_rounds.ensures.made in
     let parts = c.make_rounds.new.parts in
     let pace = c.args.plan.now.pace in
     let as_told : pace * length given.turns ≡ length history = ap (λ (l : List ℕ). pace * length l) differ.turns ∙ sym c.requires.many ∙ sym c.in_default.ensures.many in
@@ -64,5 +64,11 @@ returns-in-Ok-end_replay-clause-replay g c =
     record {
       journals = journals_of parts.workers.items;
       replay = c.in-Ok-end_replay.ensures history are passed;
-      collected = c.in_ok-make_rounds.ensures.collected held;
+      collected = c.in_default-make_rounds.ensures.collected held;
     }
+
+pub stop-requires-clause-some : goal.stop-requires-clause-some
+stop-requires-clause-some g c = (c.args.config.now, c.make_rounds.new.given, c.args.history.now, c.in-Err-make_rounds.ensures.stopped)
+
+pub returns-in-Err-make_rounds-clause-stopped : goal.returns-in-Err-make_rounds-clause-stopped
+returns-in-Err-make_rounds-clause-stopped g c = c.stop.ensures c.args.config.now c.make_rounds.new.given c.args.history.now c.in-Err-make_rounds.ensures.stopped
