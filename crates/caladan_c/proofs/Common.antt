@@ -2,7 +2,6 @@
 pub use Rattle.cal_guard.specs.Guarded.{board_in}
 pub use Rattle.cal_guard.specs.Permitted.{ArePermitted, IsPermittedHistory}
 pub use Rattle.cal_machine.specs.Table.{IsTable, Table}
-pub use Rattle.cal_machine.specs.TableTasks.{threads_of_table}
 pub use Rattle.cal_policy.specs.History.{actions_of, looks_of}
 pub use Rattle.cal_policy.specs.History.Looks.{last_shown, look_of}
 pub use Rattle.cal_policy.specs.Judgement.Judging.{IsFitLook, IsInput, judged}
@@ -16,7 +15,7 @@ pub use Rattle.cal_policy.specs.declared.history.input.Input.{Input}
 pub use Rattle.cal_policy.specs.declared.judgement.open_input.FoundLook.{FoundLook}
 pub use Rattle.caladan_c.specs.Found.{found_of, input_of_found, look_of_found}
 pub use Rattle.caladan_c.specs.GuardView.{GuardView, WasStopped, WentThrough}
-pub use Rattle.caladan_c.specs.OneByOne.{AreSaid, IsFirstUnfit, IsTakenAt, input_of_each, is_unfit, said_of}
+pub use Rattle.caladan_c.specs.OneByOne.{IsFirstUnfit, IsTakenAt, is_unfit, said_of}
 pub use Rattle.caladan_c.specs.Passing.{MadePass, passed}
 pub use Rattle.caladan_c.specs.Standing.{Standing}
 pub use Rattle.caladan_c.specs.Told.{AreJudgements, judgement_at, judgement_of, told_of}

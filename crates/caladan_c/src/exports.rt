@@ -52,6 +52,23 @@ macro_rules! did {
     };
 }
 
+/// Has it do what it may refuse, and tells the first thing that is wrong with what was given: its
+/// number; or 0.
+macro_rules! first_wrong {
+    ($Kind:ident: $handle:ident, $alloc:ident; $kept:ident => $done:expr;
+        $first:ident => $told:expr, $number:expr) => {
+        asked!($Kind: $handle, $alloc; Refusal::Closed as u8; $kept => $done;
+            answer => match answer {
+                Ok(None) => 0,
+                Ok(Some($first)) => {
+                    $told;
+                    $number
+                }
+                Err(refusal) => refusal.number(),
+            })
+    };
+}
+
 /// Has a handle keep what was opened: 0, or the table's fault.
 macro_rules! kept_as {
     ($Kind:ident: $handle:ident, $alloc:ident; $opened:expr) => {

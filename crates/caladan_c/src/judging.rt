@@ -12,6 +12,7 @@ ghost use Rattle.caladan_c.specs.declared.answer.Refusal.TheVariants.{NoRoom, Wr
 
 use crate::answer::Refusal;
 use crate::found::{Found, found_look};
+use crate::handed_in::one_for_each;
 use crate::told::fault::tell_look;
 use cal_machine::Config;
 use cal_policy::state::Board;
@@ -58,13 +59,7 @@ pub fn judge_each(
     ensures why { IfErr result (λ why. (why ≡ WrongCount) ⊎ (why ≡ NoRoom)) }
     ensures refused { OnErr result (judged.new ≡ judged.old) }
 {
-    let threads = config.threads();
-    if looks.len() != threads {
-        return Err(Refusal::WrongCount);
-    }
-    if judged.len() < threads {
-        return Err(Refusal::NoRoom);
-    }
+    one_for_each(config.threads(), looks, judged.len())?;
     say_each(config, board, looks, judged);
     Ok(())
 }

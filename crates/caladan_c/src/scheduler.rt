@@ -2,7 +2,7 @@
 
 mod each;
 
-ghost use Rattle.std.specs.Prelude.{◌≡◌, ◌≤◌, Err, IfOk, IfErr, List, OnErr, [], length};
+ghost use Rattle.std.specs.Prelude.{◌≡◌, ◌≢◌, ◌⊎◌, Err, IfOk, IfErr, List, OnErr, [], length};
 ghost use Rattle.cal_machine.specs.Outcome.{Gives};
 ghost use Rattle.cal_machine.specs.Reading.{table_in};
 ghost use Rattle.cal_policy.specs.Judgement.Judging.{IsInput};
@@ -11,14 +11,15 @@ ghost use Rattle.cal_policy.specs.declared.history.entry.PassEntry.{PassEntry};
 ghost use Rattle.caladan_c.specs.Found.{input_given};
 
 use crate::answer::Refusal;
-use crate::handed_in::HandedIn;
+use crate::handed_in::{HandedIn, one_for_each};
 use crate::told::judgement::tell_looks;
+use crate::told::{Told, tell_all};
 use crate::walk::{Basis, take_looks};
 use cal_guard::{each_policy_is_permitted, passes_are_short, permitted_settled_is_no_news};
 use cal_machine::{Config, ConfigFault};
 use cal_policy::laws::open_pass_fits;
 use cal_policy::state::Board;
-use cal_policy::{Action, Actions, Book, OpenPass, Policy};
+use cal_policy::{Actions, Book, MOST_ACTIONS, OpenPass, Policy};
 use std::alloc::Global;
 use std::marker::Model;
 
@@ -47,9 +48,9 @@ impl Model for Scheduler {
 ghost use Rattle.cal_policy.specs.Book.{board_in};
 ghost use Rattle.cal_policy.specs.Policies.{IsLegalBy};
 ghost use Rattle.cal_policy.specs.State.{IsReady, IsStateAfter};
-ghost use Rattle.caladan_c.specs.Passing.{AfterOwn, MadePass};
-ghost use Rattle.caladan_c.specs.Told.{AreJudgements};
-ghost use Rattle.caladan_c.specs.declared.answer.Refusal.TheVariants.{Unfit};
+ghost use Rattle.caladan_c.specs.Passing.{AfterOwn, MadePass, HasRoomToTell, IsShort};
+ghost use Rattle.caladan_c.specs.Told.{AreJudgements, AreTold};
+ghost use Rattle.caladan_c.specs.declared.answer.Refusal.TheVariants.{NoRoom, Unfit, WrongCount};
 
 impl Scheduler {
     /// A scheduler of this table by this policy that has made no pass, or the table's fault. It
@@ -95,27 +96,37 @@ impl Scheduler {
         self.config.threads()
     }
 
-    /// The actions of the last pass.
-    pub fn made(&self) -> &[Action]
-        ensures { result.now ≡ self.now.made }
-    {
-        self.made.as_slice()
-    }
-
-    /// Makes the next pass, whose actions are then in `made`, and tells what was judged of each
-    /// look; or says that it may not be given these looks. It takes no memory.
-    pub fn pass(&mut self, given: HandedIn<'_>, judged: &mut [u8]) -> Result<(), Refusal>
-        requires count { length given.looks.now ≡ threads_of_table self.old.table }
-        requires room { threads_of_table self.old.table ≤ length judged.old }
-        ensures passed { IfOk result (λ _. AfterOwn self.old.table self.old.book (λ h.
-            MadePass self.old h (input_given self.old.table h given.entry) self.new)) }
+    /// Makes the next pass, and tells its actions and what was judged of each look: how many actions
+    /// they are, or why it did nothing. It takes no memory.
+    pub fn pass(
+        &mut self,
+        given: HandedIn<'_>,
+        judged: &mut [u8],
+        actions: &mut [Told],
+    ) -> Result<usize, Refusal>
+        ensures passed { IfOk result (λ made. AfterOwn self.old.table self.old.book (λ h.
+            MadePass self.old h (input_given self.old.table h given.entry) self.new × AreTold
+            self.new.made made actions.new)) }
         ensures judged { IfOk result (λ _. AfterOwn self.old.table self.old.book (λ h.
             AreJudgements (input_given self.old.table h given.entry).seen judged.new)) }
         ensures unfit { result ≡ Err Unfit → AfterOwn self.old.table self.old.book (λ h.
             IsInput self.old.table h (input_given self.old.table h given.entry) → ⊥) }
-        ensures why { IfErr result (λ why. why ≡ Unfit) }
-        ensures refused { OnErr result ((self.new ≡ self.old) × (judged.new ≡ judged.old)) }
+        ensures wrong_count { length given.entry.looks.now ≢ threads_of_table self.old.table →
+            result ≡ Err WrongCount }
+        ensures no_room { length given.entry.looks.now ≡ threads_of_table self.old.table →
+            IsShort (threads_of_table self.old.table) judged.old actions.old →
+            result ≡ Err NoRoom }
+        ensures answers { length given.entry.looks.now ≡ threads_of_table self.old.table →
+            HasRoomToTell (threads_of_table self.old.table) judged.old actions.old →
+            IfErr result (λ why. why ≡ Unfit) }
+        ensures why { IfErr result (λ why. (why ≡ WrongCount) ⊎ (why ≡ NoRoom) ⊎ (why ≡ Unfit)) }
+        ensures refused { OnErr result ((self.new ≡ self.old) × (actions.new ≡ actions.old) ×
+            (judged.new ≡ judged.old)) }
     {
+        one_for_each(self.config.threads(), given.looks, judged.len())?;
+        if actions.len() < MOST_ACTIONS {
+            return Err(Refusal::NoRoom);
+        }
         take_looks(
             &mut self.looks,
             Basis {
@@ -138,6 +149,6 @@ impl Scheduler {
             &mut self.made,
         );
         tell_looks(&self.looks, judged);
-        Ok(())
+        Ok(tell_all(self.made.as_slice(), actions))
     }
 }

@@ -3,7 +3,7 @@
 
 mod each;
 
-ghost use Rattle.std.specs.Prelude.{◌≡◌, ◌⊎◌, ◌≤◌, Err, IfOk, IfErr, IfNone, OnErr, []};
+ghost use Rattle.std.specs.Prelude.{◌≡◌, ◌≢◌, ◌⊎◌, ◌<◌, ◌≤◌, Err, IfOk, IfErr, IfNone, OnErr, []};
 ghost use Rattle.std.specs.Prelude.{List, length};
 ghost use Rattle.cal_machine.specs.Outcome.{Gives};
 ghost use Rattle.cal_machine.specs.Reading.{table_in};
@@ -15,7 +15,7 @@ ghost use Rattle.caladan_c.specs.Told.{AreJudgements};
 ghost use Rattle.std.specs.Option.{IfSome};
 
 use crate::answer::Refusal;
-use crate::handed_in::HandedIn;
+use crate::handed_in::{HandedIn, one_for_each};
 use crate::recorded::read_actions;
 use crate::told::Told;
 use crate::told::judgement::tell_looks;
@@ -57,6 +57,7 @@ ghost use Rattle.cal_guard.specs.Permitted.{IsPermittedHistory};
 ghost use Rattle.caladan_c.specs.GuardView.{WentThrough, WasStopped};
 ghost use Rattle.caladan_c.specs.Recorded.{AreNoActions};
 ghost use Rattle.caladan_c.specs.declared.answer.Refusal.TheVariants.{Memory, Unfit, NoAction};
+ghost use Rattle.caladan_c.specs.declared.answer.Refusal.TheVariants.{NoRoom, WrongCount};
 
 impl TableGuard {
     /// A guard of this table that was handed no pass, or the table's fault. It takes all the memory
@@ -108,28 +109,36 @@ impl TableGuard {
         &mut self,
         given: HandedIn<'_>,
         judged: &mut [u8],
-        told: &[Told],
+        actions: &[Told],
     ) -> Result<Option<Refused>, Refusal>
-        requires count { length given.looks.now ≡ threads_of_table self.old.table }
-        requires room { threads_of_table self.old.table ≤ length judged.old }
         ensures through { IfOk result (λ said.
             IfNone said (AfterPermitted self.old.table self.old.guard (λ h.
-            WentThrough self.old h (input_given self.old.table h given.entry) told.now self.new))) }
+            WentThrough self.old h (input_given self.old.table h given.entry) actions.now
+            self.new))) }
         ensures judged { IfOk result (λ said.
             IfNone said (AfterPermitted self.old.table self.old.guard (λ h.
             AreJudgements (input_given self.old.table h given.entry).seen judged.new))) }
-        ensures stopped { IfOk result (λ said. IfSome said (λ refused.
+        ensures stopped { IfOk result (λ said. IfSome said (λ first.
             AfterPermitted self.old.table self.old.guard (λ h.
-            WasStopped self.old h (input_given self.old.table h given.entry) told.now refused))) }
+            WasStopped self.old h (input_given self.old.table h given.entry) actions.now first))) }
         ensures unfit { result ≡ Err Unfit → AfterPermitted self.old.table self.old.guard (λ h.
             IsInput self.old.table h (input_given self.old.table h given.entry) → ⊥) }
-        ensures no_action { result ≡ Err NoAction → AreNoActions told.now }
-        ensures why { IfErr result (λ why. (why ≡ Unfit) ⊎ (why ≡ NoAction) ⊎ (why ≡ Memory)) }
+        ensures no_action { result ≡ Err NoAction → AreNoActions actions.now }
+        ensures wrong_count { length given.entry.looks.now ≢ threads_of_table self.old.table →
+            result ≡ Err WrongCount }
+        ensures no_room { length given.entry.looks.now ≡ threads_of_table self.old.table →
+            length judged.old < threads_of_table self.old.table → result ≡ Err NoRoom }
+        ensures answers { length given.entry.looks.now ≡ threads_of_table self.old.table →
+            threads_of_table self.old.table ≤ length judged.old →
+            IfErr result (λ why. (why ≡ Unfit) ⊎ (why ≡ NoAction) ⊎ (why ≡ Memory)) }
+        ensures why { IfErr result (λ why. (why ≡ WrongCount) ⊎ (why ≡ NoRoom) ⊎ (why ≡ Unfit) ⊎
+            (why ≡ NoAction) ⊎ (why ≡ Memory)) }
         ensures stands { IfOk result (λ said. IfSome said (λ _. (self.new ≡ self.old) ×
             (judged.new ≡ judged.old))) }
         ensures refused { OnErr result ((self.new ≡ self.old) × (judged.new ≡ judged.old)) }
     {
-        read_actions(&mut self.chosen, told)?;
+        one_for_each(self.config.threads(), given.looks, judged.len())?;
+        read_actions(&mut self.chosen, actions)?;
         take_looks(
             &mut self.looks,
             Basis {

@@ -5,19 +5,17 @@ mod board;
 mod each;
 mod facts;
 
-ghost use Rattle.std.specs.Prelude.{◌≡◌, ◌≢◌, ◌⊎◌, ◌<◌, ◌≤◌, IfOk, IfErr, IfNone, OnErr, Err, None};
-ghost use Rattle.std.specs.Prelude.{length, true, false};
-ghost use Rattle.std.specs.Option.{is_some, ForSome, IfSome, IsSomeAnd};
+ghost use Rattle.std.specs.Prelude.{◌≡◌, ◌≢◌, ◌⊎◌, ◌<◌, ◌≤◌, None, length, true, false};
+ghost use Rattle.std.specs.Option.{is_some, ForSome, IsSomeAnd};
 ghost use Rattle.cal_machine.specs.Reading.{table_in};
 ghost use Rattle.cal_policy.specs.Board.{kept_holder};
 ghost use Rattle.cal_policy.specs.History.{actions_of, holder_of};
 ghost use Rattle.cal_policy.specs.Judgement.Judging.{IsInput};
 ghost use Rattle.cal_machine.specs.TableTasks.{threads_of_table};
 ghost use Rattle.caladan_c.specs.Answer.{refusal_number, finding_number};
-ghost use Rattle.caladan_c.specs.Found.{input_of_found, input_given};
+ghost use Rattle.caladan_c.specs.Found.{input_of_found};
 ghost use Rattle.cal_guard.specs.Guarded.{AfterPermitted};
-ghost use Rattle.caladan_c.specs.GuardView.{SaysGuard, WentThrough, WasStopped};
-ghost use Rattle.caladan_c.specs.GuardView.{WasStoppedAt};
+ghost use Rattle.caladan_c.specs.GuardView.{SaysGuard, WentThrough, WasStoppedAt};
 ghost use Rattle.caladan_c.specs.Told.{AreJudgements, counts_of, told_holder_of};
 ghost use Rattle.caladan_c.specs.Recorded.{AreNoActions};
 ghost use Rattle.caladan_c.specs.declared.answer.Refusal.TheVariants.{Closed, Memory, NoAction};
@@ -36,7 +34,6 @@ use crate::told::Told;
 use crate::told::counts::{Counts, counts_of_task};
 use crate::told::holder::{ToldHolder, holder_on, tell_holder};
 use crate::told::refused::{ToldRefused, tell_refused};
-use cal_guard::Refused;
 use std::alloc::Global;
 
 /// Opens a guard of the table that a text spells, in a closed handle: 0, or the table's fault, 1 to
@@ -49,52 +46,6 @@ pub extern "C" fn caladan_guard_open(alloc: Global, table: &[u8], handle: &mut H
     ensures refused { result ≢ 0 → handle.new ≡ handle.old }
 {
     opened!(Guard: handle, alloc; TableGuard::open(alloc, table))
-}
-
-impl TableGuard {
-    /// Lets the next pass through, or names the first action that is not permitted; or says why it
-    /// did nothing.
-    fn pass_told(
-        &mut self,
-        given: HandedIn<'_>,
-        judged: &mut [u8],
-        actions: &[Told],
-    ) -> Result<Option<Refused>, Refusal>
-        ensures through { IfOk result (λ said.
-            IfNone said (AfterPermitted self.old.table self.old.guard (λ h.
-            WentThrough self.old h (input_given self.old.table h given.entry) actions.now
-            self.new))) }
-        ensures judged { IfOk result (λ said.
-            IfNone said (AfterPermitted self.old.table self.old.guard (λ h.
-            AreJudgements (input_given self.old.table h given.entry).seen judged.new))) }
-        ensures stopped { IfOk result (λ said. IfSome said (λ first.
-            AfterPermitted self.old.table self.old.guard (λ h.
-            WasStopped self.old h (input_given self.old.table h given.entry) actions.now first))) }
-        ensures unfit { result ≡ Err Unfit → AfterPermitted self.old.table self.old.guard (λ h.
-            IsInput self.old.table h (input_given self.old.table h given.entry) → ⊥) }
-        ensures no_action { result ≡ Err NoAction → AreNoActions actions.now }
-        ensures wrong_count { length given.entry.looks.now ≢ threads_of_table self.old.table →
-            result ≡ Err WrongCount }
-        ensures no_room { length given.entry.looks.now ≡ threads_of_table self.old.table →
-            length judged.old < threads_of_table self.old.table → result ≡ Err NoRoom }
-        ensures answers { length given.entry.looks.now ≡ threads_of_table self.old.table →
-            threads_of_table self.old.table ≤ length judged.old →
-            IfErr result (λ why. (why ≡ Unfit) ⊎ (why ≡ NoAction) ⊎ (why ≡ Memory)) }
-        ensures why { IfErr result (λ why. (why ≡ WrongCount) ⊎ (why ≡ NoRoom) ⊎ (why ≡ Unfit) ⊎
-            (why ≡ NoAction) ⊎ (why ≡ Memory)) }
-        ensures stands { IfOk result (λ said. IfSome said (λ _. (self.new ≡ self.old) ×
-            (judged.new ≡ judged.old))) }
-        ensures refused { OnErr result ((self.new ≡ self.old) × (judged.new ≡ judged.old)) }
-    {
-        let threads = self.threads();
-        if given.looks.len() != threads {
-            return Err(Refusal::WrongCount);
-        }
-        if judged.len() < threads {
-            return Err(Refusal::NoRoom);
-        }
-        self.pass(given, judged, actions)
-    }
 }
 
 /// Hands the guard the next pass: what was found of each thread, in thread order, and the actions
@@ -148,16 +99,9 @@ pub extern "C" fn caladan_guard_pass(
         (judged.new ≡ judged.old) }
     ensures told { result ≢ finding_number Stopped → refused.new ≡ refused.old }
 {
-    asked!(Guard: handle, alloc; Refusal::Closed as u8;
-        kept => kept.pass_told(HandedIn { now, bandwidth, looks }, judged, actions);
-        answer => match answer {
-            Ok(None) => 0,
-            Ok(Some(first)) => {
-                *refused = tell_refused(first);
-                Finding::Stopped as u8
-            }
-            Err(refusal) => refusal.number(),
-        })
+    first_wrong!(Guard: handle, alloc;
+        kept => kept.pass(HandedIn { now, bandwidth, looks }, judged, actions);
+        first => *refused = tell_refused(first), Finding::Stopped as u8)
 }
 
 /// Who has a core after the passes that went through: 0; 10 the handle is closed; 16 the table has

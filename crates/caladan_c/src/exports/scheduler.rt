@@ -3,8 +3,7 @@
 mod each;
 mod facts;
 
-ghost use Rattle.std.specs.Prelude.{◌≡◌, ◌≢◌, ◌⊎◌, ◌<◌, ◌≤◌, IfOk, IfErr, OnErr, Err, None};
-ghost use Rattle.std.specs.Prelude.{length, true, false};
+ghost use Rattle.std.specs.Prelude.{◌≡◌, ◌≢◌, ◌⊎◌, ◌<◌, ◌≤◌, None, length, true, false};
 ghost use Rattle.std.specs.Option.{is_some, ForSome, IsSomeAnd};
 ghost use Rattle.cal_machine.specs.Reading.{table_in};
 ghost use Rattle.cal_policy.specs.Board.{kept_holder};
@@ -12,7 +11,7 @@ ghost use Rattle.cal_policy.specs.History.{actions_of, holder_of};
 ghost use Rattle.cal_policy.specs.Judgement.Judging.{IsInput};
 ghost use Rattle.cal_machine.specs.TableTasks.{threads_of_table};
 ghost use Rattle.caladan_c.specs.Answer.{refusal_number};
-ghost use Rattle.caladan_c.specs.Found.{input_of_found, input_given};
+ghost use Rattle.caladan_c.specs.Found.{input_of_found};
 ghost use Rattle.caladan_c.specs.Opening.{SaysScheduler};
 ghost use Rattle.caladan_c.specs.Passing.{AfterOwn, MadePass, HasRoomToTell, IsShort};
 ghost use Rattle.caladan_c.specs.Told.{AreTold, AreJudgements, counts_of, told_holder_of};
@@ -30,10 +29,10 @@ use crate::handle::Handle;
 use crate::handle::kept::Kept;
 use crate::policy_numbers::policy_numbered;
 use crate::scheduler::Scheduler;
+use crate::told::Told;
 use crate::told::counts::{Counts, counts_of_task};
 use crate::told::holder::{ToldHolder, holder_on, tell_holder};
-use crate::told::{Told, tell_all};
-use cal_policy::{MOST_ACTIONS, Policy};
+use cal_policy::Policy;
 use std::alloc::Global;
 
 /// Opens the table that a text spells for passes by `Policy::Caladan`, in a closed handle: 0, or
@@ -90,45 +89,6 @@ pub extern "C" fn caladan_bandwidth_limit(alloc: Global, handle: &mut Handle) ->
         limit => limit)
 }
 
-impl Scheduler {
-    /// Makes the next pass and writes its actions: how many they are, or why it did nothing.
-    fn pass_told(
-        &mut self,
-        given: HandedIn<'_>,
-        judged: &mut [u8],
-        actions: &mut [Told],
-    ) -> Result<usize, Refusal>
-        ensures passed { IfOk result (λ made. AfterOwn self.old.table self.old.book (λ h.
-            MadePass self.old h (input_given self.old.table h given.entry) self.new × AreTold
-            self.new.made made actions.new)) }
-        ensures judged { IfOk result (λ _. AfterOwn self.old.table self.old.book (λ h.
-            AreJudgements (input_given self.old.table h given.entry).seen judged.new)) }
-        ensures unfit { result ≡ Err Unfit → AfterOwn self.old.table self.old.book (λ h.
-            IsInput self.old.table h (input_given self.old.table h given.entry) → ⊥) }
-        ensures wrong_count { length given.entry.looks.now ≢ threads_of_table self.old.table →
-            result ≡ Err WrongCount }
-        ensures no_room { length given.entry.looks.now ≡ threads_of_table self.old.table →
-            IsShort (threads_of_table self.old.table) judged.old actions.old →
-            result ≡ Err NoRoom }
-        ensures answers { length given.entry.looks.now ≡ threads_of_table self.old.table →
-            HasRoomToTell (threads_of_table self.old.table) judged.old actions.old →
-            IfErr result (λ why. why ≡ Unfit) }
-        ensures why { IfErr result (λ why. (why ≡ WrongCount) ⊎ (why ≡ NoRoom) ⊎ (why ≡ Unfit)) }
-        ensures refused { OnErr result ((self.new ≡ self.old) × (actions.new ≡ actions.old) ×
-            (judged.new ≡ judged.old)) }
-    {
-        let threads = self.threads();
-        if given.looks.len() != threads {
-            return Err(Refusal::WrongCount);
-        }
-        if judged.len() < threads || actions.len() < MOST_ACTIONS {
-            return Err(Refusal::NoRoom);
-        }
-        self.pass(given, judged)?;
-        Ok(tell_all(self.made(), actions))
-    }
-}
-
 /// Makes the next pass on what was found of each thread, in thread order, and writes its actions
 /// and what was judged of each look: 0; 10 the handle is closed; 13 there is not one look for each
 /// thread; 14 there is not room for `MOST_ACTIONS` actions and a judgement of each look; 15 a look
@@ -174,7 +134,7 @@ pub extern "C" fn caladan_pass(
 {
     *made = 0;
     did!(Scheduler: handle, alloc;
-        kept => kept.pass_told(HandedIn { now, bandwidth, looks }, judged, actions);
+        kept => kept.pass(HandedIn { now, bandwidth, looks }, judged, actions);
         count => *made = count)
 }
 

@@ -1,12 +1,11 @@
 //! Passes of a guard that take looks one by one, and which look does not fit.
 
-ghost use Rattle.std.specs.Prelude.{◌≡◌, ◌≢◌, ◌⊎◌, ◌<◌, ◌≤◌, IfOk, IfErr, IfNone, OnErr, Err};
-ghost use Rattle.std.specs.Prelude.{length, false};
-ghost use Rattle.std.specs.Option.{is_some, ForSome, IfSome, IsSomeAnd};
+ghost use Rattle.std.specs.Prelude.{◌≡◌, ◌≢◌, ◌⊎◌, ◌<◌, ◌≤◌, length, false};
+ghost use Rattle.std.specs.Option.{is_some, ForSome, IsSomeAnd};
 ghost use Rattle.cal_machine.specs.TableTasks.{threads_of_table};
 ghost use Rattle.caladan_c.specs.Answer.{refusal_number, finding_number};
-ghost use Rattle.caladan_c.specs.GuardView.{WentThrough, WasStopped, WasStoppedAt};
-ghost use Rattle.caladan_c.specs.OneByOne.{input_of_each, input_given_each, AreSaid};
+ghost use Rattle.caladan_c.specs.GuardView.{WentThrough, WasStoppedAt};
+ghost use Rattle.caladan_c.specs.OneByOne.{input_of_each, AreSaid};
 ghost use Rattle.caladan_c.specs.OneByOne.{IsFirstUnfit, AllFit};
 ghost use Rattle.caladan_c.specs.Recorded.{AreNoActions};
 ghost use Rattle.caladan_c.specs.declared.answer.Refusal.TheVariants.{Closed, Memory, NoAction};
@@ -21,54 +20,9 @@ use crate::handed_in::HandedIn;
 use crate::handle::Handle;
 use crate::handle::kept::Kept;
 use crate::input::first_unfit;
-use crate::table_guard::TableGuard;
 use crate::told::Told;
 use crate::told::refused::{ToldRefused, tell_refused};
-use cal_guard::Refused;
 use std::alloc::Global;
-
-impl TableGuard {
-    /// Lets the next pass through, each look by itself, or names the first action that is not
-    /// permitted; or says why it did nothing.
-    fn pass_each_told(
-        &mut self,
-        given: HandedIn<'_>,
-        judged: &mut [u8],
-        actions: &[Told],
-    ) -> Result<Option<Refused>, Refusal>
-        ensures through { IfOk result (λ said.
-            IfNone said (AfterPermitted self.old.table self.old.guard (λ h.
-            WentThrough self.old h (input_given_each self.old.table h given.entry) actions.now
-            self.new))) }
-        ensures judged { IfOk result (λ _. AfterPermitted self.old.table self.old.guard (λ h.
-            AreSaid self.old.table.cores h given.entry.looks.now judged.new)) }
-        ensures stopped { IfOk result (λ said. IfSome said (λ first.
-            AfterPermitted self.old.table self.old.guard (λ h.
-            WasStopped self.old h (input_given_each self.old.table h given.entry) actions.now
-            first))) }
-        ensures no_action { result ≡ Err NoAction → AreNoActions actions.now }
-        ensures wrong_count { length given.entry.looks.now ≢ threads_of_table self.old.table →
-            result ≡ Err WrongCount }
-        ensures no_room { length given.entry.looks.now ≡ threads_of_table self.old.table →
-            length judged.old < threads_of_table self.old.table → result ≡ Err NoRoom }
-        ensures answers { length given.entry.looks.now ≡ threads_of_table self.old.table →
-            threads_of_table self.old.table ≤ length judged.old →
-            IfErr result (λ why. (why ≡ NoAction) ⊎ (why ≡ Memory)) }
-        ensures why { IfErr result (λ why. (why ≡ WrongCount) ⊎ (why ≡ NoRoom) ⊎
-            (why ≡ NoAction) ⊎ (why ≡ Memory)) }
-        ensures stands { IfOk result (λ said. IfSome said (λ _. self.new ≡ self.old)) }
-        ensures refused { OnErr result ((self.new ≡ self.old) × (judged.new ≡ judged.old)) }
-    {
-        let threads = self.threads();
-        if given.looks.len() != threads {
-            return Err(Refusal::WrongCount);
-        }
-        if judged.len() < threads {
-            return Err(Refusal::NoRoom);
-        }
-        self.pass_each(given, judged, actions)
-    }
-}
 
 /// Hands the guard the next pass as `caladan_guard_pass` does, each look by itself: one that is
 /// unfit, ahead or foreign is taken as a busy one, so it stops nobody and leaves no trace. 0: each
@@ -118,16 +72,9 @@ pub extern "C" fn caladan_guard_pass_each(
     ensures unjudged { result ≢ 0 → result ≢ finding_number Stopped → judged.new ≡ judged.old }
     ensures told { result ≢ finding_number Stopped → refused.new ≡ refused.old }
 {
-    asked!(Guard: handle, alloc; Refusal::Closed as u8;
-        kept => kept.pass_each_told(HandedIn { now, bandwidth, looks }, judged, actions);
-        answer => match answer {
-            Ok(None) => 0,
-            Ok(Some(first)) => {
-                *refused = tell_refused(first);
-                Finding::Stopped as u8
-            }
-            Err(refusal) => refusal.number(),
-        })
+    first_wrong!(Guard: handle, alloc;
+        kept => kept.pass_each(HandedIn { now, bandwidth, looks }, judged, actions);
+        first => *refused = tell_refused(first), Finding::Stopped as u8)
 }
 
 /// Which look a plain pass of the guard may not be given: 0 each fits; 15 one does not fit what its
@@ -154,14 +101,6 @@ pub extern "C" fn caladan_guard_first_unfit(
     ensures other { result ≢ refusal_number Unfit → thread.new ≡ thread.old }
     ensures same { handle.new.pointer.kept ≡ handle.old.pointer.kept }
 {
-    asked!(Guard: handle, alloc; Refusal::Closed as u8;
-        kept => first_unfit(kept.config(), kept.board(), looks);
-        answer => match answer {
-            Ok(None) => 0,
-            Ok(Some(first)) => {
-                *thread = first;
-                Refusal::Unfit as u8
-            }
-            Err(refusal) => refusal.number(),
-        })
+    first_wrong!(Guard: handle, alloc; kept => first_unfit(kept.config(), kept.board(), looks);
+        first => *thread = first, Refusal::Unfit as u8)
 }

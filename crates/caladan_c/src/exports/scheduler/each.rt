@@ -1,10 +1,10 @@
 //! Passes that take looks one by one, and which look does not fit.
 
-ghost use Rattle.std.specs.Prelude.{◌≡◌, ◌≢◌, ◌⊎◌, IsOk, IfOk, IfErr, OnErr, Err, length, false};
+ghost use Rattle.std.specs.Prelude.{◌≡◌, ◌≢◌, ◌⊎◌, length, false};
 ghost use Rattle.std.specs.Option.{is_some, ForSome, IsSomeAnd};
 ghost use Rattle.cal_machine.specs.TableTasks.{threads_of_table};
 ghost use Rattle.caladan_c.specs.Answer.{refusal_number};
-ghost use Rattle.caladan_c.specs.OneByOne.{input_of_each, input_given_each, AreSaid};
+ghost use Rattle.caladan_c.specs.OneByOne.{input_of_each, AreSaid};
 ghost use Rattle.caladan_c.specs.OneByOne.{IsFirstUnfit, AllFit};
 ghost use Rattle.caladan_c.specs.Passing.{AfterOwn, MadePass, HasRoomToTell, IsShort};
 ghost use Rattle.caladan_c.specs.Told.{AreTold};
@@ -18,47 +18,8 @@ use crate::handed_in::HandedIn;
 use crate::handle::Handle;
 use crate::handle::kept::Kept;
 use crate::input::first_unfit;
-use crate::scheduler::Scheduler;
-use crate::told::{Told, tell_all};
-use cal_policy::MOST_ACTIONS;
+use crate::told::Told;
 use std::alloc::Global;
-
-impl Scheduler {
-    /// Makes the next pass, each look by itself, and writes its actions: how many they are, or why
-    /// it did nothing.
-    fn pass_each_told(
-        &mut self,
-        given: HandedIn<'_>,
-        judged: &mut [u8],
-        actions: &mut [Told],
-    ) -> Result<usize, Refusal>
-        ensures passed { IfOk result (λ made. AfterOwn self.old.table self.old.book (λ h.
-            MadePass self.old h (input_given_each self.old.table h given.entry) self.new × AreTold
-            self.new.made made actions.new)) }
-        ensures judged { IfOk result (λ _. AfterOwn self.old.table self.old.book (λ h.
-            AreSaid self.old.table.cores h given.entry.looks.now judged.new)) }
-        ensures wrong_count { length given.entry.looks.now ≢ threads_of_table self.old.table →
-            result ≡ Err WrongCount }
-        ensures no_room { length given.entry.looks.now ≡ threads_of_table self.old.table →
-            IsShort (threads_of_table self.old.table) judged.old actions.old →
-            result ≡ Err NoRoom }
-        ensures answers { length given.entry.looks.now ≡ threads_of_table self.old.table →
-            HasRoomToTell (threads_of_table self.old.table) judged.old actions.old → IsOk result }
-        ensures why { IfErr result (λ why. (why ≡ WrongCount) ⊎ (why ≡ NoRoom)) }
-        ensures refused { OnErr result ((self.new ≡ self.old) × (actions.new ≡ actions.old) ×
-            (judged.new ≡ judged.old)) }
-    {
-        let threads = self.threads();
-        if given.looks.len() != threads {
-            return Err(Refusal::WrongCount);
-        }
-        if judged.len() < threads || actions.len() < MOST_ACTIONS {
-            return Err(Refusal::NoRoom);
-        }
-        self.pass_each(given, judged);
-        Ok(tell_all(self.made(), actions))
-    }
-}
 
 /// Makes the next pass as `caladan_pass` does, each look by itself: one that is unfit, ahead or
 /// foreign is taken as a busy one, so it stops nobody and leaves no trace. 0; 10 the handle is
@@ -99,7 +60,7 @@ pub extern "C" fn caladan_pass_each(
 {
     *made = 0;
     did!(Scheduler: handle, alloc;
-        kept => kept.pass_each_told(HandedIn { now, bandwidth, looks }, judged, actions);
+        kept => kept.pass_each(HandedIn { now, bandwidth, looks }, judged, actions);
         count => *made = count)
 }
 
@@ -127,14 +88,6 @@ pub extern "C" fn caladan_first_unfit(
     ensures other { result ≢ refusal_number Unfit → thread.new ≡ thread.old }
     ensures same { handle.new.pointer.kept ≡ handle.old.pointer.kept }
 {
-    asked!(Scheduler: handle, alloc; Refusal::Closed as u8;
-        kept => first_unfit(kept.config(), kept.board(), looks);
-        answer => match answer {
-            Ok(None) => 0,
-            Ok(Some(first)) => {
-                *thread = first;
-                Refusal::Unfit as u8
-            }
-            Err(refusal) => refusal.number(),
-        })
+    first_wrong!(Scheduler: handle, alloc; kept => first_unfit(kept.config(), kept.board(), looks);
+        first => *thread = first, Refusal::Unfit as u8)
 }

@@ -1,70 +1,46 @@
-use Rattle.caladan_c.proofs.Common.{rules, ◌≡◌, List, map, refl, ap, sym, subst, ◌∙◌, length-map, threads_of_table, Action, PassEntry, IsInput, IsOpenAt, found_of, input_of_found, IsStateAfter, board_in, IsPermittedHistory, GuardView, WentThrough, WasStopped, AreJudgements, told_of}
+use Rattle.caladan_c.proofs.Common.{rules, ◌≡◌, List, map, refl, ap, ◌∙◌, length-map, Action, IsInput, IsOpenAt, found_of, told_of, GuardView}
 use Rattle.caladan_c.proofs.Guarding.{went_through, was_stopped}
 use Rattle.caladan_c.proofs.Walked.{told_as_judged}
+use Rattle.caladan_c.specs.Found.{input_given}
 use Rattle.caladan_c.proofs.table_guard.TableGuard.pass.Goals as goal
 
 pub returns-clause-through : goal.returns-clause-through
-returns-clause-through c =
+returns-clause-through c = rw (← c.self.view_is) (λ h permitted state.
     let g : GuardView = record { table = c.self.inside.config; guard = c.self.inside.guard } in
-    let view : g ≡ c.args.self.now = c.self.view_is in
-    let looks = c.args.given.looks.now in
-    let now = c.args.given.now in
-    let bandwidth = c.args.given.bandwidth in
+    let given = c.args.given in
+    let looks = map found_of given.looks.now in
     let chosen : List Action = c.as_slice-chosen.result.now in
     let items : chosen ≡ c.read_actions.new.actions.items = search rules in
-    let told : map told_of chosen ≡ c.args.told.now = ap (λ (xs : List Action). map told_of xs) items ∙ c.in_ok-read_actions.ensures.actions in
-    let new : GuardView = record { table = g.table; guard = c.pass.new.self } in
-    let whole : (h : List PassEntry) → IsPermittedHistory g.table h → IsStateAfter (board_in g.guard) h → WentThrough g h (input_of_found g.table h now bandwidth looks) c.args.told.now new = λ h permitted state.
-    let quiet = c.permitted_settled_is_no_news.ensures g.table h permitted in
-    let came : IsOpenAt g.table h (map found_of looks) c.take_looks.new.came = c.in_ok-take_looks.ensures.taken h quiet (c.board.ensures.agrees h state) in
-    let all = length-map looks found_of ∙ c.requires.count ∙ sym (ap (λ (o : GuardView). threads_of_table o.table) view) in
-    let is : IsInput g.table h (input_of_found g.table h now bandwidth looks) = c.open_pass_fits.ensures g.table h now bandwidth (map found_of looks) c.take_looks.new.came came all in
-    let used : IsOpenAt g.table h (map found_of looks) c.deref.result.now = rw c.deref.ensures came in
-    went_through g h (input_of_found g.table h now bandwidth looks) (input_of_found g.table h now bandwidth looks) chosen c.args.told.now c.pass.new.self told refl is
-    ((c.in_default.ensures.exact h (map found_of looks) permitted state used).0 refl)
-    (c.in_default.ensures.keeps refl h (map found_of looks) permitted state used) (c.in_default.ensures.permitted refl h (map found_of looks) permitted state used) in
-    subst (λ (old : GuardView). (h : List PassEntry) → IsPermittedHistory old.table h → IsStateAfter (board_in old.guard) h → WentThrough old h (input_of_found old.table h now bandwidth looks) c.args.told.now new) view whole
+    let told : map told_of chosen ≡ c.args.actions.now = ap (λ (xs : List Action). map told_of xs) items ∙ c.in_ok-read_actions.ensures.actions in
+    let came : IsOpenAt g.table h looks c.take_looks.new.came = c.in_ok-take_looks.ensures.taken h (c.permitted_settled_is_no_news.ensures g.table h permitted) (c.board.ensures.agrees h state) in
+    let all = length-map given.looks.now found_of ∙ c.in_ok-one_for_each.ensures.each.0 ∙ c.threads.ensures.count in
+    let is : IsInput g.table h (input_given g.table h given) = c.open_pass_fits.ensures g.table h given.now given.bandwidth looks c.take_looks.new.came came all in
+    let used : IsOpenAt g.table h looks c.deref.result.now = rw c.deref.ensures came in
+    went_through g h (input_given g.table h given) chosen c.args.actions.now c.pass.new.self told is
+    ((c.in_default.ensures.exact h looks permitted state used).0 refl)
+    (c.in_default.ensures.keeps refl h looks permitted state used) (c.in_default.ensures.permitted refl h looks permitted state used))
 
 pub returns-clause-judged : goal.returns-clause-judged
-returns-clause-judged c =
+returns-clause-judged c = rw (← c.self.view_is) (λ h permitted state.
     let g : GuardView = record { table = c.self.inside.config; guard = c.self.inside.guard } in
-    let view : g ≡ c.args.self.now = c.self.view_is in
-    let looks = c.args.given.looks.now in
-    let now = c.args.given.now in
-    let bandwidth = c.args.given.bandwidth in
-    let whole : (h : List PassEntry) → IsPermittedHistory g.table h → IsStateAfter (board_in g.guard) h → AreJudgements (input_of_found g.table h now bandwidth looks).seen c.tell_looks.new.out = λ h permitted state.
-    let quiet = c.permitted_settled_is_no_news.ensures g.table h permitted in
-    let came : IsOpenAt g.table h (map found_of looks) c.take_looks.new.came = c.in_ok-take_looks.ensures.taken h quiet (c.board.ensures.agrees h state) in
-    told_as_judged g.table h (map found_of looks) c.take_looks.new.came c.tell_looks.new.out came (rw c.deref-2.ensures at c.tell_looks.ensures) in
-    subst (λ (old : GuardView). (h : List PassEntry) → IsPermittedHistory old.table h → IsStateAfter (board_in old.guard) h → AreJudgements (input_of_found old.table h now bandwidth looks).seen c.tell_looks.new.out) view whole
+    let looks = map found_of c.args.given.looks.now in
+    let came : IsOpenAt g.table h looks c.take_looks.new.came = c.in_ok-take_looks.ensures.taken h (c.permitted_settled_is_no_news.ensures g.table h permitted) (c.board.ensures.agrees h state) in
+    told_as_judged g.table h looks c.take_looks.new.came c.tell_looks.new.out came (rw c.deref-2.ensures at c.tell_looks.ensures))
 
 pub returns-in-Err-clause-stopped : goal.returns-in-Err-clause-stopped
-returns-in-Err-clause-stopped c =
+returns-in-Err-clause-stopped c = rw (← c.self.view_is) (λ h permitted state.
     let g : GuardView = record { table = c.self.inside.config; guard = c.self.inside.guard } in
-    let view : g ≡ c.args.self.now = c.self.view_is in
-    let looks = c.args.given.looks.now in
-    let now = c.args.given.now in
-    let bandwidth = c.args.given.bandwidth in
+    let given = c.args.given in
+    let looks = map found_of given.looks.now in
     let chosen : List Action = c.as_slice-chosen.result.now in
     let items : chosen ≡ c.read_actions.new.actions.items = search rules in
-    let told : map told_of chosen ≡ c.args.told.now = ap (λ (xs : List Action). map told_of xs) items ∙ c.in_ok-read_actions.ensures.actions in
-    let whole : (h : List PassEntry) → IsPermittedHistory g.table h → IsStateAfter (board_in g.guard) h → WasStopped g h (input_of_found g.table h now bandwidth looks) c.args.told.now c.in-Err.refused = λ h permitted state.
-    let quiet = c.permitted_settled_is_no_news.ensures g.table h permitted in
-    let came : IsOpenAt g.table h (map found_of looks) c.take_looks.new.came = c.in_ok-take_looks.ensures.taken h quiet (c.board.ensures.agrees h state) in
-    let all = length-map looks found_of ∙ c.requires.count ∙ sym (ap (λ (o : GuardView). threads_of_table o.table) view) in
-    let is : IsInput g.table h (input_of_found g.table h now bandwidth looks) = c.open_pass_fits.ensures g.table h now bandwidth (map found_of looks) c.take_looks.new.came came all in
-    let used : IsOpenAt g.table h (map found_of looks) c.deref.result.now = rw c.deref.ensures came in
-    was_stopped g h (input_of_found g.table h now bandwidth looks) (input_of_found g.table h now bandwidth looks) chosen c.args.told.now c.in-Err.refused told refl is
-    (c.in-Err.ensures.first h (map found_of looks) permitted state used) in
-    subst (λ (old : GuardView). (h : List PassEntry) → IsPermittedHistory old.table h → IsStateAfter (board_in old.guard) h → WasStopped old h (input_of_found old.table h now bandwidth looks) c.args.told.now c.in-Err.refused) view whole
+    let told : map told_of chosen ≡ c.args.actions.now = ap (λ (xs : List Action). map told_of xs) items ∙ c.in_ok-read_actions.ensures.actions in
+    let came : IsOpenAt g.table h looks c.take_looks.new.came = c.in_ok-take_looks.ensures.taken h (c.permitted_settled_is_no_news.ensures g.table h permitted) (c.board.ensures.agrees h state) in
+    let all = length-map given.looks.now found_of ∙ c.in_ok-one_for_each.ensures.each.0 ∙ c.threads.ensures.count in
+    let is : IsInput g.table h (input_given g.table h given) = c.open_pass_fits.ensures g.table h given.now given.bandwidth looks c.take_looks.new.came came all in
+    let used : IsOpenAt g.table h looks c.deref.result.now = rw c.deref.ensures came in
+    was_stopped g h (input_given g.table h given) chosen c.args.actions.now c.in-Err.refused told is (c.in-Err.ensures.first h looks permitted state used))
 
 pub returns-in_err-take_looks-clause-unfit : goal.returns-in_err-take_looks-clause-unfit
-returns-in_err-take_looks-clause-unfit c = λ _.
-    let g : GuardView = record { table = c.self.inside.config; guard = c.self.inside.guard } in
-    let view : g ≡ c.args.self.now = c.self.view_is in
-    let looks = c.args.given.looks.now in
-    let now = c.args.given.now in
-    let bandwidth = c.args.given.bandwidth in
-    let whole : (h : List PassEntry) → IsPermittedHistory g.table h → IsStateAfter (board_in g.guard) h → IsInput g.table h (input_of_found g.table h now bandwidth looks) → ⊥ = λ h permitted state.
-    c.in_err-take_looks.ensures.unfit h now bandwidth (c.board.ensures.agrees h state) in
-    subst (λ (old : GuardView). (h : List PassEntry) → IsPermittedHistory old.table h → IsStateAfter (board_in old.guard) h → IsInput old.table h (input_of_found old.table h now bandwidth looks) → ⊥) view whole
+returns-in_err-take_looks-clause-unfit c = λ _. rw (← c.self.view_is) (λ h permitted state.
+    c.in_err-take_looks.ensures.unfit h c.args.given.now c.args.given.bandwidth (c.board.ensures.agrees h state))
