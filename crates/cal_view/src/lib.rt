@@ -6,14 +6,11 @@
 //! written is only tested.
 #![tactic(auto)]
 
-mod command_words;
 mod edge;
 mod jobs;
 mod program;
 mod refusing;
 
-pub use command_words::command_line::{InputJob, Job, Request, words};
-pub use command_words::move_words::MoveWords;
 pub use jobs::moving::{Unmoved, write_moved};
 pub use jobs::recording::record;
 pub use program::run_program;

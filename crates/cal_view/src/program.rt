@@ -3,9 +3,6 @@
 
 ghost use Rattle.std.specs.Prelude.{◌≡◌, ◌≢◌, IfErr};
 
-use crate::command_words::command_line::{InputJob, Job, Request, help, words};
-use crate::command_words::count_words::CountWords;
-use crate::command_words::gone_words::gone_word;
 use crate::edge::beside::{open_beside, write_beside};
 use crate::edge::failure::Failure;
 use crate::edge::sources::{open_named, read_named};
@@ -28,6 +25,7 @@ use cal_engine::{Noted, refuse_words, words_after_first};
 use cal_input::{INPUT_LIMIT, RunFault, read_input};
 use cal_tables::Labels;
 use cal_why::RefusedInput;
+use cal_words::{CountWords, InputJob, Job, Request, gone_word, help, words};
 use std::alloc::Global;
 use std::io::{BufWriter, Read, Write};
 use std::rt::Files;

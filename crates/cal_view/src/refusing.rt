@@ -2,12 +2,10 @@
 
 ghost use Rattle.std.specs.Prelude.{◌≡◌, IfErr, IfOk};
 
-use crate::command_words::command_line::{InputJob, Job, Request};
-use crate::edge::sources::STANDARD;
-use crate::jobs::telling::Facts;
 use cal_input::{RunFault, status};
 use cal_load::WordFault;
 use cal_why::{RefusedInput, TraceKind, end_explained};
+use cal_words::{Facts, InputJob, Job, Request, STANDARD};
 use std::alloc::Global;
 use std::io::Write;
 

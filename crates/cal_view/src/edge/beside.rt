@@ -1,8 +1,8 @@
 //! A file that an answer goes to: it is written beside its place, and takes it at the end.
 
 use crate::edge::failure::Failure;
-use crate::edge::sources::STANDARD;
 use cal_input::RunFault;
+use cal_words::STANDARD;
 use std::alloc::Global;
 use std::fs::{OpenFile, OpenOptions};
 use std::io::{ErrorKind, Write};

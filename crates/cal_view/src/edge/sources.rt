@@ -3,13 +3,10 @@
 use crate::edge::failure::Failure;
 use cal_engine::Noted;
 use cal_input::{RunFault, read_input};
+use cal_words::STANDARD;
 use std::alloc::Global;
 use std::fs;
 use std::rt::Files;
-
-/// The name of the standard input among files that are read, and of the standard output among those
-/// that are written.
-pub const STANDARD: &str = "-";
 
 /// Where the file of this name is.
 fn path_of(name: &str) -> &str {

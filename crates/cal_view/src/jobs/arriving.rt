@@ -7,7 +7,6 @@ mod unmade;
 
 ghost use Rattle.std.specs.Prelude.{◌≡◌, ◌≢◌, IfErr, IfOk};
 
-use crate::command_words::arrival_words::{ArrivalForm, ArrivalWords};
 use crate::edge::beside::write_beside;
 use crate::jobs::arriving::came_file::came_text;
 use crate::jobs::arriving::of_log::AskedLog;
@@ -22,6 +21,7 @@ use cal_load::{
 use cal_machine::Config;
 use cal_tables::table_part;
 use cal_trace::{Arrivals, write_arrivals};
+use cal_words::{ArrivalForm, ArrivalWords};
 use std::alloc::{AllocError, Global};
 use std::io::{Read, Write};
 use std::rt::Files;

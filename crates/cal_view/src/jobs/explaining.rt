@@ -7,23 +7,9 @@ use cal_input::{RunFault, read_parts};
 use cal_machine::Config;
 use cal_policy::{PassEntry, Policy, Verdict};
 use cal_trace::{FaultKind, read_history};
+use cal_words::Asked;
 use std::alloc::Global;
 use std::io::Write;
-
-/// Which passes are explained, and what of them.
-#[derive(Clone, Copy, Debug, PartialEq, Eq)]
-pub struct Asked {
-    /// The pass, from 0; without it and without a clock the first that is not the policy's.
-    pub pass: Option<usize>,
-    /// The last pass, where there are more than one.
-    pub last: Option<usize>,
-    /// The last pass at or before this clock.
-    pub clock: Option<u64>,
-    /// The task alone.
-    pub task: Option<usize>,
-    /// The core alone.
-    pub core: Option<usize>,
-}
 
 /// Why a pass of an input that was accepted cannot be explained.
 #[derive(Clone, Copy, Debug, PartialEq, Eq)]

@@ -5,7 +5,6 @@ ghost use Rattle.cal_input.specs.declared.fault.RunFault.TheVariants as faults;
 ghost use Rattle.cal_tables.specs.declared.moved.fault.MoveFault.TheVariants as moves;
 ghost use Rattle.cal_view.specs.Moving.{Moves};
 
-use crate::command_words::move_words::MoveWords;
 use crate::edge::beside::write_beside;
 use crate::edge::failure::Failure;
 use crate::edge::sources::read_named;
@@ -17,6 +16,7 @@ use cal_input::{RunFault, read_input};
 use cal_tables::{MoveAsked, MoveFault, moved_input};
 use cal_trace::{TraceFault, write_arrivals};
 use cal_why::{TraceKind, explain_fault};
+use cal_words::MoveWords;
 use std::alloc::Global;
 use std::io::{Read, Write};
 use std::rt::Files;

@@ -2,17 +2,9 @@
 
 use cal_input::{RunFault, read_parts, status};
 use cal_tables::{Labels, letters};
+use cal_words::LabelWords;
 use std::alloc::{AllocError, Global};
 use std::io::Write;
-
-/// What tasks and clock ticks are to be called, as the words give it.
-#[derive(Clone, Copy, Debug, PartialEq, Eq)]
-pub struct LabelWords<'a> {
-    /// The names of the tasks, with commas between.
-    pub names: Option<&'a str>,
-    /// What a clock tick is: one of the units that a log has.
-    pub tick: Option<&'a str>,
-}
 
 /// The most letters that a name has.
 const NAME_MOST: usize = 40;

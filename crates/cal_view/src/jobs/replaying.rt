@@ -1,11 +1,9 @@
 //! A run whose passes are a history's.
 
-use crate::command_words::command_line::InputJob;
 use crate::jobs::counting::end_asked;
-use crate::jobs::explaining::{Asked, explain_passes};
+use crate::jobs::explaining::explain_passes;
 use crate::jobs::input::JobInput;
 use crate::jobs::running::record_replay;
-use crate::jobs::telling::Facts;
 use cal_engine::Front;
 use cal_facts::{
     replayed_history, write_replayed_requests, write_replayed_series, write_replayed_spans,
@@ -15,6 +13,7 @@ use cal_input::RunFault;
 use cal_tables::{NumberForm, NumberStyle, ReplayedFault, measure_replayed};
 use cal_trace::TraceFault;
 use cal_why::place_of_field;
+use cal_words::{Asked, Facts, InputJob};
 use std::io::Write;
 
 /// What is wanted of a file of a history.

@@ -2,8 +2,7 @@
 
 ghost use Rattle.std.specs.Prelude.{◌≡◌, ◌-◌, length};
 
-use crate::command_words::log_words::LogWords;
-use crate::edge::sources::{STANDARD, read_named};
+use crate::edge::sources::read_named;
 use crate::jobs::arriving::Arriving;
 use crate::jobs::arriving::unmade::Unmade;
 use cal_input::RunFault;
@@ -13,6 +12,7 @@ use cal_load::{
 };
 use cal_machine::Config;
 use cal_why::place_of_field;
+use cal_words::{LogWords, STANDARD};
 use std::alloc::{AllocError, Global};
 use std::fmt::Write;
 use std::rt::Files;

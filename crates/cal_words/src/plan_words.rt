@@ -1,7 +1,7 @@
 //! The options of a plan: what makes the runs on arrivals like a machine.
 
-use crate::command_words::command_line::{number_word, value_word};
-use crate::command_words::replay_words::{REPLAY, explained_word, replay_word};
+use crate::command_line::{number_word, value_word};
+use crate::replay_words::{REPLAY, explained_word, replay_word};
 use cal_paced::{Figure, Plan, WHOLE};
 use clap::{Arg, ArgMatches, Command};
 use std::alloc::{AllocError, Global};

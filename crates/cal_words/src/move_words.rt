@@ -1,7 +1,7 @@
 //! The words after `move`.
 
-use crate::command_words::command_line::{input_word, output_word, value_word};
-use crate::command_words::help_texts;
+use crate::command_line::{input_word, output_word, value_word};
+use crate::help_texts;
 use clap::{Arg, ArgMatches, Command};
 use std::alloc::{AllocError, Global};
 

@@ -1,6 +1,7 @@
 //! The words of `arrivals` for a log, and for when requests came.
 
-use crate::command_words::command_line::{names_word, value_word};
+use crate::command_line::value_word;
+use crate::label_words::names_word;
 use cal_load::UNITS;
 use clap::parser::ValueSource;
 use clap::{Arg, ArgMatches, Command};

@@ -1,6 +1,6 @@
 //! The words of when requests came, and of which of them are ranked.
 
-use crate::command_words::command_line::{number_word, value_word};
+use crate::command_line::{number_word, value_word};
 use clap::{Arg, ArgMatches, Command};
 use std::alloc::{AllocError, Global};
 

@@ -1,10 +1,10 @@
 //! The words after `arrivals`.
 
-use crate::command_words::command_line::{
+use crate::command_line::{
     all_words, flag_word, input_word, number_word, output_word, table_word, value_word,
 };
-use crate::command_words::help_texts;
-use crate::command_words::log_words::{LogWords, came_word, log_words, with_log_words};
+use crate::help_texts;
+use crate::log_words::{LogWords, came_word, log_words, with_log_words};
 use cal_load::{LoadWords, MOST_TICKS, Timing};
 use cal_trace::MOST_TURNS;
 use clap::{Arg, ArgAction, ArgMatches, Command};

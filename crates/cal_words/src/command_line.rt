@@ -1,23 +1,25 @@
 //! What the words of a command line ask for.
 
-use crate::command_words::arrival_words::{ArrivalWords, arrival_word, arrival_words};
-use crate::command_words::count_words::{CountWords, count_words, own_came_word, with_count_words};
-use crate::command_words::help_texts;
-use crate::command_words::move_words::{MoveWords, move_word, move_words};
-use crate::command_words::plan_words::{plan_asked, with_explained_words, with_plan_words};
-use crate::command_words::policy_words::{policy_asked, policy_word};
-use crate::command_words::replay_words::REPLAY;
-use crate::edge::sources::STANDARD;
-use crate::jobs::explaining::Asked;
-use crate::jobs::naming::LabelWords;
-use crate::jobs::telling::Facts;
+use crate::arrival_words::{ArrivalWords, arrival_word, arrival_words};
+use crate::asked_passes::Asked;
+use crate::count_words::{CountWords, count_words, own_came_word, with_count_words};
+use crate::facts::Facts;
+use crate::help_texts;
+use crate::label_words::{LabelWords, label_words, names_word, tick_word};
+use crate::move_words::{MoveWords, move_word, move_words};
+use crate::plan_words::{plan_asked, with_explained_words, with_plan_words};
+use crate::policy_words::{policy_asked, policy_word};
+use crate::replay_words::REPLAY;
 use cal_engine::{Front, VERSION};
-use cal_load::UNITS;
 use cal_paced::Plan;
 use cal_policy::Policy;
 use cal_tables::NumberForm;
 use clap::{Arg, ArgAction, ArgMatches, Command, Error};
 use std::alloc::{AllocError, Global};
+
+/// The name of the standard input among files that are read, and of the standard output among those
+/// that are written.
+pub const STANDARD: &str = "-";
 
 /// What the program is to do.
 #[derive(Debug, Drop)]
@@ -247,20 +249,6 @@ pub fn flag_word<'a>(alloc: Global, name: &'a str, help: &'a str) -> Arg<'a> {
         .help(help)
 }
 
-/// The names of the tasks.
-pub fn names_word<'a>(alloc: Global) -> Arg<'a> {
-    let help = "The names of the tasks, in order";
-    value_word(alloc, "names", "NAME,..", help)
-}
-
-/// What a clock tick is.
-pub fn tick_word<'a>(alloc: Global) -> Arg<'a> {
-    let help = "The unit of a tick: ns, us, ms or s";
-    value_word(alloc, "tick", "UNIT", help)
-        .value_parser(UNITS.as_slice())
-        .hide_possible_values(true)
-}
-
 /// The file of the input.
 pub fn input_word<'a>(alloc: Global) -> Arg<'a> {
     Arg::new(alloc, "input")
@@ -297,10 +285,7 @@ fn request_of<'a>(alloc: Global, matches: &ArgMatches<'a>) -> Result<Request<'a>
         plan: plan_asked(own),
         replay: own.get_str(REPLAY),
         counting: count_words(name, own),
-        labels: LabelWords {
-            names: own.get_str("names"),
-            tick: own.get_str("tick"),
-        },
+        labels: label_words(own),
         input: file_named(own.get_str("input")),
         output: file_named(own.get_str("output")),
     })
@@ -326,10 +311,7 @@ impl<'a> Request<'a> {
             plan: None,
             replay: None,
             counting: CountWords::NONE,
-            labels: LabelWords {
-                names: None,
-                tick: None,
-            },
+            labels: LabelWords::NONE,
             input: None,
             output: None,
         }

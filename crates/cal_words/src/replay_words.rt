@@ -1,6 +1,6 @@
 //! The option `--replay`: the history whose passes a run is to have.
 
-use crate::command_words::command_line::value_word;
+use crate::command_line::value_word;
 use clap::Arg;
 use std::alloc::{AllocError, Global};
 

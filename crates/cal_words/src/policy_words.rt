@@ -1,6 +1,6 @@
 //! The option `--policy`: by which policy runs are made, decided and audited.
 
-use crate::command_words::command_line::value_word;
+use crate::command_line::value_word;
 use cal_policy::Policy;
 use clap::{Arg, ArgMatches};
 use std::alloc::Global;
