@@ -1,5 +1,4 @@
 mod Common
 pub mod PassClocks
-pub mod Moving
 pub mod Verdicts
 pub mod Planning

@@ -2,13 +2,7 @@ pub mod Measured
 pub mod Planned
 pub mod Recording
 pub mod Asked
-pub mod Moved
-pub mod Placing
-pub mod Moving
-pub mod Laws
-pub mod Joining
 pub mod Rows
 pub mod Asking
-pub mod Crowding
 pub mod Measuring
 pub mod Replayed

@@ -9,7 +9,7 @@ use crate::core_rows::{
     CORE_LINES, CoreLine, MACHINE_LINES, MachineLine, core_figure, core_label, core_unit,
     is_of_passes, machine_figure, machine_label, machine_unit,
 };
-use crate::crowding::{CROWD_LINES, CrowdLine, crowd_figure, crowd_label, crowded_of};
+use crate::crowd_rows::{CROWD_LINES, CrowdLine, crowd_figure, crowd_label};
 use crate::figures::{Figure, Rank, Unit, count, rank_name, ranked_figure, share};
 use crate::labels::Labels;
 use crate::measuring::RunNumbers;
@@ -18,6 +18,7 @@ use crate::sheet::{NumberForm, Sheet};
 use crate::style::NumberStyle;
 use cal_machine::{Config, Kind};
 use cal_measure::{MachineCores, TaskCores, TaskRequests, Time};
+use cal_moved::crowded_of;
 use cal_trace::Comings;
 use std::alloc::{AllocError, Global};
 

@@ -2,10 +2,10 @@
 use Rattle.std.proofs.Common.{◌≡◌, sym, subst}
 use Rattle.cal_input.specs.declared.fault.RunFault.{RunFault}
 use Rattle.cal_input.specs.declared.fault.RunFault.TheVariants as faults
-use Rattle.cal_tables.specs.Moving.{IsMoveFault}
-use Rattle.cal_tables.specs.declared.moved.MoveAsked.{MoveAsked}
-use Rattle.cal_tables.specs.declared.moved.fault.MoveFault.{MoveFault}
-use Rattle.cal_tables.specs.declared.moved.fault.MoveFault.TheVariants as moves
+use Rattle.cal_moved.specs.Moving.{IsMoveFault}
+use Rattle.cal_moved.specs.declared.moved.MoveAsked.{MoveAsked}
+use Rattle.cal_moved.specs.declared.fault.MoveFault.{MoveFault}
+use Rattle.cal_moved.specs.declared.fault.MoveFault.TheVariants as moves
 use Rattle.cal_view.specs.Moving.{IsUnmovedFor}
 
 -- the fault of a move is none of the writer

@@ -2,11 +2,11 @@
 use Rattle.std.specs.Prelude.{ℕ, List, Option, Result, Ok, Err}
 use Rattle.std.specs.Io.KnownBytes.{Appends}
 use Rattle.cal_input.specs.declared.fault.RunFault.TheVariants.{Write}
-use Rattle.cal_tables.specs.Moving.{IsMovedOf, IsMoveFault}
-use Rattle.cal_tables.specs.declared.moved.MoveAsked.{MoveAsked}
-use Rattle.cal_tables.specs.declared.moved.MovedInput.{MovedInput}
-use Rattle.cal_tables.specs.declared.moved.fault.MoveFault.{MoveFault}
-use Rattle.cal_tables.specs.declared.moved.fault.MoveFault.TheVariants as moves
+use Rattle.cal_moved.specs.Moving.{IsMovedOf, IsMoveFault}
+use Rattle.cal_moved.specs.declared.moved.MoveAsked.{MoveAsked}
+use Rattle.cal_moved.specs.declared.moved.MovedInput.{MovedInput}
+use Rattle.cal_moved.specs.declared.fault.MoveFault.{MoveFault}
+use Rattle.cal_moved.specs.declared.fault.MoveFault.TheVariants as moves
 use Rattle.cal_trace.specs.Arrivals.Text.{arrivals_text}
 use Rattle.cal_view.specs.declared.jobs.moving.Unmoved.{Unmoved}
 use Rattle.cal_view.specs.declared.jobs.moving.Unmoved.TheVariants.{Fault, File}

@@ -2,8 +2,8 @@
 //! is, passes explained, histories and arrivals made, arrivals moved to another table, and the facts
 //! and the numbers of runs.
 //!
-//! Facts are those of `cal_facts`, numbers and moved arrivals those of `cal_tables`. How numbers are
-//! written is only tested.
+//! Facts are those of `cal_facts`, numbers those of `cal_tables`, moved arrivals those of `cal_moved`,
+//! words those of `cal_words`. How numbers are written is only tested.
 #![tactic(auto)]
 
 mod edge;

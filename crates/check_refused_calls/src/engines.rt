@@ -5,11 +5,9 @@ use crate::table_and_trace::TableAndTrace;
 use crate::texts::write_legal;
 use cal_came::CountAsked;
 use cal_engine::{RunAnswer, decide, run_audit, run_lockstep, run_sim};
+use cal_moved::{MoveAsked, moved_input};
 use cal_policy::Policy;
-use cal_tables::{
-    Labels, MeasuredInput, MoveAsked, NumberForm, NumberStyle, measure, measure_replayed,
-    moved_input,
-};
+use cal_tables::{Labels, MeasuredInput, NumberForm, NumberStyle, measure, measure_replayed};
 use cal_trace::{read_history, write_arrivals, write_comings};
 use std::alloc::Global;
 use std::io::Write;

@@ -19,7 +19,7 @@ use cal_load::{
     word_at,
 };
 use cal_machine::Config;
-use cal_tables::table_part;
+use cal_moved::table_part;
 use cal_trace::{Arrivals, write_arrivals};
 use cal_words::{ArrivalForm, ArrivalWords};
 use std::alloc::{AllocError, Global};

@@ -2,7 +2,7 @@
 
 ghost use Rattle.std.specs.Prelude.{◌≡◌, ◌≢◌, IfErr, IfOk};
 ghost use Rattle.cal_input.specs.declared.fault.RunFault.TheVariants as faults;
-ghost use Rattle.cal_tables.specs.declared.moved.fault.MoveFault.TheVariants as moves;
+ghost use Rattle.cal_moved.specs.declared.fault.MoveFault.TheVariants as moves;
 ghost use Rattle.cal_view.specs.Moving.{Moves};
 
 use crate::edge::beside::write_beside;
@@ -13,7 +13,7 @@ use crate::jobs::counting::{CameText, refuse_counting};
 use crate::refusing::{end_refusal, refused_with, table_alone};
 use cal_came::{CameFile, CountFault};
 use cal_input::{RunFault, read_input};
-use cal_tables::{MoveAsked, MoveFault, moved_input};
+use cal_moved::{MoveAsked, MoveFault, moved_input};
 use cal_trace::{TraceFault, write_arrivals};
 use cal_why::{TraceKind, explain_fault};
 use cal_words::MoveWords;
@@ -42,7 +42,7 @@ pub enum Unmoved<'a> {
 }
 
 impl<'a> From<RunFault> for Unmoved<'a> {
-    ghost use Rattle.cal_tables.specs.declared.moved.fault.MoveFault.TheVariants as moves;
+    ghost use Rattle.cal_moved.specs.declared.fault.MoveFault.TheVariants as moves;
     ghost use Rattle.cal_view.specs.declared.jobs.moving.Unmoved.TheVariants.{Fault};
 
     ghost from_gives = { λ fault e. e ≡ Fault (moves.Run fault) };

@@ -1,5 +1,0 @@
-use Rattle.cal_tables.proofs.Moving.Same.{moves_nothing}
-use Rattle.cal_tables.proofs.laws.same_limits_move_nothing.Goals as goal
-
-pub returns : goal.returns
-returns c = moves_nothing

@@ -1,5 +1,0 @@
-use Rattle.cal_tables.proofs.Common.{◌≡◌, rows_below}
-use Rattle.cal_tables.proofs.moved.comings.left_out_rows.Given as goal
-
-abbrev pub invariant-loop-task : goal.invariant-loop-task
-invariant-loop-task l = l.rows.items ≡ rows_below l.table l.before l.placed l.task

@@ -1,5 +1,0 @@
-use Rattle.cal_tables.proofs.Common.{◌≡◌, take, standing}
-use Rattle.cal_tables.proofs.moved.placing.standing.Given as goal
-
-abbrev pub invariant-loop-one : goal.invariant-loop-one
-invariant-loop-one l = l.requests.items ≡ standing (take l.one-index l.placed)
