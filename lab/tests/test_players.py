@@ -10,6 +10,7 @@ from typing import Iterator, Optional
 
 import pytest
 from conftest import TABLE, TOP, Run
+from longest_wait import LongestWait
 from stand_in import stand_in
 
 import caladan
@@ -21,20 +22,6 @@ LONGEST = f"exec:{TOP}/examples/policies/longest_wait.py"
 SWEEP = ["sweep", "--load", "0.5", "--task", "0", "--turns", "9", "--patience", "120"]
 COMPARED = f"{TABLE}---\ncaladan-arrivals,1\n" + "".join(f"pass,{10 * n},0\n" for n in range(1, 6)) + "".join(
     f"turn,{10 * n + 5}\n" for n in range(1, 6)) + "request,0,0,1,1,0\nrequest,2,1,2,2,0\nend,12\n"
-
-
-class LongestWait(Policy):
-    """As the page has it."""
-
-    def decide(self, machine: Machine) -> Iterator[Action]:
-        for core in machine.cores:
-            if core.thread and core.thread.left:
-                yield core.free()
-        for thread in sorted(machine.waiting, key=lambda t: (t.task.kind != "lc", -t.delay)):
-            if (core_for := machine.open_core(near=thread)):
-                yield core_for.grant(thread)
-            elif thread.task.kind == "lc" and (oldest := machine.oldest_grant("be")):
-                yield oldest.revoke(for_task=thread.task)
 
 
 class Nobody(Policy):

@@ -11,6 +11,7 @@ import pytest
 from conftest import TOP
 from hypothesis import given, settings
 from hypothesis import strategies as some
+from longest_wait import LongestWait
 
 from caladan.arrivals import arrivals_of
 from caladan.plans import Plan, plan_words
@@ -25,20 +26,6 @@ from caladan.world.plans import plan_of
 sys.path.insert(0, str(TOP / "tools"))
 from caladan_tools import made_worlds  # noqa: E402
 from caladan_tools.replay_counts import Replayed  # noqa: E402
-
-
-class LongestWait(Policy):
-    """As the page has it."""
-
-    def decide(self, machine: Machine) -> Iterator[Action]:
-        for core in machine.cores:
-            if core.thread and core.thread.left:
-                yield core.free()
-        for thread in sorted(machine.waiting, key=lambda t: (t.task.kind != "lc", -t.delay)):
-            if (core_for := machine.open_core(near=thread)):
-                yield core_for.grant(thread)
-            elif thread.task.kind == "lc" and (oldest := machine.oldest_grant("be")):
-                yield oldest.revoke(for_task=thread.task)
 
 
 class Anything(Policy):
