@@ -1,5 +1,5 @@
 """A program in the place of caladan_view that plays histories again: a second count judges them
-(tools/caladan_tools/replay_counts.py), and of what it tells only the requests served are counted, all else is fixed. So
+(tools/models/replay_counts.py), and of what it tells only the requests served are counted, all else is fixed. So
 a number of a replay that stands in an answer is seen to be that of the replay."""
 from __future__ import annotations
 
@@ -18,7 +18,7 @@ words = sys.argv[1:]
 
 
 def replayed(given):
-    from caladan_tools.replay_counts import Replayed
+    from models.replay_counts import Replayed
     table, _, arrivals = given.partition("---\\n")
     name = words[words.index("--replay") + 1]
     with open(name) as it:

@@ -33,7 +33,7 @@ from caladan.words.asked import LAB
 from caladan.words.parsing import read_words
 
 sys.path.insert(0, str(TOP / "tools"))
-from caladan_tools import random_arrivals  # noqa: E402
+from models import random_arrivals  # noqa: E402
 
 MACHINE = machine_of(TABLE.encode())
 

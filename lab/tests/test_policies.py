@@ -25,7 +25,7 @@ from caladan.world.plans import plan_of
 
 sys.path.insert(0, str(TOP / "tools"))
 from caladan_tools import made_worlds  # noqa: E402
-from caladan_tools.replay_counts import Replayed  # noqa: E402
+from models.replay_counts import Replayed  # noqa: E402
 
 
 class Anything(Policy):

@@ -22,7 +22,8 @@ from caladan.world.plans import RunPlan
 from caladan.world.records import ZERO, Record
 
 sys.path.insert(0, str(TOP / "tools"))
-from caladan_tools.programs import script as script_of  # noqa: E402
+from models.made_histories import made_run, signals  # noqa: E402
+from models.policies import report_text  # noqa: E402
 
 MACHINE = machine_of(TABLE.encode())
 NUMBERS = some.integers(0, 127)
@@ -139,6 +140,5 @@ def test_the_assured_policy_decides_as_in_its_worked_examples(folder: Path) -> N
 @pytest.mark.parametrize("seed", [*range(10), 13, 116])
 def test_the_assured_policy_decides_on_made_signals_as_a_model_does(seed: int) -> None:
     """Of threads that do what they like, which no run has."""
-    runs = script_of("assured_runs")
-    text, table, history, _ = runs.made_run(seed, "assured")
-    has_decided(text, runs.signals(history), runs.M.report_text(table, history))
+    text, table, history, _ = made_run(seed, "assured")
+    has_decided(text, signals(history), report_text(table, history))

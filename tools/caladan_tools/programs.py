@@ -6,8 +6,6 @@ asks the caladan_view of the script. A word NAME=FILE on its command line names 
 caladan_sim=/tmp/caladan_sim."""
 import collections
 import functools
-import importlib.machinery
-import importlib.util
 import os
 import re
 import subprocess
@@ -55,15 +53,6 @@ def proved(name):
     if not any(it.startswith(f"{name}=") for it in sys.argv[1:]):
         subprocess.run([f"{TOP}/tools/prove", name], stdout=sys.stderr, check=True)
     return named(name)[0]
-
-
-@functools.cache
-def script(name):
-    """A script of tools/ as a module."""
-    loader = importlib.machinery.SourceFileLoader(name, f"{TOP}/tools/{name}")
-    module = importlib.util.module_from_spec(importlib.util.spec_from_loader(name, loader))
-    loader.exec_module(module)
-    return module
 
 
 def run(program, words, given=b"", **how):

@@ -1,11 +1,10 @@
 """A history played again by a second count: whether each of its passes is what the threads of its run publish and the
 guard permits (docs/POLICY.md, "Writing a policy of your own"), and if not, the first thing that is wrong, in the words
-of `caladan_view run --replay`. The threads are those of tools/paced_model; what all actions so far say is carried by
-caladan_tools/carried_runs.py. It shares no code with the programs, nor with caladan.world."""
-from .carried_runs import M, Carried
-from .programs import script
+of `caladan_view run --replay`. The threads are those of paced_runs.py; what all actions so far say is carried by
+carried_runs.py. It shares no code with the programs, nor with caladan.world."""
+from . import paced_runs as PACED, policies as M
+from .carried_runs import Carried
 
-PACED = script("paced_model")
 WORDS = ("number", *M.Record._fields)
 MOST_ACTIONS = 338
 

@@ -5,7 +5,8 @@ import io
 import random
 from fractions import Fraction
 
-from .made_arrivals import numbers
+from caladan_tools.made_arrivals import numbers
+
 from .random_arrivals import seeded
 
 # How many seconds a unit has.

@@ -4,8 +4,9 @@ plainest form."""
 import collections
 import re
 
+from caladan_tools.made_arrivals import numbers, owners
+
 from .core_counts import passes_of
-from .made_arrivals import numbers, owners
 
 SPANS = ("core,thread,task,class,state,cause,by core,for task,started [ticks],from pass,to pass,from clock [ticks],"
          "to clock [ticks]")

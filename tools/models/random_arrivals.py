@@ -3,7 +3,7 @@ generator is xoshiro256++ as the crate rand_xoshiro has it, seeded by SplitMix64
 shares no code with the programs."""
 import argparse
 
-from .made_arrivals import numbers
+from caladan_tools.made_arrivals import numbers
 
 WORD = 2**64 - 1
 # What a jump by 2^128 numbers adds up, in bits.

@@ -6,8 +6,9 @@ import itertools
 import math
 from fractions import Fraction
 
+from caladan_tools.made_arrivals import numbers
+
 from .logged_arrivals import UNITS
-from .made_arrivals import numbers
 from .random_arrivals import seeded
 
 # The generator of blocks is that of the task after all that a table may have, and the work of what does not end.

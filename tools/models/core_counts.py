@@ -2,7 +2,7 @@
 docs/FORMATS.md tells of them. It shares no code with the programs, and has each rule in its plainest form."""
 from fractions import Fraction
 
-from .made_arrivals import numbers, owners
+from caladan_tools.made_arrivals import numbers, owners
 
 CLASSES = ["sibling", "recently used", "other idle"]
 CAUSES = ["ban", "bandwidth", "task"]

@@ -1,8 +1,6 @@
-"""The policies of tools/assured_model for long runs: what all actions so far say of a core, a task or a thread is
+"""The policies of policies.py for long runs: what all actions so far say of a core, a task or a thread is
 carried from action to action, and not looked up in them. It shares no code with the programs."""
-from .programs import script
-
-M = script("assured_model")
+from . import policies as M
 
 
 class Carried(M.Place):
