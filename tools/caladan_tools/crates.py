@@ -9,8 +9,22 @@ TOP = os.path.dirname(os.path.dirname(os.path.dirname(os.path.abspath(__file__))
 
 
 def text_of(file):
-    with open(file, encoding="utf-8", errors="replace") as it:
+    """The text of a file of the repository, or of one by its whole path."""
+    with open(os.path.join(TOP, file), encoding="utf-8", errors="replace") as it:
         return it.read()
+
+
+def bytes_of(file):
+    """The same as bytes."""
+    with open(os.path.join(TOP, file), "rb") as it:
+        return it.read()
+
+
+def tracked():
+    """The files of the repository, with those that are new and not ignored."""
+    words = ["git", "ls-files", "-co", "--exclude-standard"]
+    listed = subprocess.run(words, cwd=TOP, capture_output=True, text=True, check=True).stdout
+    return sorted(it for it in listed.split("\n") if os.path.isfile(f"{TOP}/{it}"))
 
 
 def crates():

@@ -10,6 +10,7 @@ import re
 import tempfile
 from fractions import Fraction
 
+from caladan_tools.crates import text_of
 from caladan_tools.made_arrivals import numbers, owners
 from caladan_tools.programs import LAB, run
 
@@ -374,8 +375,3 @@ def compared(view, given, words):
     text = io.StringIO()
     csv.writer(text, lineterminator="\n").writerows(rows)
     return text.getvalue(), "", inputs
-
-
-def text_of(file):
-    with open(file, encoding="utf-8") as it:
-        return it.read()
