@@ -1,6 +1,6 @@
 """The wrong bodies of the repository: what each edit says of itself, and whether the prover refused it there.
 
-An edit is a file crates/CRATE/witnesses/NAME.edit, which tools/witnesses tries, or, in three small crates,
+An edit is a file crates/CRATE/witnesses/NAME.edit, which tools/witnesses tries, or, in two small crates,
 crates/CRATE/must-fail/NAME.edit, which `rt ci` tries by itself, each by a check of the whole crate:
 
     # mistake: the mistake that the body makes
